@@ -9,7 +9,7 @@ use Rattle.alp_files.specs.declared.call.Call.{Call}
 use Rattle.alp_files.specs.declared.refusal.Cause.{Cause}
 use Rattle.alp_files.specs.declared.refusal.Cause.TheVariants as cause
 use Rattle.alp_files.specs.declared.reply.Reply.{Reply}
-use Rattle.alp_journal.specs.Alone.{IsPaired}
+use Rattle.alp_journal.specs.Account.{IsPaired}
 use Rattle.alp_journal.specs.Along.{state_after}
 use Rattle.alp_journal.specs.Coordinator.{Fate, Undrawn, Running, Finishing, Committed, Forgotten, Ended, registered, finishing, heard, decided, ended, acknowledged, forgotten, restarted, has_all, fate_after, is_running, client_of}
 use Rattle.alp_journal.specs.Deeds.{Deed, Begins, Registers, Finishes, Hears, Decides, Ends, Acknowledges, Forgets, Restarts, Quits}

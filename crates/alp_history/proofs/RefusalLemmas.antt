@@ -27,7 +27,7 @@ use Rattle.alp_journal.specs.Desk.{file_trans, is_not_yet}
 use Rattle.alp_journal.specs.State.{State, state_deed, has_part}
 use Rattle.alp_journal.specs.Moves.{is_new, joins_here, call_deeds, event_deeds, asks_for, grants_to, act_deeds, answered, is_of_no_file, done_by, done_of, done_deeds, next_join, principal, stops, tried, told, halted, next}
 use Rattle.alp_journal.specs.Laws.{IsLawfulDeed, IsLawfulEntry, drawn_by, released_by, regained_by, DecidesAt}
-use Rattle.alp_journal.specs.Alone.{IsOwnEvent}
+use Rattle.alp_journal.specs.Account.{IsOwnEvent}
 use Rattle.alp_journal.specs.Refused.{LivesOn, IsAsBefore, is_finish}
 use Rattle.alp_journal.proofs.IdLemmas.{same_trans-true, all-append}
 use Rattle.alp_journal.proofs.Origins.{all-cond}

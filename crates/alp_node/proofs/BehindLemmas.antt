@@ -10,7 +10,7 @@ use Rattle.alp_calls.specs.Looks.{IsLeft}
 use Rattle.alp_files.specs.declared.reply.Reply.{Reply}
 use Rattle.alp_journal.specs.declared.event.Event.{Event}
 use Rattle.alp_journal.specs.declared.event.Event.TheVariants as event
-use Rattle.alp_journal.specs.Alone.{Alone, alone}
+use Rattle.alp_journal.specs.Account.{Account, state_of}
 use Rattle.alp_node.specs.Durable.{said_by, Leaves, Besides, NoOther}
 use Rattle.alp_node.specs.ServerState.{IsAs, IsReady}
 use Rattle.alp_node.specs.Steps.{Stepped, IsGiven, IsSeated, IsStill, IsStep, entry_of}
@@ -33,7 +33,7 @@ module _ {V : Type 0} (G : Ghosts V) (k new : ServerState V) (v : V) (left : IsL
   told_then : IsTrue (G.tells k.vault) → IsTrue (G.tells v)
   told_then told = subst IsTrue (sym left.same.telling) told
 
-  as_then : (a : Alone) → IsAs a (G.held k.vault) k → IsAs a (G.held v) mid
+  as_then : (a : Account) → IsAs a (G.held k.vault) k → IsAs a (G.held v) mid
   as_then a h = as_with a (G.held k.vault) (G.held v) k v left.contents h
 
   ready_then : (n : ℕ) → IsReady n (G.serves k.vault) k → IsReady n (G.serves v) mid
@@ -82,7 +82,7 @@ module _ {V : Type 0} (G : Ghosts V) (k new : ServerState V) (v : V) (left : IsL
     still = tt;
     seat = seat_behind s.seat;
     turned = λ now. (let t : HasTurned (Some order.Next) mid new e x.kept = s.turned now in record { later = t.later; times = t.times; sessions = turned_behind e x.kept t.sessions; pages = t.pages });
-    leaves = λ told a h. leaves_behind (λ c. c ≡ said_by (alone a) (entry_of e x)) (s.leaves (told_then told) a (as_then a h));
+    leaves = λ told a h. leaves_behind (λ c. c ≡ said_by (state_of a) (entry_of e x)) (s.leaves (told_then told) a (as_then a h));
   }
   step_behind e (Err f) s = record {
     stepped = λ told a h. tt;

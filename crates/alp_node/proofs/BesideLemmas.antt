@@ -17,7 +17,7 @@ use Rattle.alp_locks.specs.Tables.{Holders, held_of}
 use Rattle.alp_locks.specs.Asks.{waiter_of}
 use Rattle.alp_locks.proofs.SoundLemmas.{each-more, each-both}
 use Rattle.alp_journal.specs.Ids.{same_trans}
-use Rattle.alp_journal.specs.Alone.{Alone, alone}
+use Rattle.alp_journal.specs.Account.{Account, state_of}
 use Rattle.alp_journal.specs.Holder.{Holder, Life}
 use Rattle.alp_journal.specs.Desk.{Waiting, file_trans, part_trans, is_of, is_of_part, waiting_of, waiting_at}
 use Rattle.alp_journal.specs.Counts.{Locked, request_in, with_resources}
@@ -111,15 +111,15 @@ none_told client t (w ∷ ws) named away =
     no true e = e
     no false e = refl
 
-pub idle_told : (a : Alone) (client : ℕ) (t : TransId) (ws : List WaitingCall) → a.waits ≡ waiting_calls ws → AreNamed ws → AreOthers t ws → waiting_of (alone a).desk client t ≡ None
+pub idle_told : (a : Account) (client : ℕ) (t : TransId) (ws : List WaitingCall) → a.waits ≡ waiting_calls ws → AreNamed ws → AreOthers t ws → waiting_of (state_of a).desk client t ≡ None
 idle_told a client t ws is named away = ap (find (is_of_part client t)) is ∙ none_told client t ws named away
 
 -- who has one has it there
-pub record IsBusy (a : Alone) (client : ℕ) (t : TransId) : Type 0 where
+pub record IsBusy (a : Account) (client : ℕ) (t : TransId) : Type 0 where
   pub call : Waiting
-  pub waits : waiting_of (alone a).desk client t ≡ Some call
+  pub waits : waiting_of (state_of a).desk client t ≡ Some call
 
-pub busy_told : (a : Alone) (client : ℕ) (t : TransId) (ws : List WaitingCall) → a.waits ≡ waiting_calls ws → AreNamed ws → has_waiting client t ws ≡ true → IsBusy a client t
+pub busy_told : (a : Account) (client : ℕ) (t : TransId) (ws : List WaitingCall) → a.waits ≡ waiting_calls ws → AreNamed ws → has_waiting client t ws ≡ true → IsBusy a client t
 busy_told a client t ws is named has = let found = some_told ws named has in record { call = found.0; waits = ap (find (is_of_part client t)) is ∙ found.1 }
   where
     some_told : (vs : List WaitingCall) → AreNamed vs → has_waiting client t vs ≡ true → (v : Waiting) × (find (is_of_part client t) (waiting_calls vs) ≡ Some v)
@@ -141,7 +141,7 @@ find_told p (w ∷ ws) = go (p (waiting w)) (find_told p ws)
     go true e = refl
     go false e = e
 
-pub at_told : (a : Alone) (client number : ℕ) (ws : List WaitingCall) → a.waits ≡ waiting_calls ws → waiting_at (alone a).desk client number ≡ option_map waiting (call_at client number ws)
+pub at_told : (a : Account) (client number : ℕ) (ws : List WaitingCall) → a.waits ≡ waiting_calls ws → waiting_at (state_of a).desk client number ≡ option_map waiting (call_at client number ws)
 at_told a client number ws is = ap (find (λ (w : Waiting). w.client == client && w.number == number)) is ∙ find_told (λ (w : Waiting). w.client == client && w.number == number) ws
 
 -- calls that stay

@@ -37,10 +37,10 @@ use Rattle.alp_journal.specs.Holder.{Life}
 use Rattle.alp_journal.specs.Laws.{IsFree}
 use Rattle.alp_journal.specs.Answers.{choice_of, shape_refusal, lock_refusal}
 use Rattle.alp_journal.specs.Answered.{IsWaitingFor}
-use Rattle.alp_journal.specs.Alone.{Alone, alone, Leads}
-use Rattle.alp_journal.proofs.AloneEntries.{counted_as}
-use Rattle.alp_journal.proofs.AloneLemmas.{call_entry}
-use Rattle.alp_journal.proofs.AloneWaits.{waits_leads, with_wait, busy_leads, busy_finish_leads}
+use Rattle.alp_journal.specs.Account.{Account, state_of, Leads}
+use Rattle.alp_journal.proofs.RefusedCalls.{counted_as}
+use Rattle.alp_journal.proofs.CallLemmas.{call_entry}
+use Rattle.alp_journal.proofs.WaitingCalls.{waits_leads, with_wait, busy_leads, busy_finish_leads}
 use Rattle.alp_turns.specs.Queues.{AreHeldAlike, request_if, request_for, request_at, queue_of}
 use Rattle.alp_turns.proofs.RequestLemmas.{request, free_there}
 use Rattle.alp_turns.proofs.MoveLemmas.{queue_with}
@@ -69,7 +69,7 @@ use Rattle.alp_node.proofs.WaitLemmas.{named_all, asks_none, idle_in, pushed_eac
 use Rattle.alp_node.proofs.WithinLemmas.{MayLock}
 
 -- the parts of the journal hold what the table says
-held_alike : {V : Type 0} (a : Alone) (held : Contents) (k : ServerState V) → IsAs a held k → AreHeldAlike a.holder k.locks.held
+held_alike : {V : Type 0} (a : Account) (held : Contents) (k : ServerState V) → IsAs a held k → AreHeldAlike a.holder k.locks.held
 held_alike a held k h = record {
   live = λ t l is r. held_elsewhere a.holder.cells k.locks.held (a.locked t) t (map.get k.lives t) l (subst (λ (y : Option Life). IsAlike a.holder.cells k.locks.held (a.locked t) t (map.get k.lives t) y) is (h.lives t)) r;
   none = λ t is r. nothing t (map.get k.lives t) (subst (λ (y : Option Life). IsAlike a.holder.cells k.locks.held (a.locked t) t (map.get k.lives t) y) is (h.lives t)) r;
@@ -81,8 +81,8 @@ held_alike a held k h = record {
 
 -- ---- another call of the part waits
 
-module _ {V : Type 0} (a : Alone) (before now : ℕ) (held : Contents) (k : ServerState V) (turn : Turn) (t : TransId) (l : Live) (v : Waiting) (x : Handed) (h : IsAs a held k) (is : IsTurn k.sessions turn) (up : k.is_down ≡ false) (there : map.get k.lives t ≡ Some l) (own : l.client ≡ turn.client)
-    (busy : waiting_of (alone a).desk turn.client t ≡ Some v) (so : x ≡ refused_answer refusal.NotYet []) where
+module _ {V : Type 0} (a : Account) (before now : ℕ) (held : Contents) (k : ServerState V) (turn : Turn) (t : TransId) (l : Live) (v : Waiting) (x : Handed) (h : IsAs a held k) (is : IsTurn k.sessions turn) (up : k.is_down ≡ false) (there : map.get k.lives t ≡ Some l) (own : l.client ≡ turn.client)
+    (busy : waiting_of (state_of a).desk turn.client t ≡ Some v) (so : x ≡ refused_answer refusal.NotYet []) where
   abbrev kept_back : ServerState V
   kept_back = record k { sessions = counted_in k.sessions turn (reply.Refused refusal.NotYet) }
 
@@ -195,7 +195,7 @@ module _ {V : Type 0} (k : ServerState V) (turn : Turn) (t : TransId) (l : Live)
 
   -- ---- as the journal tells it
 
-  module _ (a : Alone) (before now : ℕ) (held : Contents) (m : ℕ) (on : Bool) (ready : IsReady m on k) (h : IsAs a held k) (is : IsTurn k.sessions turn) (up : k.is_down ≡ false) (there : map.get k.lives t ≡ Some l) (own : l.client ≡ turn.client) (away : AreOthers t k.waits)
+  module _ (a : Account) (before now : ℕ) (held : Contents) (m : ℕ) (on : Bool) (ready : IsReady m on k) (h : IsAs a held k) (is : IsTurn k.sessions turn) (up : k.is_down ≡ false) (there : map.get k.lives t ≡ Some l) (own : l.client ≡ turn.client) (away : AreOthers t k.waits)
       (served : IsServedCall c) (named : file_trans c ≡ Some t) (told : ns ≡ asks_of (holding k.locks.held t) (seen held.cells l.part) (own_of l.part) c)
       (shape : shape_of k.server k.epoch k.given (length l.part.opens.items) c ≡ None) (few : too_locked k.sizes.area l.part.counts.cells counts.made ≡ None) (chooses : may_wait c ≡ true) (holder : TransId) (blocked : blocker k.locks.held t plan.rises ≡ Some holder) where
     abbrev w : Session
@@ -223,10 +223,10 @@ module _ {V : Type 0} (k : ServerState V) (turn : Turn) (t : TransId) (l : Live)
         go (inl some) = chosen c true some.0 some.1 chooses
         go (inr none) = absurd (no_need none)
 
-    passed : option_or (shape_refusal (alone a) life c) (lock_refusal (alone a) t life c) ≡ None
+    passed : option_or (shape_refusal (state_of a) life c) (lock_refusal (state_of a) t life c) ≡ None
     passed = not_refused a held k t l c ns life h up alike served told (go (shape_cases a held k h ready.raised t l life alike c served shape)) few
       where
-        go : (shape_refusal (alone a) life c ≡ None) ⊎ IsShut a held k h ready.raised t l life alike c → shape_refusal (alone a) life c ≡ None
+        go : (shape_refusal (state_of a) life c ≡ None) ⊎ IsShut a held k h ready.raised t l life alike c → shape_refusal (state_of a) life c ≡ None
         go (inl passes) = passes
         go (inr shut) = absurd (no_need (shut_none a held k t l c ns life h up alike served told ready.raised shut))
 

@@ -27,9 +27,9 @@ use Rattle.alp_journal.specs.Ids.{same_trans}
 use Rattle.alp_journal.specs.Holder.{Life, view_in, answer_in}
 use Rattle.alp_journal.specs.Counts.{lock_set, with_resources}
 use Rattle.alp_journal.specs.Desk.{Session, Waiting, file_trans, is_of}
-use Rattle.alp_journal.specs.Alone.{Alone, IsQuiet}
+use Rattle.alp_journal.specs.Account.{Account, IsQuiet}
 use Rattle.alp_journal.proofs.IdLemmas.{same_trans-true}
-use Rattle.alp_journal.proofs.AloneCalls.{with_call, life_after}
+use Rattle.alp_journal.proofs.FileCalls.{with_call, life_after}
 use Rattle.alp_files.specs.declared.call.Call.{Call}
 use Rattle.alp_files.specs.declared.reply.Reply.{Reply}
 use Rattle.alp_files.specs.declared.reply.Reply.TheVariants as reply
@@ -96,7 +96,7 @@ performed_so tells cells old v t l found blank p c n room locks acts given r tak
 
 -- ---- what a part sees, and its next file
 
-module _ {V : Type 0} (a : Alone) (held : Contents) (k : ServerState V) where
+module _ {V : Type 0} (a : Account) (held : Contents) (k : ServerState V) where
   -- through its intents a live part sees what the journal says that it sees
   pub sees : (t : TransId) (rs : List Resource) (l : Live) (life : Life) → IsAs a held k → k.is_down ≡ false → IsLife a.holder.cells k.locks.held rs t l life → seen held.cells l.part ≡ view_in a.holder life
   sees t rs l life h up is =
@@ -249,7 +249,7 @@ files_now count (reply.Committed x) = omega arith
 files_now count (reply.Ended e) = omega arith
 files_now count (reply.Refused f) = omega arith
 
-module _ {V : Type 0} (a : Alone) (held : Contents) (k : ServerState V) (turn : Turn) (t : TransId) (l : Live) (p : Part) (c : Call) (r : Reply) (n : ℕ) (locks : Table) (v : V) (life : Life) where
+module _ {V : Type 0} (a : Account) (held : Contents) (k : ServerState V) (turn : Turn) (t : TransId) (l : Live) (p : Part) (c : Call) (r : Reply) (n : ℕ) (locks : Table) (v : V) (life : Life) where
   abbrev pub done_kept : ServerState V
   done_kept = record k { sessions = counted_in k.sessions turn r; given = count_after k.given r; lives = map.insert k.lives t (record l { part = p; locks = n }); locks = locks; vault = v }
 
@@ -275,7 +275,7 @@ module _ {V : Type 0} (a : Alone) (held : Contents) (k : ServerState V) (turn : 
       ∙ to_come_kept a.holder.server a.ids.epoch k.given [] (view_in a.holder life) life.who life.own c r (view_unborn h is) only_so f comes
 
   module _ (under : Holding) (rs : List Resource) where
-    abbrev pub after_call : Session → Alone
+    abbrev pub after_call : Session → Account
     after_call w = with_call a turn.client turn.number w t life c r under rs
 
     pub done_as : (then : Contents) (h : IsAs a held k) → then ≡ held → (is : IsTurn k.sessions turn) → k.is_down ≡ false → map.get k.lives t ≡ Some l → a.holder.lives t ≡ Some life → IsLife a.holder.cells k.locks.held (a.locked t) t l life → GivesOnly (next_file k) r

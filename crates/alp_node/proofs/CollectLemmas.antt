@@ -19,16 +19,16 @@ use Rattle.alp_vault.specs.Contents.{Contents}
 use Rattle.alp_journal.specs.declared.act.Act.TheVariants as act
 use Rattle.alp_journal.specs.declared.entry.Entry.{Entry}
 use Rattle.alp_journal.specs.declared.event.Event.TheVariants as event
-use Rattle.alp_journal.specs.Alone.{Alone, alone, IsPartOf, IsOfPart}
+use Rattle.alp_journal.specs.Account.{Account, state_of, IsPartOf, IsOfPart}
 use Rattle.alp_journal.specs.Counts.{request_in}
 use Rattle.alp_journal.specs.Desk.{Session, Waiting, file_trans, waiting_at, without}
 use Rattle.alp_journal.specs.Holder.{Life}
 use Rattle.alp_journal.specs.Ids.{same_trans}
 use Rattle.alp_journal.specs.Moves.{tried}
-use Rattle.alp_journal.proofs.AloneCollects.{uncollected, collect_none_leads, collect_waits_leads, collect_dead_leads, collect_refused_leads, none_dead}
-use Rattle.alp_journal.proofs.AloneEntries.{counted_as}
-use Rattle.alp_journal.proofs.AloneHalts.{with_halt, collect_halt_leads}
-use Rattle.alp_journal.proofs.AloneLemmas.{call_entry}
+use Rattle.alp_journal.proofs.CollectCalls.{uncollected, collect_none_leads, collect_waits_leads, collect_dead_leads, collect_refused_leads, none_dead}
+use Rattle.alp_journal.proofs.RefusedCalls.{counted_as}
+use Rattle.alp_journal.proofs.HaltedCalls.{with_halt, collect_halt_leads}
+use Rattle.alp_journal.proofs.CallLemmas.{call_entry}
 use Rattle.alp_journal.proofs.IdLemmas.{same_trans-itself}
 use Rattle.alp_journal.proofs.QuietLemmas.{quiet_without}
 use Rattle.alp_journal.proofs.WaitLemmas.{IsOnly, each-only, found-is}
@@ -137,8 +137,8 @@ module _ {V : Type 0} (k : ServerState V) (client n : ℕ) (w : WaitingCall) (m 
 
 -- ---- as the journal tells it
 
-module _ {V : Type 0} (a : Alone) (held : Contents) (k : ServerState V) (client n : ℕ) (w : WaitingCall) (m : ℕ) (on : Bool) (ready : IsReady m on k) (found : call_at client n k.waits ≡ Some w) (h : IsAs a held k) where
-  pub found_here : waiting_at (alone a).desk client n ≡ Some (waiting w)
+module _ {V : Type 0} (a : Account) (held : Contents) (k : ServerState V) (client n : ℕ) (w : WaitingCall) (m : ℕ) (on : Bool) (ready : IsReady m on k) (found : call_at client n k.waits ≡ Some w) (h : IsAs a held k) where
+  pub found_here : waiting_at (state_of a).desk client n ≡ Some (waiting w)
   found_here = at_told a client n k.waits h.waits ∙ ap (option_map waiting) found
 
   -- its part, if that lives no more
@@ -271,7 +271,7 @@ module _ {V : Type 0} (a : Alone) (held : Contents) (k : ServerState V) (client 
 
 -- ---- what is answered
 
-module _ {V : Type 0} (a : Alone) (before now : ℕ) (held : Contents) (k : ServerState V) (turn : Turn) (n : ℕ) where
+module _ {V : Type 0} (a : Account) (before now : ℕ) (held : Contents) (k : ServerState V) (turn : Turn) (n : ℕ) where
   -- no call of that number waits
   pub collect_none_stepped : (x : Answer) → IsAs a held k → IsTurn k.sessions turn → k.is_down ≡ false → call_at turn.client n k.waits ≡ None → x ≡ refused_answer refusal.UnknownTrans []
       → Stepped a before now held (record k { sessions = counted_in k.sessions turn (reply.Refused refusal.UnknownTrans) }) (event.Call turn.client k.epoch turn.number (call.Collect n)) x
@@ -314,7 +314,7 @@ module _ {V : Type 0} (a : Alone) (before now : ℕ) (held : Contents) (k : Serv
         let leads = collect_halt_leads a turn.client turn.number s n (waiting w) w.trans h.quiet (h.down ∙ up) (turn_session a held k turn h is) is.number (found_here a held k turn.client n w m on ready found h)
         (call_is k turn.client n w m on ready found).named granted (none_ended a held k turn.client n w m on ready found h l there) in
         stepped_so a before now held then k (record k { is_down = true; vault = v }) turn.client turn.number s (call.Collect n) false (reply.Refused refusal.Down) (act.Stopped ∷ []) (with_halt a turn.client turn.number s e) x so h
-        leads (halted_as a (with_halt a turn.client turn.number s e) held then k v (tried (alone a) e) refl leads.quiet h) (λ q. cc) (stands_timely a.holder.clock 0 k.clock h.clock)
+        leads (halted_as a (with_halt a turn.client turn.number s e) held then k v (tried (state_of a) e) refl leads.quiet h) (λ q. cc) (stands_timely a.holder.clock 0 k.clock h.clock)
 
     -- a read of it failed, and it waits no more
     pub collect_fault_stepped : (l : Live) (x : Answer) → IsAs a held k → IsTurn k.sessions turn → k.is_down ≡ false → Rose before now → map.get k.lives w.trans ≡ Some l → w.is_granted ≡ true → x ≡ refused_answer refusal.ReadFault []

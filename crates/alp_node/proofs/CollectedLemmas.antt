@@ -37,10 +37,10 @@ use Rattle.alp_journal.specs.Desk.{Session, file_trans, without}
 use Rattle.alp_journal.specs.Holder.{Life, view_in, answer_in}
 use Rattle.alp_journal.specs.Moves as journal
 use Rattle.alp_journal.specs.Answers.{IsThreads, count_refusal, more_locks, unless_counts}
-use Rattle.alp_journal.specs.Alone.{Alone, alone, IsQuiet, Leads}
-use Rattle.alp_journal.proofs.AloneLemmas.{call_entry}
-use Rattle.alp_journal.proofs.AloneEntries.{counted_as}
-use Rattle.alp_journal.proofs.AloneCollects.{uncollected, CollectOwes, with_collected, collect_refused_leads, collected_leads}
+use Rattle.alp_journal.specs.Account.{Account, state_of, IsQuiet, Leads}
+use Rattle.alp_journal.proofs.CallLemmas.{call_entry}
+use Rattle.alp_journal.proofs.RefusedCalls.{counted_as}
+use Rattle.alp_journal.proofs.CollectCalls.{uncollected, CollectOwes, with_collected, collect_refused_leads, collected_leads}
 use Rattle.alp_node.specs.Asks.{is_of_given, asks_made, asks_given, makes_file, is_made, plan_if, plan_of, with_plan, with_made as with_made_lock}
 use Rattle.alp_node.specs.Calls.{IsServedCall, given_of, next_file}
 use Rattle.alp_node.specs.Rooms.{IsRoomOf, locks_given}
@@ -166,7 +166,7 @@ module _ {V : Type 0} (k : ServerState V) (turn : Turn) (w : WaitingCall) (l : L
 
 -- ---- its entry
 
-module _ {V : Type 0} (a : Alone) (before now : ℕ) (held : Contents) (k : ServerState V) (turn : Turn) (n : ℕ) (w : WaitingCall) (l : Live) (p : Part) (room : Room) (r : Reply) (v : V) where
+module _ {V : Type 0} (a : Account) (before now : ℕ) (held : Contents) (k : ServerState V) (turn : Turn) (n : ℕ) (w : WaitingCall) (l : Live) (p : Part) (room : Room) (r : Reply) (v : V) where
   abbrev left : Reply → ServerState V
   left = collected_left k turn w l p v
 
@@ -207,20 +207,20 @@ module _ {V : Type 0} (a : Alone) (before now : ℕ) (held : Contents) (k : Serv
     counts_after : AreCountsOf a.holder.cells (life.edits ++ did.edits) given.after
     counts_after = call_right.counts life.edits mine.intents mine.counts
 
-    call_counted : refused ≡ count_refusal (alone a) w.trans life w.call did
+    call_counted : refused ≡ count_refusal (state_of a) w.trans life w.call did
     call_counted = refusal_same a held k h up w.counts.made room of w.trans life w.call did l.part.counts given.after mine.counts counts_after (asked.made ∙ ap (λ (x : ℕ). x + more_locks w.call) asked.asked)
 
     of_file : is_of_given k.server k.epoch k.given w.call ≡ true
     of_file = shape_given k.server k.epoch k.given (length l.part.opens.items) w.call limits.shape
 
-    next_id : (f : FileId) → id_in g ≡ Some f → f ≡ journal.next_file (alone a)
+    next_id : (f : FileId) → id_in g ≡ Some f → f ≡ journal.next_file (state_of a)
     next_id f e = id_given (next_file k) f g e given.ids ∙ next_told a held k h
 
-    threads : IsThreads (alone a) w.trans life w.call r
+    threads : IsThreads (state_of a) w.trans life w.call r
     threads = record { given = g; own = given.own; right = call_right.reply; next_id = next_id; counted = given.said ∙ ap (unless_counts g) call_counted }
 
     -- the call is gone
-    abbrev state_left : Alone
+    abbrev state_left : Account
     state_left = record a { waits = uncollected a turn.client turn.number told n }
 
     left_is : IsAs state_left held (server_left a held k turn.client n w m on ready found h)
@@ -248,7 +248,7 @@ module _ {V : Type 0} (a : Alone) (before now : ℕ) (held : Contents) (k : Serv
       refused_stepped x then same so =
           let leads : Leads false a (call_entry a turn.client turn.number told (call.Collect n) (reply.Refused f) []) (record (counted_as a turn.client turn.number told (reply.Refused f)) { waits = uncollected a turn.client turn.number told n }) =
           collect_refused_leads a turn.client turn.number told n (waiting w) w.trans life false f h.quiet (h.down ∙ up) (turn_session a held k turn h is) is.number (found_here a held k turn.client n w m on ready found h) its.named granted live
-          counted.now (count_none_done a w.trans w.call f counted) (inr (subst (IsThreads (alone a) w.trans life w.call) as_refused threads)) in
+          counted.now (count_none_done a w.trans w.call f counted) (inr (subst (IsThreads (state_of a) w.trans life w.call) as_refused threads)) in
           subst (λ (y : Reply). Stepped a before now then (left y) (event.Call turn.client k.epoch turn.number (call.Collect n)) x) (sym as_refused)
           (stepped_so a before now held then k (left (reply.Refused f)) turn.client turn.number told (call.Collect n) false (reply.Refused f) []
           (record (counted_as a turn.client turn.number told (reply.Refused f)) { waits = uncollected a turn.client turn.number told n }) x (so ∙ ap (λ (y : Reply). told_answer (Some y) []) as_refused) h leads (refused_as then same) (λ e. cc)
@@ -317,7 +317,7 @@ module _ {V : Type 0} (a : Alone) (before now : ℕ) (held : Contents) (k : Serv
         next_id = next_id;
         locked = covered;
         agree = agrees;
-        why = inr (subst (IsThreads (alone a) w.trans life w.call) as_given threads);
+        why = inr (subst (IsThreads (state_of a) w.trans life w.call) as_given threads);
       }
 
       leads : Leads false a (call_entry a turn.client turn.number told (call.Collect n) g []) (with_collected a turn.client turn.number told n (waiting w) w.trans life g)

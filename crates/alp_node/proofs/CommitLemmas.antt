@@ -46,11 +46,11 @@ use Rattle.alp_journal.specs.Desk.{Session, Waiting, file_trans, waiting_of}
 use Rattle.alp_journal.specs.Messages.{why_not_own, first_why, full_or, no_room, clock_end, part_cells}
 use Rattle.alp_journal.specs.Answers.{at_part, part_at, part_refusal}
 use Rattle.alp_journal.specs.Answered.{IsWalk, in_turn}
-use Rattle.alp_journal.specs.Alone.{Alone, alone, AreEarlier, IsPaired, IsQuiet, with_granted, granted_calls, holder_granted, grant_acts}
+use Rattle.alp_journal.specs.Account.{Account, state_of, AreEarlier, IsPaired, IsQuiet, with_granted, granted_calls, holder_granted, grant_acts}
 use Rattle.alp_journal.proofs.StampLemmas.{put-last, AreEarlier-push}
-use Rattle.alp_journal.proofs.AloneLemmas.{call_entry, call_tried}
-use Rattle.alp_journal.proofs.AloneCommits.{with_commit, with_commit_given, commit_leads}
-use Rattle.alp_journal.proofs.AloneHalts.{with_halt, commit_halt_leads, file_halt_leads}
+use Rattle.alp_journal.proofs.CallLemmas.{call_entry, call_tried}
+use Rattle.alp_journal.proofs.CommitCalls.{with_commit, with_commit_given, commit_leads}
+use Rattle.alp_journal.proofs.HaltedCalls.{with_halt, commit_halt_leads, file_halt_leads}
 use Rattle.alp_turns.specs.Laws.{trans_in}
 use Rattle.alp_turns.specs.Queues.{queue_of}
 use Rattle.alp_node.specs.Dead.{is_dead}
@@ -90,8 +90,8 @@ use Rattle.alp_node.proofs.UnderLemmas.{edits_sized}
 -- ---- who has no call that waits
 
 -- of a live part of which no call waits the journal has none
-pub waits_none : {V : Type 0} (a : Alone) (held : Contents) (k : ServerState V) (client : ℕ) (t : TransId) (l : Live) (n : ℕ) (serves : Bool) → IsAs a held k → IsReady n serves k → map.get k.lives t ≡ Some l → l.client ≡ client → has_waiting client t k.waits ≡ false
-    → waiting_of (alone a).desk client t ≡ None
+pub waits_none : {V : Type 0} (a : Account) (held : Contents) (k : ServerState V) (client : ℕ) (t : TransId) (l : Live) (n : ℕ) (serves : Bool) → IsAs a held k → IsReady n serves k → map.get k.lives t ≡ Some l → l.client ≡ client → has_waiting client t k.waits ≡ false
+    → waiting_of (state_of a).desk client t ≡ None
 waits_none a held k client t l n serves h ready live own idle =
     idle_told a client t k.waits h.waits (named_all k.server k.epoch k.given k.drawn k.sizes k.lives k.waits ready.waits.calls)
     (none_waiting k.server k.epoch k.given k.drawn k.sizes k.lives client t l k.waits live own idle ready.waits.calls)
@@ -105,7 +105,7 @@ no_room_fits area before after fits = go (nat_lt area after) refl
     go false e = refl
     go true e = (let wrong : area < after = ltb-true area after e in absurd (omega (arith, wrong, fits)))
 
-module _ {V : Type 0} (a : Alone) (held : Contents) (k : ServerState V) (t : TransId) (l : Live) where
+module _ {V : Type 0} (a : Account) (held : Contents) (k : ServerState V) (t : TransId) (l : Live) where
   -- the log has room
   room_then : IsAs a held k → map.get k.lives t ≡ Some l → IsWithin k.sizes l → no_room a.sizes.area (24 + 0 + 0) (24 + 0 + (4 * part_cells (a.holder.lives t) + 4)) ≡ None
   room_then h live within =
@@ -117,47 +117,47 @@ module _ {V : Type 0} (a : Alone) (held : Contents) (k : ServerState V) (t : Tra
   early_clock : IsAs a held k → k.clock < 2 ^ 62 → (a.holder.clock == clock_end) ≡ false
   early_clock h early = ne_eqb a.holder.clock clock_end (λ e. absurd (omega (arith, e, h.clock, early)))
 
-  pub votes_for : IsAs a held k → k.clock < 2 ^ 62 → map.get k.lives t ≡ Some l → IsWithin k.sizes l → why_not_own false (alone a) t ≡ None
+  pub votes_for : IsAs a held k → k.clock < 2 ^ 62 → map.get k.lives t ≡ Some l → IsWithin k.sizes l → why_not_own false (state_of a) t ≡ None
   votes_for h early live room = (λ i. first_why false false (early_clock h early i) (no_room a.sizes.area (24 + 0 + 0) (24 + 0 + (4 * part_cells (a.holder.lives t) + 4)))) ∙ ap (full_or false) (room_then h live room)
 
-  pub votes_at_end : IsAs a held k → k.clock ≡ 2 ^ 62 → why_not_own false (alone a) t ≡ Some why.ClockEnd
+  pub votes_at_end : IsAs a held k → k.clock ≡ 2 ^ 62 → why_not_own false (state_of a) t ≡ Some why.ClockEnd
   votes_at_end h last = ap (λ (b : Bool). first_why false false b (no_room a.sizes.area (24 + 0 + 0) (24 + 0 + (4 * part_cells (a.holder.lives t) + 4)))) (eq-eqb a.holder.clock clock_end (h.clock ∙ last))
 
 -- ---- a commit
 
 -- a later clock takes the place of the one that was kept
-put_more : {V : Type 0} (a : Alone) (held : Contents) (k : ServerState V) (clock : ℕ) → IsAs a held k → k.is_down ≡ false
+put_more : {V : Type 0} (a : Account) (held : Contents) (k : ServerState V) (clock : ℕ) → IsAs a held k → k.is_down ≡ false
     → map.insert held.notes clock_name (clock_form.spell (record { epoch = k.epoch; clock = clock })) ≡ clock_notes (record { epoch = k.epoch; clock = clock })
 put_more a held k clock h up =
     ap (λ (n : Notes). map.insert n clock_name (clock_form.spell (record { epoch = k.epoch; clock = clock }))) (h.notes up)
     ∙ put_again (record { epoch = a.ids.epoch; clock = a.holder.kept }) (record { epoch = k.epoch; clock = clock })
 
-module _ {V : Type 0} (a : Alone) (held : Contents) (k : ServerState V) (turn : Turn) (t : TransId) (l : Live) where
-  module _ (h : IsAs a held k) (is : IsTurn k.sessions turn) (up : k.is_down ≡ false) (live : map.get k.lives t ≡ Some l) (own : l.client ≡ turn.client) (idle : waiting_of (alone a).desk turn.client t ≡ None) (r : Reply) (none : ends_by t turn.client r ≡ []) where
+module _ {V : Type 0} (a : Account) (held : Contents) (k : ServerState V) (turn : Turn) (t : TransId) (l : Live) where
+  module _ (h : IsAs a held k) (is : IsTurn k.sessions turn) (up : k.is_down ≡ false) (live : map.get k.lives t ≡ Some l) (own : l.client ≡ turn.client) (idle : waiting_of (state_of a).desk turn.client t ≡ None) (r : Reply) (none : ends_by t turn.client r ≡ []) where
     abbrev finish_entry : List Act → Entry
     finish_entry acts = call_entry a turn.client turn.number (session_of turn is) (call.Finish t true) r acts
 
     -- what the entry tries
-    write_tried : (stamp : Stamp) (acts : List Act) (ds : List Deed) → flat_map (act_deeds (alone a) (event.Call turn.client a.ids.epoch turn.number (call.Finish t true))) acts ≡ Decides stamp [] ∷ ds
-        → tried (alone a) (finish_entry acts) ≡ Finishes t ∷ Decides stamp [] ∷ ds
+    write_tried : (stamp : Stamp) (acts : List Act) (ds : List Deed) → flat_map (act_deeds (state_of a) (event.Call turn.client a.ids.epoch turn.number (call.Finish t true))) acts ≡ Decides stamp [] ∷ ds
+        → tried (state_of a) (finish_entry acts) ≡ Finishes t ∷ Decides stamp [] ∷ ds
     write_tried stamp acts ds brings =
         let y : IsLive a.holder.cells k.locks.held (a.locked t) t l (a.holder.lives t) = live_there a.holder.cells k.locks.held (a.locked t) t (map.get k.lives t) (a.holder.lives t) l live (h.lives t) in
         let pair : IsPaired (Some y.life) (a.fates t) = subst (λ (x : Option Life). IsPaired x (a.fates t)) y.is (h.quiet.settled.paired t) in
         let runs : a.fates t ≡ Running turn.client [] = pair.0 ∙ ap (λ (n : ℕ). Running n []) (y.alike.client ∙ own) in
         call_tried a turn.client turn.number (session_of turn is) (call.Finish t true) r acts (turn_session a held k turn h is) is.number
-        ∙ ap (λ (ws : List Deed). finishes (alone a).desk turn.client t true r (a.fates t) ++ ws ++ []) brings
-        ∙ ap (λ (f : Fate). finishes (alone a).desk turn.client t true r f ++ (Decides stamp [] ∷ ds) ++ []) runs
-        ∙ ap (λ (b : Bool). cond {A = List Deed} (b && is_none (waiting_of (alone a).desk turn.client t)) (Finishes t ∷ ends_by t turn.client r) [] ++ (Decides stamp [] ∷ ds) ++ []) (eq-eqb turn.client turn.client refl)
+        ∙ ap (λ (ws : List Deed). finishes (state_of a).desk turn.client t true r (a.fates t) ++ ws ++ []) brings
+        ∙ ap (λ (f : Fate). finishes (state_of a).desk turn.client t true r f ++ (Decides stamp [] ∷ ds) ++ []) runs
+        ∙ ap (λ (b : Bool). cond {A = List Deed} (b && is_none (waiting_of (state_of a).desk turn.client t)) (Finishes t ∷ ends_by t turn.client r) [] ++ (Decides stamp [] ∷ ds) ++ []) (eq-eqb turn.client turn.client refl)
         ∙ ap (λ (x : Option Waiting). cond {A = List Deed} (is_none x) (Finishes t ∷ ends_by t turn.client r) [] ++ (Decides stamp [] ∷ ds) ++ []) idle
         ∙ ap (λ (ws : List Deed). (Finishes t ∷ ws) ++ (Decides stamp [] ∷ ds) ++ []) none
         ∙ ap (λ (ws : List Deed). Finishes t ∷ Decides stamp [] ∷ ws) (append-nil ds)
 
     -- the one write of a commit is what the journal says of it
     pub write_said : (acts : List Act) (ds : List Deed) (c : Contents)
-        → flat_map (act_deeds (alone a) (event.Call turn.client a.ids.epoch turn.number (call.Finish t true))) acts ≡ Decides (record { ts = k.clock + 1; trans = t }) [] ∷ ds
+        → flat_map (act_deeds (state_of a) (event.Call turn.client a.ids.epoch turn.number (call.Finish t true))) acts ≡ Decides (record { ts = k.clock + 1; trans = t }) [] ∷ ds
         → ((o : Holder) → stored_by a.ids.epoch (state_after holder_after o ds) ≡ stored_by a.ids.epoch o)
         → IsWritten l.part.intents (record { epoch = k.epoch; clock = k.clock + 1 }) held c
-        → c ≡ said_by (alone a) (finish_entry acts)
+        → c ≡ said_by (state_of a) (finish_entry acts)
     write_said acts ds c brings still w =
         let y : IsLive a.holder.cells k.locks.held (a.locked t) t l (a.holder.lives t) = live_there a.holder.cells k.locks.held (a.locked t) t (map.get k.lives t) (a.holder.lives t) l live (h.lives t) in
         let es : List Edit = y.life.edits in
@@ -173,16 +173,16 @@ module _ {V : Type 0} (a : Alone) (held : Contents) (k : ServerState V) (turn : 
 
     -- so a crash leaves no more of it
     pub write_leaves : (G : Ghosts V) (v : V) (x : Answer) (acts : List Act) (ds : List Deed) → G.held k.vault ≡ held → x ≡ told_answer (Some r) acts
-        → flat_map (act_deeds (alone a) (event.Call turn.client a.ids.epoch turn.number (call.Finish t true))) acts ≡ Decides (record { ts = k.clock + 1; trans = t }) [] ∷ ds
+        → flat_map (act_deeds (state_of a) (event.Call turn.client a.ids.epoch turn.number (call.Finish t true))) acts ≡ Decides (record { ts = k.clock + 1; trans = t }) [] ∷ ds
         → ((o : Holder) → stored_by a.ids.epoch (state_after holder_after o ds) ≡ stored_by a.ids.epoch o)
         → Leaves G k.vault v (Besides G k.vault (IsWritten l.part.intents (record { epoch = k.epoch; clock = k.clock + 1 }) (G.held k.vault)))
-        → Leaves G k.vault v (Besides G k.vault (λ c. c ≡ said_by (alone a) (entry_of (event.Call turn.client k.epoch turn.number (call.Finish t true)) x)))
+        → Leaves G k.vault v (Besides G k.vault (λ c. c ≡ said_by (state_of a) (entry_of (event.Call turn.client k.epoch turn.number (call.Finish t true)) x)))
     write_leaves G v x acts ds same so brings still leaves =
         leaves_as G k.vault v (IsWritten l.part.intents (record { epoch = k.epoch; clock = k.clock + 1 }) (G.held k.vault))
-        (λ c. c ≡ said_by (alone a) (entry_of (event.Call turn.client k.epoch turn.number (call.Finish t true)) x))
+        (λ c. c ≡ said_by (state_of a) (entry_of (event.Call turn.client k.epoch turn.number (call.Finish t true)) x))
         (λ c w. write_said acts ds c brings still (subst (λ (b : Contents). IsWritten l.part.intents (record { epoch = k.epoch; clock = k.clock + 1 }) b c) same w)
-        ∙ ap (λ (n : ℕ). said_by (alone a) (record { event = event.Call turn.client n turn.number (call.Finish t true); reply = Some r; acts = acts })) h.epoch
-        ∙ ap (λ (z : Answer). said_by (alone a) (entry_of (event.Call turn.client k.epoch turn.number (call.Finish t true)) z)) (sym so))
+        ∙ ap (λ (n : ℕ). said_by (state_of a) (record { event = event.Call turn.client n turn.number (call.Finish t true); reply = Some r; acts = acts })) h.epoch
+        ∙ ap (λ (z : Answer). said_by (state_of a) (entry_of (event.Call turn.client k.epoch turn.number (call.Finish t true)) z)) (sym so))
         leaves
 
 -- grants leave what a restart finds
@@ -211,7 +211,7 @@ granted_vault k v (t ∷ ts) = ap (λ (y : ServerState _). granted_all y ts) (on
 pub let_go_vault : {V : Type 0} (k : ServerState V) (v : V) (t : TransId) → let_go (record k { vault = v }) t ≡ record (let_go k t) { vault = v }
 let_go_vault k v t = granted_vault (record k { lives = map.remove k.lives t; locks = record (released k.locks t) { woken = [] } }) v (released k.locks t).woken
 
-module _ {V : Type 0} (a : Alone) (before now : ℕ) (held then : Contents) (k : ServerState V) (turn : Turn) (t : TransId) (l : Live) (v : V) where
+module _ {V : Type 0} (a : Account) (before now : ℕ) (held then : Contents) (k : ServerState V) (turn : Turn) (t : TransId) (l : Live) (v : V) where
   abbrev pub stamp_at : Stamp
   stamp_at = record { ts = k.clock + 1; trans = t }
 
@@ -229,7 +229,7 @@ module _ {V : Type 0} (a : Alone) (before now : ℕ) (held then : Contents) (k :
   commit_acts = act.Decided stamp_at [] ∷ act.Released t ∷ grant_acts (granted_behind k t)
 
   module _ (m : ℕ) (on : Bool) (h : IsAs a held k) (ready : IsReady m on k) (is : IsTurn k.sessions turn) (up : k.is_down ≡ false) (early : k.clock < 2 ^ 62) (here : t.server ≡ k.server) (live : map.get k.lives t ≡ Some l) (own : l.client ≡ turn.client)
-      (idle : waiting_of (alone a).desk turn.client t ≡ None) (fits : IsWithin k.sizes l) where
+      (idle : waiting_of (state_of a).desk turn.client t ≡ None) (fits : IsWithin k.sizes l) where
     abbrev w : Session
     w = session_of turn is
 
@@ -263,7 +263,7 @@ module _ {V : Type 0} (a : Alone) (before now : ℕ) (held then : Contents) (k :
         (stands_beside a held k h t l live y.life y.is y.alike) (room_beside a held k h t l live y.life y.is y.alike)
 
     module _ (g : Commit) where
-      abbrev state_commit : Alone
+      abbrev state_commit : Account
       state_commit = with_granted (state_gone a held k t cells_now clock_now clock_now applied_now left_now) g.given
 
       abbrev server_commit : ServerState V
@@ -278,7 +278,7 @@ module _ {V : Type 0} (a : Alone) (before now : ℕ) (held then : Contents) (k :
       rest : holder_granted first_holder g.given ≡ record first_holder { lives = (holder_granted first_holder g.given).lives }
       rest = holder_rest g.given first_holder
 
-      abbrev commit_state : Alone
+      abbrev commit_state : Account
       commit_state = with_commit_given a turn.client turn.number w t y.life (granted_behind k t)
 
       state_is : with_granted (with_commit a turn.client turn.number w t y.life) g.given ≡ with_commit_given a turn.client turn.number w t y.life (granted_behind k t)
@@ -331,8 +331,8 @@ module _ {V : Type 0} (a : Alone) (before now : ℕ) (held then : Contents) (k :
           → IsQuiet (with_commit_given a turn.client turn.number w t y.life (granted_behind k t))
           → IsAs (with_commit_given a turn.client turn.number w t y.life (granted_behind k t)) then (kept_with server_commit.lives server_commit.waits (blocks_then a held k h t l live y.life y.is y.alike))
       commit_as same notes quiet =
-          let told : Alone = with_granted (with_commit a turn.client turn.number w t y.life) g.given in
-          subst (λ (x : Alone). IsAs x then (kept_with server_commit.lives server_commit.waits (blocks_then a held k h t l live y.life y.is y.alike))) state_is
+          let told : Account = with_granted (with_commit a turn.client turn.number w t y.life) g.given in
+          subst (λ (x : Account). IsAs x then (kept_with server_commit.lives server_commit.waits (blocks_then a held k h t l live y.life y.is y.alike))) state_is
           (subst (λ (x : Holder). IsAs (record told { holder = x }) then (kept_with server_commit.lives server_commit.waits (blocks_then a held k h t l live y.life y.is y.alike))) (sym rest) (record {
             server = h.server;
             sizes = h.sizes;
@@ -400,10 +400,10 @@ module _ {V : Type 0} (a : Alone) (before now : ℕ) (held then : Contents) (k :
 -- ---- the vault was stopped or failed
 
 -- a server that is down keeps all but what its vault has
-pub halted_as : {V : Type 0} (a m : Alone) (held then : Contents) (k : ServerState V) (v : V) (ds : List Deed) → m ≡ record a { is_down = true; pending = ds } → IsQuiet m → IsAs a held k → IsAs m then (record k { is_down = true; vault = v })
+pub halted_as : {V : Type 0} (a m : Account) (held then : Contents) (k : ServerState V) (v : V) (ds : List Deed) → m ≡ record a { is_down = true; pending = ds } → IsQuiet m → IsAs a held k → IsAs m then (record k { is_down = true; vault = v })
 halted_as a m held then k v ds is quiet h =
     let never : true ≡ false → ⊥ = λ e. cc in
-    subst (λ (x : Alone). IsAs x then (record k { is_down = true; vault = v })) (sym is) (record {
+    subst (λ (x : Account). IsAs x then (record k { is_down = true; vault = v })) (sym is) (record {
       server = h.server;
       sizes = h.sizes;
       epoch = h.epoch;
@@ -435,23 +435,23 @@ halted_as a m held then k v ds is quiet h =
     })
 
 -- a read is stopped, in a call of a part at work
-module _ {V : Type 0} (a : Alone) (before now : ℕ) (held then : Contents) (k : ServerState V) (turn : Turn) (t : TransId) (v : V) where
-  pub file_halt_stepped : (c : Call) (x : Answer) → IsAs a held k → IsTurn k.sessions turn → k.is_down ≡ false → file_trans c ≡ Some t → standing_of turn.client (map.get k.lives t) (is_dead turn.client t k.dead) ≡ standing.Own → waiting_of (alone a).desk turn.client t ≡ None
+module _ {V : Type 0} (a : Account) (before now : ℕ) (held then : Contents) (k : ServerState V) (turn : Turn) (t : TransId) (v : V) where
+  pub file_halt_stepped : (c : Call) (x : Answer) → IsAs a held k → IsTurn k.sessions turn → k.is_down ≡ false → file_trans c ≡ Some t → standing_of turn.client (map.get k.lives t) (is_dead turn.client t k.dead) ≡ standing.Own → waiting_of (state_of a).desk turn.client t ≡ None
       → x ≡ refused_answer refusal.Down (act.Stopped ∷ [])
       → Stepped a before now then (record k { is_down = true; vault = v }) (event.Call turn.client k.epoch turn.number c) x
   file_halt_stepped c x h is up named own idle so =
       let w : Session = session_of turn is in
       let e : Entry = call_entry a turn.client turn.number w c (reply.Refused refusal.Down) (act.Stopped ∷ []) in
-      let works : part_refusal (alone a) turn.client t ≡ None = ap (λ (x : Option Waiting). at_part (is_some x) (part_at (alone a) turn.client t)) idle ∙ ap (at_part false) (part_is a held k turn.client t h ∙ ap part_of own) in
+      let works : part_refusal (state_of a) turn.client t ≡ None = ap (λ (x : Option Waiting). at_part (is_some x) (part_at (state_of a) turn.client t)) idle ∙ ap (at_part false) (part_is a held k turn.client t h ∙ ap part_of own) in
       let leads = file_halt_leads a turn.client turn.number w t c h.quiet (h.down ∙ up) (turn_session a held k turn h is) is.number named works in
       stepped_so a before now held then k (record k { is_down = true; vault = v }) turn.client turn.number w c false (reply.Refused refusal.Down) (act.Stopped ∷ []) (with_halt a turn.client turn.number w e) x so h
-      leads (halted_as a (with_halt a turn.client turn.number w e) held then k v (tried (alone a) e) refl leads.quiet h) (λ w. cc) (stands_timely a.holder.clock (seen_in (event.Call turn.client k.epoch turn.number c)) k.clock h.clock)
+      leads (halted_as a (with_halt a turn.client turn.number w e) held then k v (tried (state_of a) e) refl leads.quiet h) (λ w. cc) (stands_timely a.holder.clock (seen_in (event.Call turn.client k.epoch turn.number c)) k.clock h.clock)
 
-module _ {V : Type 0} (a : Alone) (before now : ℕ) (held then : Contents) (k : ServerState V) (turn : Turn) (t : TransId) (v : V) (z : Act) where
+module _ {V : Type 0} (a : Account) (before now : ℕ) (held then : Contents) (k : ServerState V) (turn : Turn) (t : TransId) (v : V) (z : Act) where
   abbrev pub IsStopAct : Type 0
   IsStopAct = (z ≡ act.Stopped) ⊎ (z ≡ act.Failed)
 
-  pub commit_halt_stepped : (l : Live) (x : Answer) → IsStopAct → IsAs a held k → IsTurn k.sessions turn → k.is_down ≡ false → k.clock < 2 ^ 62 → t.server ≡ k.server → map.get k.lives t ≡ Some l → l.client ≡ turn.client → waiting_of (alone a).desk turn.client t ≡ None
+  pub commit_halt_stepped : (l : Live) (x : Answer) → IsStopAct → IsAs a held k → IsTurn k.sessions turn → k.is_down ≡ false → k.clock < 2 ^ 62 → t.server ≡ k.server → map.get k.lives t ≡ Some l → l.client ≡ turn.client → waiting_of (state_of a).desk turn.client t ≡ None
       → IsWithin k.sizes l
       → x ≡ refused_answer refusal.Down (act.Decided (record { ts = k.clock + 1; trans = t }) [] ∷ z ∷ [])
       → Stepped a before now then (record k { is_down = true; vault = v }) (event.Call turn.client k.epoch turn.number (call.Finish t true)) x
@@ -464,4 +464,4 @@ module _ {V : Type 0} (a : Alone) (before now : ℕ) (held then : Contents) (k :
       (votes_for a held k t l h early live room) in
       stepped_so a before now held then k (record k { is_down = true; vault = v }) turn.client turn.number w (call.Finish t true) false (reply.Refused refusal.Down) acts (with_halt a turn.client turn.number w e) x
       (so ∙ ap (λ (n : ℕ). refused_answer refusal.Down (act.Decided (record { ts = n + 1; trans = t }) [] ∷ z ∷ [])) (sym h.clock)) h
-      leads (halted_as a (with_halt a turn.client turn.number w e) held then k v (tried (alone a) e) refl leads.quiet h) (λ w. cc) (stands_timely a.holder.clock 0 k.clock h.clock)
+      leads (halted_as a (with_halt a turn.client turn.number w e) held then k v (tried (state_of a) e) refl leads.quiet h) (λ w. cc) (stands_timely a.holder.clock 0 k.clock h.clock)

@@ -40,7 +40,7 @@ use Rattle.alp_locks.proofs.SoundLemmas.{each-middle, each-filter, each-more, pa
 use Rattle.alp_vault.specs.Contents.{Contents}
 use Rattle.alp_journal.specs.Counts.{request_in}
 use Rattle.alp_journal.specs.Holder.{Life, held_for}
-use Rattle.alp_journal.specs.Alone.{Alone}
+use Rattle.alp_journal.specs.Account.{Account}
 use Rattle.alp_journal.specs.Answers.{IsInWay, IsLeastHolder}
 use Rattle.alp_node.specs.Asks.{asks_made}
 use Rattle.alp_node.specs.ServerState.{IsAs, IsAlike, IsLife}
@@ -270,7 +270,7 @@ holder_lives cells locks rs u (Some l) (Some life) alike r b e = record { life =
 holder_lives cells locks rs u None (Some life) alike r b e = absurd alike
 holder_lives cells locks rs u (Some l) None alike r b e = absurd alike
 
-module _ {V : Type 0} (a : Alone) (held : Contents) (k : ServerState V) (t : TransId) (l : Live) (life : Life) (c : Call) (ns : List Need) (h : IsAs a held k) (mine : IsLife a.holder.cells k.locks.held (a.locked t) t l life) (asked : request_in a.holder c (Some life) ≡ ns) where
+module _ {V : Type 0} (a : Account) (held : Contents) (k : ServerState V) (t : TransId) (l : Live) (life : Life) (c : Call) (ns : List Need) (h : IsAs a held k) (mine : IsLife a.holder.cells k.locks.held (a.locked t) t l life) (asked : request_in a.holder c (Some life) ≡ ns) where
   -- what the part would hold is what the table's plan leaves
   pub would_hold : (q : Resource) → held_for a.holder life c q ≡ map.get (then_held k.locks.held t ns) q
   would_hold q =

@@ -30,9 +30,9 @@ use Rattle.alp_journal.specs.State.{State, opened}
 use Rattle.alp_journal.specs.Moves.{next}
 use Rattle.alp_journal.specs.Laws.{IsLawful, IsLawfulEntry}
 use Rattle.alp_journal.specs.Answered.{IsAnswered, IsAnsweredSo, IsAnsweredEntry, FitsJournal, entries_limit}
-use Rattle.alp_journal.specs.Alone.{Alone, alone, IsOwnEvent, AreOwnEvents, IsTriedCommit, HasTried, Leads}
+use Rattle.alp_journal.specs.Account.{Account, state_of, IsOwnEvent, AreOwnEvents, IsTriedCommit, HasTried, Leads}
 use Rattle.alp_journal.specs.Restarts.{restart_entry, restarted_at, restarted, with_decided, restarted_with}
-use Rattle.alp_journal.proofs.AloneRestarts.{restart_leads, restart_made_leads, none_then, cells_then, kept_then}
+use Rattle.alp_journal.proofs.RestartLemmas.{restart_leads, restart_made_leads, none_then, cells_then, kept_then}
 use Rattle.alp_journal.proofs.IdLemmas.{all-append}
 use Rattle.alp_node.specs.DownStates.{DownState}
 use Rattle.alp_node.specs.NodeStates.{NodeState}
@@ -143,21 +143,21 @@ module _ (server servers last : ℕ) (s : State) (found : Contents) (notes : Are
 
 -- ---- the clocks that are kept are times
 
-module _ (a : Alone) (server epoch : ℕ) (sizes : Sizes) (past : IsPast a server epoch sizes) where
+module _ (a : Account) (server epoch : ℕ) (sizes : Sizes) (past : IsPast a server epoch sizes) where
   kept_time : a.holder.kept ≤ 2 ^ 62
   kept_time = (let low : a.holder.kept ≤ a.holder.clock = past.quiet.settled.order in omega (arith, low, past.clock))
 
   -- a commit was tried before the end of the clock
-  then_time : (holder_then (alone a)).kept ≤ 2 ^ 62
+  then_time : (holder_then (state_of a)).kept ≤ 2 ^ 62
   then_time = go past.quiet.tried
     where
       before : (h : Holder) → (h.clock == clock_end) ≡ false → h.clock ≡ 2 ^ 62 → ⊥
       before h away is = let wrong : true ≡ false = sym (eq-eqb h.clock clock_end is) ∙ away in cc
 
-      go : HasTried a.holder a.ids.epoch a.is_down a.pending → (holder_then (alone a)).kept ≤ 2 ^ 62
+      go : HasTried a.holder a.ids.epoch a.is_down a.pending → (holder_then (state_of a)).kept ≤ 2 ^ 62
       go (inl none) = subst (λ (h : Holder). h.kept ≤ 2 ^ 62) (sym (none_then a none)) kept_time
       go (inr c) =
-          let is : (holder_then (alone a)).kept ≡ c.stamp.ts = kept_then a c in
+          let is : (holder_then (state_of a)).kept ≡ c.stamp.ts = kept_then a c in
           let time : c.stamp.ts ≡ a.holder.clock + 1 = c.time in
           let other : a.holder.clock ≡ 2 ^ 62 → ⊥ = before a.holder c.within in
           omega (arith, is, time, past.clock, other)
@@ -165,7 +165,7 @@ module _ (a : Alone) (server epoch : ℕ) (sizes : Sizes) (past : IsPast a serve
   pub kept_small : a.holder.kept < 2 ^ 64
   kept_small = omega (arith, kept_time)
 
-  pub then_small : (holder_then (alone a)).kept < 2 ^ 64
+  pub then_small : (holder_then (state_of a)).kept < 2 ^ 64
   then_small = omega (arith, then_time)
 
 -- ---- the notes are in the format
@@ -216,12 +216,12 @@ fits_again : (es : List Entry) (e : Entry) → e.event ≡ event.Restart → Fit
 fits_again es e is fits i x at = ⊎_elim (λ before. fits i x before) (λ last. inl (ap (λ (y : Entry). y.event) (sym last) ∙ is)) (pushed_at es e x i at)
 
 -- a state and the entry by which it is left for another one
-record LeadsTo {V : Type 0} (a : Alone) (e : Entry) (held : Contents) (k : ServerState V) : Type 0 where
-  next : Alone
+record LeadsTo {V : Type 0} (a : Account) (e : Entry) (held : Contents) (k : ServerState V) : Type 0 where
+  next : Account
   leads : Leads false a e next
   kept : IsAs next held k
 
-module _ {V : Type 0} (old : ServerState V) (server servers epoch : ℕ) (sizes : Sizes) (a : Alone) (past : IsPast a server epoch sizes) (some : 0 < epoch) (low : epoch < 4294967295)
+module _ {V : Type 0} (old : ServerState V) (server servers epoch : ℕ) (sizes : Sizes) (a : Account) (past : IsPast a server epoch sizes) (some : 0 < epoch) (low : epoch < 4294967295)
     (found held : Contents) (notes : AreNotesSoFar server servers found.notes) (is : held ≡ with_clock found (next_clock epoch found)) (volume : IsVolumeOf sizes held.cells) where
   abbrev clock : ClockNote
   clock = next_clock epoch found
@@ -237,7 +237,7 @@ module _ {V : Type 0} (old : ServerState V) (server servers epoch : ℕ) (sizes 
 
   lost : (near : ℕ) → (near ≡ a.ids.epoch) ⊎ (near ≡ a.ids.epoch + 1) → found ≡ stored_by near a.holder → LeadsTo a (entry_again clock) held (new_kept old a.holder.server sizes clock)
   lost near by_one same =
-      let at : clock.clock ≡ a.holder.kept = found_clock server servers epoch (alone a) found notes past.now low near a.holder by_one (kept_small a server epoch sizes past) same in
+      let at : clock.clock ≡ a.holder.kept = found_clock server servers epoch (state_of a) found notes past.now low near a.holder by_one (kept_small a server epoch sizes past) same in
       let cells : held.cells ≡ a.holder.cells = ap (λ (c : Contents). c.cells) is ∙ ap (λ (c : Contents). c.cells) same in
       let leads : Leads false a (restart_entry a a.holder.kept) (restarted a) = restart_leads a past.quiet in
       record {
@@ -246,10 +246,10 @@ module _ {V : Type 0} (old : ServerState V) (server servers epoch : ℕ) (sizes 
         kept = lost_as old server epoch sizes a past some clock held later at cells held_notes volume leads.quiet;
       }
 
-  made : (near : ℕ) → (near ≡ a.ids.epoch) ⊎ (near ≡ a.ids.epoch + 1) → found ≡ stored_by near (holder_then (alone a)) → HasTried a.holder a.ids.epoch a.is_down a.pending → LeadsTo a (entry_again clock) held (new_kept old a.holder.server sizes clock)
+  made : (near : ℕ) → (near ≡ a.ids.epoch) ⊎ (near ≡ a.ids.epoch + 1) → found ≡ stored_by near (holder_then (state_of a)) → HasTried a.holder a.ids.epoch a.is_down a.pending → LeadsTo a (entry_again clock) held (new_kept old a.holder.server sizes clock)
   made near by_one same (inl none) = lost near by_one (same ∙ ap (stored_by near) (none_then a none))
   made near by_one same (inr c) =
-      let at : clock.clock ≡ c.stamp.ts = found_clock server servers epoch (alone a) found notes past.now low near (holder_then (alone a)) by_one (then_small a server epoch sizes past) same ∙ kept_then a c in
+      let at : clock.clock ≡ c.stamp.ts = found_clock server servers epoch (state_of a) found notes past.now low near (holder_then (state_of a)) by_one (then_small a server epoch sizes past) same ∙ kept_then a c in
       let cells : held.cells ≡ edits_map c.life.edits a.holder.cells = ap (λ (x : Contents). x.cells) is ∙ ap (λ (x : Contents). x.cells) same ∙ cells_then a c in
       let leads : Leads false a (restart_entry a c.stamp.ts) (restarted_with a c.stamp c.life) = restart_made_leads a c past.quiet in
       record {
@@ -259,7 +259,7 @@ module _ {V : Type 0} (old : ServerState V) (server servers epoch : ℕ) (sizes 
       }
 
   -- whichever it is that was found
-  again : IsLeftOf (alone a) found → LeadsTo a (entry_again clock) held (new_kept old a.holder.server sizes clock)
+  again : IsLeftOf (state_of a) found → LeadsTo a (entry_again clock) held (new_kept old a.holder.server sizes clock)
   again l = ⊎_elim (λ e. lost l.epoch l.near e) (λ e. made l.epoch l.near e past.quiet.tried) l.either
 
 -- a server that starts again keeps what its journal says
@@ -270,9 +270,9 @@ pub again_right : {V : Type 0} (G : Ghosts V) (d : DownState V) (n : NodeState V
 again_right G d n held clock h told low opening is kept found left notes next_is held_is volume =
     let r : IsPastRight (start_of G d) (G.volume d.vault) d = h.right told in
     let o : Start = start_of G d in
-    let a : Alone = r.state in
+    let a : Account = r.state in
     let same_start : o ≡ start_in G n = (λ i. start_by G (sym (ap (λ (k : ServerState _). k.server) kept) i) (sym opening i).vault.value) in
-    let l : IsLeftOf (alone a) found = subst (λ (z : State). IsLeftOf z found) r.says (h.left told found left) in
+    let l : IsLeftOf (state_of a) found = subst (λ (z : State). IsLeftOf z found) r.says (h.left told found left) in
     let to : LeadsTo a (entry_again (next_clock d.epoch found)) held (new_kept n.kept a.holder.server (G.volume d.vault) (next_clock d.epoch found)) =
     again n.kept d.server (G.servers d.vault) d.epoch (G.volume d.vault) a r.past h.raised low found held (subst (λ (m : ℕ). AreNotesSoFar m (G.servers d.vault) found.notes) h.number notes) (held_is ∙ ap (with_clock found) next_is) volume l in
     let e : Entry = entry_again clock in

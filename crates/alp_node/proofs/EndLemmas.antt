@@ -38,10 +38,10 @@ use Rattle.alp_journal.specs.Holder.{Life, new_life}
 use Rattle.alp_journal.specs.Counts.{lock_set}
 use Rattle.alp_journal.specs.Moves.{next_trans}
 use Rattle.alp_journal.specs.Answers.{too_many, is_counted, count_of_transactions, if_over}
-use Rattle.alp_journal.specs.Alone.{Alone, alone, IsQuiet, IsPaired, IsPartOf, IsOfPart, Leads}
+use Rattle.alp_journal.specs.Account.{Account, state_of, IsQuiet, IsPaired, IsPartOf, IsOfPart, Leads}
 use Rattle.alp_journal.proofs.IdLemmas.{same_trans-true}
-use Rattle.alp_journal.proofs.AloneBegins.{hello_entry, with_hello, hello_leads, with_begun, begin_leads, is_buried, unburied, with_buried_as, with_buried, begin_refused_leads}
-use Rattle.alp_journal.proofs.AloneCollects.{none_dead}
+use Rattle.alp_journal.proofs.BeginCalls.{hello_entry, with_hello, hello_leads, with_begun, begin_leads, is_buried, unburied, with_buried_as, with_buried, begin_refused_leads}
+use Rattle.alp_journal.proofs.CollectCalls.{none_dead}
 use Rattle.alp_node.specs.Dead.{dead_in, without_client}
 use Rattle.alp_node.specs.Decisions.{HaveEnds}
 use Rattle.alp_node.specs.Sessions.{session_at, with_session}
@@ -72,7 +72,7 @@ one_more server epoch n =
 
 -- ---- a greeting
 
-pub hello_stepped : {V : Type 0} (a : Alone) (before now : ℕ) (held : Contents) (k : ServerState V) (client : ℕ) (name : List ℕ) (x : Answer) → IsAs a held k → client ≤ 16 → k.is_down ≡ false → session_at k.sessions client ≡ None
+pub hello_stepped : {V : Type 0} (a : Account) (before now : ℕ) (held : Contents) (k : ServerState V) (client : ℕ) (name : List ℕ) (x : Answer) → IsAs a held k → client ≤ 16 → k.is_down ≡ false → session_at k.sessions client ≡ None
     → x ≡ told_answer (Some (reply.Welcome k.epoch)) []
     → Stepped a before now held (record k { sessions = with_session k.sessions client (record { who = name; last = 1; reply = reply.Welcome k.epoch }) }) (event.Call client 0 1 (call.Hello name)) x
 hello_stepped a before now held k client name x h le up first is =
@@ -139,7 +139,7 @@ kept_live cells locks rs t None (Some life) h = absurd h
 kept_live cells locks rs t (Some l) None h = absurd h
 
 -- so many are counted as are live
-pub count_live : {V : Type 0} (a : Alone) (held : Contents) (k : ServerState V) → IsAs a held k → count_of_transactions (alone a) ≡ map.len k.lives
+pub count_live : {V : Type 0} (a : Account) (held : Contents) (k : ServerState V) → IsAs a held k → count_of_transactions (state_of a) ≡ map.len k.lives
 count_live a held k h =
     let count : length (filter (λ t. is_counted (a.fates t)) a.begun) ≡ map.len k.lives =
     ap (λ (ts : List TransId). length ts) (begun_now a held k h (λ t. is_counted (a.fates t)) (λ t gone. counted_live (a.holder.lives t) (a.fates t) (h.quiet.settled.paired t) ∙ ap (λ (x : Option Life). is_some x) gone))
@@ -148,18 +148,18 @@ count_live a held k h =
     omega (arith, count)
 
 -- fewer than 64 are live
-few_live : {V : Type 0} (a : Alone) (held : Contents) (k : ServerState V) → IsAs a held k → map.len k.lives < 64 → too_many (alone a) ≡ None
+few_live : {V : Type 0} (a : Account) (held : Contents) (k : ServerState V) → IsAs a held k → map.len k.lives < 64 → too_many (state_of a) ≡ None
 few_live a held k h few =
     ap (λ (b : Bool). if_over b (refusal.TooMany what.Transactions 64)) (ap (nat_le 64) (count_live a held k h) ∙ not_reached 64 (map.len k.lives) few)
 
 -- as many are live as may be
-many_live : {V : Type 0} (a : Alone) (held : Contents) (k : ServerState V) → IsAs a held k → 64 ≤ map.len k.lives → too_many (alone a) ≡ Some (refusal.TooMany what.Transactions 64)
+many_live : {V : Type 0} (a : Account) (held : Contents) (k : ServerState V) → IsAs a held k → 64 ≤ map.len k.lives → too_many (state_of a) ≡ Some (refusal.TooMany what.Transactions 64)
 many_live a held k h many =
     ap (λ (b : Bool). if_over b (refusal.TooMany what.Transactions 64)) (ap (nat_le 64) (count_live a held k h) ∙ le-leb 64 (map.len k.lives) many)
 
 -- ---- calls of dead parts go
 
-module _ {V : Type 0} (a : Alone) (held : Contents) (k : ServerState V) (client : ℕ) (h : IsAs a held k) where
+module _ {V : Type 0} (a : Account) (held : Contents) (k : ServerState V) (client : ℕ) (h : IsAs a held k) where
   -- what the journal says of the part of each call
   abbrev IsPartHere : WaitingCall → Type 0
   IsPartHere v = (file_trans v.call ≡ Some v.trans) × IsPartOf v.client (a.holder.lives v.trans) (a.dead v.client v.trans)
@@ -231,7 +231,7 @@ dead_buried client ds d u = go (d == client) refl
     go true e = ap (λ (b : Bool). cond {A = Option Cause} b (Some cause.TimedOut) None) (sym (none_left ds d client u (eqb-true d client e)))
     go false e = ap (λ (b : Bool). cond {A = Option Cause} b (Some cause.TimedOut) None) (sym (others_left ds d client u e))
 
-module _ {V : Type 0} (a : Alone) (held : Contents) (k : ServerState V) (client number : ℕ) (w : Session) (r : Reply) where
+module _ {V : Type 0} (a : Account) (held : Contents) (k : ServerState V) (client number : ℕ) (w : Session) (r : Reply) where
   -- the client's dead parts go as it is answered
   abbrev pub buried_kept : ServerState V
   buried_kept = record k { sessions = with_session k.sessions client (record w { last = number; reply = r }); dead = without_client client k.dead; waits = live_calls client k.lives k.waits }
@@ -268,7 +268,7 @@ module _ {V : Type 0} (a : Alone) (held : Contents) (k : ServerState V) (client 
     down = sym up;
   }
 
-module _ {V : Type 0} (a : Alone) (held : Contents) (k : ServerState V) (client number : ℕ) (w : Session) (seen : Stamp) where
+module _ {V : Type 0} (a : Account) (held : Contents) (k : ServerState V) (client number : ℕ) (w : Session) (seen : Stamp) where
   -- as many are live as may be: the begin is refused, and the client's dead parts go
   pub begin_refused_stepped : (before now : ℕ) (x : Answer) → IsAs a held k → client ≤ 16 → k.is_down ≡ false → session_at k.sessions client ≡ Some w → number ≡ w.last + 1 → 64 ≤ map.len k.lives → AreNamed k.waits
       → x ≡ refused_answer (refusal.TooMany what.Transactions 64) []
@@ -279,7 +279,7 @@ module _ {V : Type 0} (a : Alone) (held : Contents) (k : ServerState V) (client 
       stepped_so a before now held held k (buried_kept a held k client number w (reply.Refused f)) client number w (call.Begin seen) false (reply.Refused f) [] (with_buried a client number w f) x is h leads
       (buried_as a held k client number w (reply.Refused f) h le up named leads.quiet) (λ e. cc) (omega (arith, h.clock))
 
-module _ {V : Type 0} (a : Alone) (held : Contents) (k : ServerState V) (client number : ℕ) (w : Session) (seen : Stamp) (p : Part) where
+module _ {V : Type 0} (a : Account) (held : Contents) (k : ServerState V) (client number : ℕ) (w : Session) (seen : Stamp) (p : Part) where
   abbrev pub begun_trans : TransId
   begun_trans = record { server = k.server; epoch = k.epoch; counter = k.drawn + 1 }
 
@@ -298,7 +298,7 @@ module _ {V : Type 0} (a : Alone) (held : Contents) (k : ServerState V) (client 
     locks = locks;
   }
 
-  trans_same : IsAs a held k → next_trans (alone a) ≡ begun_trans
+  trans_same : IsAs a held k → next_trans (state_of a) ≡ begun_trans
   trans_same h = λ i. record { server = h.server i; epoch = h.epoch i; counter = h.drawn i + 1 }
 
   begun_alike : (locks : Holders) → map.get k.lives begun_trans ≡ None → ((u : TransId) (r : Resource) → holding locks u r ≡ holding k.locks.held u r) → own_of p ≡ no_opens → p.intents ≡ no_intents → p.counts ≡ no_counts → IsAs a held k
@@ -380,11 +380,11 @@ module _ {V : Type 0} (a : Alone) (held : Contents) (k : ServerState V) (client 
       → x ≡ told_answer (Some (reply.Begun begun_trans)) (act.Drawn begun_trans ∷ [])
       → Stepped a before now held (with_begun_kept locks) (event.Call client k.epoch number (call.Begin seen)) x
   begin_stepped before now x locks h le up there turn few new same opens none idle long named away waiting beside is =
-      let next : next_trans (alone a) ≡ begun_trans = trans_same h in
-      let undrawn : a.fates (next_trans (alone a)) ≡ Undrawn = h.undrawn (next_trans (alone a)) (subst (λ (n : ℕ). is_beyond a.holder.server a.ids.epoch n (next_trans (alone a)) ≡ true) h.drawn (beyond_next a.holder.server a.ids.epoch a.ids.transactions)) in
+      let next : next_trans (state_of a) ≡ begun_trans = trans_same h in
+      let undrawn : a.fates (next_trans (state_of a)) ≡ Undrawn = h.undrawn (next_trans (state_of a)) (subst (λ (n : ℕ). is_beyond a.holder.server a.ids.epoch n (next_trans (state_of a)) ≡ true) h.drawn (beyond_next a.holder.server a.ids.epoch a.ids.transactions)) in
       let leads = begin_leads a client number w seen h.quiet (h.down ∙ up) (h.sessions client ∙ there) turn undrawn (few_live a held k h few) in
-      let m : Alone = with_begun a client number w seen in
-      let away_next : AreOthers (next_trans (alone a)) k.waits = subst (λ (t : TransId). AreOthers t k.waits) (sym next) away in
+      let m : Account = with_begun a client number w seen in
+      let away_next : AreOthers (next_trans (state_of a)) k.waits = subst (λ (t : TransId). AreOthers t k.waits) (sym next) away in
       let counted : Session = record w { last = number; reply = reply.Begun begun_trans } in
       let kept : IsAs m held (with_begun_kept locks) = record {
         server = h.server;
@@ -401,9 +401,9 @@ module _ {V : Type 0} (a : Alone) (held : Contents) (k : ServerState V) (client 
         lives = subst (λ (t : TransId). (u : TransId) → IsAlike a.holder.cells locks.held (lock_set a.locked t [] u) u (map.get (map.insert k.lives begun_trans begun_live) u) (cond {A = Option Life} (same_trans u t) (Some (new_life None client w.who)) (a.holder.lives u))) (sym next)
             (begun_alike locks.held new same opens none idle h);
         room = added_room k.sizes a.holder.cells k.lives begun_trans begun_live new idle h.room;
-        unborn = each_set (λ l. PutNoneBeyond a.holder.server a.ids.epoch k.given l.edits) (next_trans (alone a)) (Some (new_life None client w.who)) a.holder.lives h.unborn
+        unborn = each_set (λ l. PutNoneBeyond a.holder.server a.ids.epoch k.given l.edits) (next_trans (state_of a)) (Some (new_life None client w.who)) a.holder.lives h.unborn
             (λ l at f comes. ap (λ (y : Life). edits_at y.edits (Leader f) None) (sym (same-some (new_life None client w.who) l at)));
-        current = each_set_at (λ u l. u.epoch ≡ a.ids.epoch) (next_trans (alone a)) (Some (new_life None client w.who)) a.holder.lives h.current (λ l at. refl);
+        current = each_set_at (λ u l. u.epoch ≡ a.ids.epoch) (next_trans (state_of a)) (Some (new_life None client w.who)) a.holder.lives h.current (λ l at. refl);
         drawn = ap (λ (n : ℕ). n + 1) h.drawn;
         begun = record {
           early = h.begun.early;
@@ -413,7 +413,7 @@ module _ {V : Type 0} (a : Alone) (held : Contents) (k : ServerState V) (client 
               ∙ ap (λ (ts : List TransId). h.begun.early ++ ts) (one_more a.holder.server a.ids.epoch k.drawn);
         };
         undrawn = subst (λ (n : ℕ). (t : TransId) → is_beyond a.holder.server a.ids.epoch (n + 1) t ≡ true
-            → cond {A = Fate} (same_trans (next_trans (alone a)) t) (fate.begun client (a.fates t)) (a.fates t) ≡ Undrawn) h.drawn
+            → cond {A = Fate} (same_trans (next_trans (state_of a)) t) (fate.begun client (a.fates t)) (a.fates t) ≡ Undrawn) h.drawn
             (undrawn_then a.holder.server a.ids.epoch a.ids.transactions a.fates (subst (λ (n : ℕ). (t : TransId) → is_beyond a.holder.server a.ids.epoch n t ≡ true → a.fates t ≡ Undrawn) (sym h.drawn) h.undrawn));
         ends = subst (λ (n : ℕ). HaveEnds a.holder.server a.ids.epoch (n + 1) (k.decisions ++ 0 ∷ []) m.fates) h.drawn
             (ends_begin a.holder.server a.ids.epoch a.ids.transactions k.decisions a.fates client (long ∙ sym h.drawn) undrawn (subst (λ (n : ℕ). HaveEnds a.holder.server a.ids.epoch n k.decisions a.fates) (sym h.drawn) h.ends));
@@ -424,15 +424,15 @@ module _ {V : Type 0} (a : Alone) (held : Contents) (k : ServerState V) (client 
         earlier = h.earlier;
         waits = waits_left a held k client h named ∙ ap waiting_calls (stays_alike k.waits away);
         queue = waiting ∙ h.queue ∙ sym (queue_left a held k client h named)
-            ∙ sym (queue_beside a.holder m.holder k.locks.held locks.held (next_trans (alone a)) refl (λ u apart. ap (λ (b : Bool). cond {A = Option Life} b (Some (new_life None client w.who)) (a.holder.lives u)) apart) (λ u apart. beside u) (unburied a client)
-            (each-filter (λ (v : Waiting). is_of (next_trans (alone a)) (file_trans v.call) ≡ false) (λ v. not (is_buried a client v)) a.waits
-            (subst (AllByRecursion (λ (v : Waiting). is_of (next_trans (alone a)) (file_trans v.call) ≡ false)) (sym h.waits) (others_told (next_trans (alone a)) k.waits named away_next))));
-        asked = asked_beside a.holder m.holder k.locks.held locks.held (next_trans (alone a)) refl (λ u apart. ap (λ (b : Bool). cond {A = Option Life} b (Some (new_life None client w.who)) (a.holder.lives u)) apart) (λ u apart. beside u)
-            a.locked (lock_set a.locked (next_trans (alone a)) []) (λ u apart. ap (λ (b : Bool). cond {A = List Resource} b [] (a.locked u)) apart) (live_calls client (map.insert k.lives begun_trans begun_live) k.waits)
-            (each-filter (λ (v : WaitingCall). same_trans v.trans (next_trans (alone a)) ≡ false) (stays client (map.insert k.lives begun_trans begun_live)) k.waits away_next)
+            ∙ sym (queue_beside a.holder m.holder k.locks.held locks.held (next_trans (state_of a)) refl (λ u apart. ap (λ (b : Bool). cond {A = Option Life} b (Some (new_life None client w.who)) (a.holder.lives u)) apart) (λ u apart. beside u) (unburied a client)
+            (each-filter (λ (v : Waiting). is_of (next_trans (state_of a)) (file_trans v.call) ≡ false) (λ v. not (is_buried a client v)) a.waits
+            (subst (AllByRecursion (λ (v : Waiting). is_of (next_trans (state_of a)) (file_trans v.call) ≡ false)) (sym h.waits) (others_told (next_trans (state_of a)) k.waits named away_next))));
+        asked = asked_beside a.holder m.holder k.locks.held locks.held (next_trans (state_of a)) refl (λ u apart. ap (λ (b : Bool). cond {A = Option Life} b (Some (new_life None client w.who)) (a.holder.lives u)) apart) (λ u apart. beside u)
+            a.locked (lock_set a.locked (next_trans (state_of a)) []) (λ u apart. ap (λ (b : Bool). cond {A = List Resource} b [] (a.locked u)) apart) (live_calls client (map.insert k.lives begun_trans begun_live) k.waits)
+            (each-filter (λ (v : WaitingCall). same_trans v.trans (next_trans (state_of a)) ≡ false) (stays client (map.insert k.lives begun_trans begun_live)) k.waits away_next)
             (each-filter (IsWaitingAs a.holder a.locked) (stays client (map.insert k.lives begun_trans begun_live)) k.waits h.asked);
         quiet = leads.quiet;
         down = sym up;
       } in
-      stepped_so a before now held held k (with_begun_kept locks) client number w (call.Begin seen) false (reply.Begun (next_trans (alone a))) (act.Drawn (next_trans (alone a)) ∷ []) m x
+      stepped_so a before now held held k (with_begun_kept locks) client number w (call.Begin seen) false (reply.Begun (next_trans (state_of a))) (act.Drawn (next_trans (state_of a)) ∷ []) m x
       (is ∙ ap (λ (t : TransId). told_answer (Some (reply.Begun t)) (act.Drawn t ∷ [])) (sym next)) h leads kept (λ e. cc) (omega (arith, h.clock))

@@ -16,7 +16,7 @@ use Rattle.alp_locks.specs.Releases.{released}
 use Rattle.alp_vault.specs.Contents.{Contents}
 use Rattle.alp_journal.specs.declared.act.Act.TheVariants as act
 use Rattle.alp_journal.specs.declared.event.Event.TheVariants as event
-use Rattle.alp_journal.specs.Alone.{Alone, alone, IsPaired, IsQuiet, Leads, with_granted, granted_calls, grant_acts}
+use Rattle.alp_journal.specs.Account.{Account, state_of, IsPaired, IsQuiet, Leads, with_granted, granted_calls, grant_acts}
 use Rattle.alp_journal.specs.Answered.{in_turn, IsWalk}
 use Rattle.alp_journal.specs.Coordinator.{Fate}
 use Rattle.alp_journal.specs.Coordinator as fate
@@ -24,8 +24,8 @@ use Rattle.alp_journal.specs.Desk.{Session, is_of_part, waiting_of}
 use Rattle.alp_journal.specs.Holder.{Life}
 use Rattle.alp_journal.specs.Ids.{same_trans}
 use Rattle.alp_journal.specs.Messages.{why_not_own}
-use Rattle.alp_journal.proofs.AloneEnds.{with_end, with_end_given, abort_leads, against_leads}
-use Rattle.alp_journal.proofs.AloneTimeouts.{timeout_entry, with_timeout, with_timeout_given, timeout_leads}
+use Rattle.alp_journal.proofs.OwnEnds.{with_end, with_end_given, abort_leads, against_leads}
+use Rattle.alp_journal.proofs.TimeoutLemmas.{timeout_entry, with_timeout, with_timeout_given, timeout_leads}
 use Rattle.alp_journal.proofs.WaitLemmas.{without-given}
 use Rattle.alp_turns.specs.Laws.{trans_in}
 use Rattle.alp_node.specs.Dead.{dead_in, is_dead, without_part}
@@ -45,7 +45,7 @@ use Rattle.alp_node.proofs.GoneLemmas.{Gone, gone, state_then, server_then, stat
 use Rattle.alp_node.proofs.KeptLemmas.{sessions_as, session_of, session_then, stands_timely, IsLive, live_there, stepped_so}
 use Rattle.alp_node.proofs.MapLemmas.{places_set}
 
-module _ {V : Type 0} (a : Alone) (before now : ℕ) (held : Contents) (k : ServerState V) (turn : Turn) (t : TransId) (l : Live) (m : ℕ) (on : Bool) (h : IsAs a held k) (ready : IsReady m on k) where
+module _ {V : Type 0} (a : Account) (before now : ℕ) (held : Contents) (k : ServerState V) (turn : Turn) (t : TransId) (l : Live) (m : ℕ) (on : Bool) (h : IsAs a held k) (ready : IsReady m on k) where
   -- who is granted, and the calls that wait on them
   woken_calls : (g : Gone a held k t) → granted_calls a.waits (granted_behind k t) ≡ g.given
   woken_calls g = ap (granted_calls a.waits) g.woken ∙ g.calls
@@ -85,7 +85,7 @@ module _ {V : Type 0} (a : Alone) (before now : ℕ) (held : Contents) (k : Serv
     ended_as : k.is_down ≡ false → IsQuiet (with_end_given a turn.client turn.number w t life c (granted_behind k t)) → IsAs (with_end_given a turn.client turn.number w t life c (granted_behind k t)) held (ended k turn t told)
     ended_as up quiet =
         subst (λ (z : ServerState V). IsAs (with_end_given a turn.client turn.number w t life c (granted_behind k t)) held z) (sym server_is)
-        (subst (λ (x : Alone). IsAs x held (server_told a held k t m on h ready g fates told_sessions told_dead (waits_left a held k t m on h ready g turn.client) (counted_in k.sessions turn told) (without_part turn.client t k.dead) (calls_left a held k t m on h ready g turn.client))) state_is
+        (subst (λ (x : Account). IsAs x held (server_told a held k t m on h ready g fates told_sessions told_dead (waits_left a held k t m on h ready g turn.client) (counted_in k.sessions turn told) (without_part turn.client t k.dead) (calls_left a held k t m on h ready g turn.client))) state_is
         (gone_as a held k t m on h ready g fates told_sessions told_dead (waits_left a held k t m on h ready g turn.client) (counted_in k.sessions turn told) (without_part turn.client t k.dead) (calls_left a held k t m on h ready g turn.client) up
         (still_undrawn a.holder.server a.ids.epoch k.drawn a.fates t (fate.ended c) refl h.undrawn)
         (ends_moved a.holder.server a.ids.epoch k.drawn k.decisions a.fates t (fate.ended c) (ended_still c) h.ends)
@@ -112,7 +112,7 @@ module _ {V : Type 0} (a : Alone) (before now : ℕ) (held : Contents) (k : Serv
             (ended_as is y.life cause.Asked g up leads.quiet) (λ e. cc)
             (subst (IsTimely a.holder.clock (event.Call turn.client k.epoch turn.number (call.Finish t false))) (sym (clock_then g)) (stands_timely a.holder.clock 0 k.clock h.clock))
 
-    pub against_stepped : (failed : Bool) (why : Why) (x : Answer) → (failed ≡ true → Rose before now) → waiting_of (alone a).desk turn.client t ≡ None → why_not_own failed (alone a) t ≡ Some why
+    pub against_stepped : (failed : Bool) (why : Why) (x : Answer) → (failed ≡ true → Rose before now) → waiting_of (state_of a).desk turn.client t ≡ None → why_not_own failed (state_of a) t ≡ Some why
         → x ≡ refused_answer (refusal.Aborted (cause.Voted k.server why)) (act.Released t ∷ grant_acts (granted_behind k t))
         → Stepped a before now held (ended k turn t (reply.Refused (refusal.Aborted (cause.Voted k.server why)))) (event.Call turn.client k.epoch turn.number (call.Finish t true)) x
     against_stepped failed why x rose idle not so = go (gone a held k t m on h ready)
@@ -132,7 +132,7 @@ module _ {V : Type 0} (a : Alone) (before now : ℕ) (held : Contents) (k : Serv
 
 -- ---- time runs out
 
-module _ {V : Type 0} (a : Alone) (before now : ℕ) (held : Contents) (k : ServerState V) (t : TransId) (m : ℕ) (on : Bool) (h : IsAs a held k) (ready : IsReady m on k) where
+module _ {V : Type 0} (a : Account) (before now : ℕ) (held : Contents) (k : ServerState V) (t : TransId) (m : ℕ) (on : Bool) (h : IsAs a held k) (ready : IsReady m on k) where
   module _ (l : Live) (life : Life) (g : Gone a held k t) where
     abbrev late_fates : TransId → Fate
     late_fates u = cond {A = Fate} (same_trans t u) (fate.ended cause.TimedOut (a.fates u)) (a.fates u)
@@ -148,7 +148,7 @@ module _ {V : Type 0} (a : Alone) (before now : ℕ) (held : Contents) (k : Serv
         → IsAs (with_timeout_given a t life (granted_behind k t)) held (record (let_go k t) { dead = k.dead ++ (record { client = l.client; trans = t }) ∷ [] })
     late_as its up quiet =
         subst (λ (z : ServerState V). IsAs (with_timeout_given a t life (granted_behind k t)) held z) (sym (ap (λ (z : ServerState V). record z { dead = k.dead ++ (record { client = l.client; trans = t }) ∷ [] }) (let_go_is a held k t m on h ready g)))
-        (subst (λ (x : Alone). IsAs x held (server_told a held k t m on h ready g late_fates a.sessions late_dead (state_then a held k t m on h ready g).waits k.sessions (k.dead ++ (record { client = l.client; trans = t }) ∷ []) (server_then a held k t m on h ready g).waits)) late_state
+        (subst (λ (x : Account). IsAs x held (server_told a held k t m on h ready g late_fates a.sessions late_dead (state_then a held k t m on h ready g).waits k.sessions (k.dead ++ (record { client = l.client; trans = t }) ∷ []) (server_then a held k t m on h ready g).waits)) late_state
         (gone_as a held k t m on h ready g late_fates a.sessions late_dead (state_then a held k t m on h ready g).waits k.sessions (k.dead ++ (record { client = l.client; trans = t }) ∷ []) (server_then a held k t m on h ready g).waits up
         (still_undrawn a.holder.server a.ids.epoch k.drawn a.fates t (fate.ended cause.TimedOut) refl h.undrawn)
         (ends_moved a.holder.server a.ids.epoch k.drawn k.decisions a.fates t (fate.ended cause.TimedOut) (ended_still cause.TimedOut) h.ends) h.places h.sessions

@@ -28,11 +28,11 @@ use Rattle.alp_journal.specs.Holder.{Life}
 use Rattle.alp_journal.specs.Counts.{lock_set}
 use Rattle.alp_journal.specs.Messages.{why_not_own}
 use Rattle.alp_journal.specs.Answers.{Part, NoPart, AtEnd, part_at, at_part, First, IsFinishAnswer, finish_reply}
-use Rattle.alp_journal.specs.Alone.{Alone, alone, IsPaired, IsQuiet, Leads}
+use Rattle.alp_journal.specs.Account.{Account, state_of, IsPaired, IsQuiet, Leads}
 use Rattle.alp_journal.proofs.IdLemmas.{same_trans-itself}
-use Rattle.alp_journal.proofs.AloneEntries.{counted_as, without_dead, unknown_finish_leads, dead_finish_leads}
-use Rattle.alp_journal.proofs.AloneTicks.{tick_leads, force_leads}
-use Rattle.alp_journal.proofs.AloneTimeouts.{as_it_was, idle_leads}
+use Rattle.alp_journal.proofs.RefusedCalls.{counted_as, without_dead, unknown_finish_leads, dead_finish_leads}
+use Rattle.alp_journal.proofs.TickLemmas.{tick_leads, force_leads}
+use Rattle.alp_journal.proofs.TimeoutLemmas.{as_it_was, idle_leads}
 use Rattle.alp_journal.proofs.QuietLemmas.{quiet_told, quiet_up, quiet_forgotten}
 use Rattle.alp_turns.proofs.MoveLemmas.{GoesIdle, queue_without}
 use Rattle.alp_node.specs.Dead.{dead_in, is_dead, without_part}
@@ -73,7 +73,7 @@ still_undrawn server epoch count fates t move still before u far = go (same_tran
     go true = ap move (before u far) ∙ still
     go false = before u far
 
-module _ {V : Type 0} (a : Alone) (held : Contents) (k : ServerState V) where
+module _ {V : Type 0} (a : Account) (held : Contents) (k : ServerState V) where
   -- the session of a turn is the journal's
   pub turn_session : (turn : Turn) → IsAs a held k → (is : IsTurn k.sessions turn) → a.sessions turn.client ≡ Some (session_of turn is)
   turn_session turn h is = h.sessions turn.client ∙ is.session
@@ -148,29 +148,29 @@ module _ {V : Type 0} (a : Alone) (held : Contents) (k : ServerState V) where
 
 -- ---- a Finish that ends nothing
 
-module _ {V : Type 0} (a : Alone) (before now : ℕ) (held : Contents) (k : ServerState V) (turn : Turn) (t : TransId) (commit : Bool) where
+module _ {V : Type 0} (a : Account) (before now : ℕ) (held : Contents) (k : ServerState V) (turn : Turn) (t : TransId) (commit : Bool) where
   -- what is answered where the server has no part of it
-  no_part_answer : IsAs a held k → standing_of turn.client (map.get k.lives t) (is_dead turn.client t k.dead) ≡ standing.Unknown → IsFinishAnswer false (alone a) turn.client t commit (reply.Refused refusal.UnknownTrans)
+  no_part_answer : IsAs a held k → standing_of turn.client (map.get k.lives t) (is_dead turn.client t k.dead) ≡ standing.Unknown → IsFinishAnswer false (state_of a) turn.client t commit (reply.Refused refusal.UnknownTrans)
   no_part_answer h unknown = go (t.server == a.holder.server)
     where
-      part : part_at (alone a) turn.client t ≡ NoPart
+      part : part_at (state_of a) turn.client t ≡ NoPart
       part = part_is a held k turn.client t h ∙ ap part_of unknown
 
-      go : (b : Bool) → Where b (First (at_part (commit && is_some (waiting_of (alone a).desk turn.client t)) (part_at (alone a) turn.client t)) (reply.Refused refusal.UnknownTrans)
-          (reply.Refused refusal.UnknownTrans ≡ cond {A = Reply} commit (finish_reply false (alone a) t (a.fates t)) (reply.Refused (refusal.Aborted cause.Asked))))
+      go : (b : Bool) → Where b (First (at_part (commit && is_some (waiting_of (state_of a).desk turn.client t)) (part_at (state_of a) turn.client t)) (reply.Refused refusal.UnknownTrans)
+          (reply.Refused refusal.UnknownTrans ≡ cond {A = Reply} commit (finish_reply false (state_of a) t (a.fates t)) (reply.Refused (refusal.Aborted cause.Asked))))
           (reply.Refused refusal.UnknownTrans ≡ reply.Refused refusal.UnknownTrans)
-      go true = subst (λ (p : Part). First (at_part (commit && is_some (waiting_of (alone a).desk turn.client t)) p) (reply.Refused refusal.UnknownTrans)
-          (reply.Refused refusal.UnknownTrans ≡ cond {A = Reply} commit (finish_reply false (alone a) t (a.fates t)) (reply.Refused (refusal.Aborted cause.Asked)))) (sym part) refl
+      go true = subst (λ (p : Part). First (at_part (commit && is_some (waiting_of (state_of a).desk turn.client t)) p) (reply.Refused refusal.UnknownTrans)
+          (reply.Refused refusal.UnknownTrans ≡ cond {A = Reply} commit (finish_reply false (state_of a) t (a.fates t)) (reply.Refused (refusal.Aborted cause.Asked)))) (sym part) refl
       go false = refl
 
   -- another server's transaction is none of this one's
-  elsewhere_answer : (t.server == a.holder.server) ≡ false → IsFinishAnswer false (alone a) turn.client t commit (reply.Refused refusal.UnknownTrans)
-  elsewhere_answer away = subst (λ (b : Bool). Where b (First (at_part (commit && is_some (waiting_of (alone a).desk turn.client t)) (part_at (alone a) turn.client t)) (reply.Refused refusal.UnknownTrans)
-      (reply.Refused refusal.UnknownTrans ≡ cond {A = Reply} commit (finish_reply false (alone a) t (a.fates t)) (reply.Refused (refusal.Aborted cause.Asked))))
+  elsewhere_answer : (t.server == a.holder.server) ≡ false → IsFinishAnswer false (state_of a) turn.client t commit (reply.Refused refusal.UnknownTrans)
+  elsewhere_answer away = subst (λ (b : Bool). Where b (First (at_part (commit && is_some (waiting_of (state_of a).desk turn.client t)) (part_at (state_of a) turn.client t)) (reply.Refused refusal.UnknownTrans)
+      (reply.Refused refusal.UnknownTrans ≡ cond {A = Reply} commit (finish_reply false (state_of a) t (a.fates t)) (reply.Refused (refusal.Aborted cause.Asked))))
       (reply.Refused refusal.UnknownTrans ≡ reply.Refused refusal.UnknownTrans)) (sym away) refl
 
-  unknown_so : (x : Answer) (h : IsAs a held k) (is : IsTurn k.sessions turn) → k.is_down ≡ false → EndsNone turn.client t commit (alone a).desk (reply.Refused refusal.UnknownTrans) (a.fates t)
-      → IsFinishAnswer false (alone a) turn.client t commit (reply.Refused refusal.UnknownTrans) → x ≡ refused_answer refusal.UnknownTrans []
+  unknown_so : (x : Answer) (h : IsAs a held k) (is : IsTurn k.sessions turn) → k.is_down ≡ false → EndsNone turn.client t commit (state_of a).desk (reply.Refused refusal.UnknownTrans) (a.fates t)
+      → IsFinishAnswer false (state_of a) turn.client t commit (reply.Refused refusal.UnknownTrans) → x ≡ refused_answer refusal.UnknownTrans []
       → Stepped a before now held (record k { sessions = counted_in k.sessions turn (reply.Refused refusal.UnknownTrans) }) (event.Call turn.client k.epoch turn.number (call.Finish t commit)) x
   unknown_so x h is up none why so =
       let w : Session = session_of turn is in
@@ -190,7 +190,7 @@ module _ {V : Type 0} (a : Alone) (before now : ℕ) (held : Contents) (k : Serv
       → Stepped a before now held (record k { sessions = counted_in k.sessions turn (reply.Refused refusal.UnknownTrans) }) (event.Call turn.client k.epoch turn.number (call.Finish t commit)) x
   elsewhere_stepped x h is up away so =
       let far : (t.server == a.holder.server) ≡ false = ne_eqb t.server a.holder.server (λ e. away (e ∙ h.server)) in
-      unknown_so x h is up (subst (EndsNone turn.client t commit (alone a).desk (reply.Refused refusal.UnknownTrans)) (sym (undrawn_elsewhere a held k turn.client t h far)) (none_running turn.client t commit (alone a).desk (reply.Refused refusal.UnknownTrans) Undrawn tt))
+      unknown_so x h is up (subst (EndsNone turn.client t commit (state_of a).desk (reply.Refused refusal.UnknownTrans)) (sym (undrawn_elsewhere a held k turn.client t h far)) (none_running turn.client t commit (state_of a).desk (reply.Refused refusal.UnknownTrans) Undrawn tt))
       (elsewhere_answer far) so
 
   -- it timed out, and its client is told
@@ -202,12 +202,12 @@ module _ {V : Type 0} (a : Alone) (before now : ℕ) (held : Contents) (k : Serv
       let named : AllByRecursion (λ (v : WaitingCall). file_trans v.call ≡ Some v.trans) k.waits = named_each k.server k.epoch k.given k.drawn k.sizes k.lives k.waits ready.waits.calls in
       let gone : a.holder.lives t ≡ None = none_live a.holder.cells k.locks.held (a.locked t) t (map.get k.lives t) (a.holder.lives t) (dead_gone turn.client (map.get k.lives t) (is_dead turn.client t k.dead) dead) (h.lives t) in
       let r : Reply = reply.Refused (refusal.Aborted cause.TimedOut) in
-      let none : EndsNone turn.client t commit (alone a).desk r (a.fates t) = finish_none a held k turn.client t commit r h (λ own. let wrong : standing.Dead ≡ standing.Own = sym dead ∙ own in cc) in
-      let part : part_at (alone a) turn.client t ≡ AtEnd cause.TimedOut = part_is a held k turn.client t h ∙ ap part_of dead in
-      let why : IsFinishAnswer false (alone a) turn.client t commit r = subst (λ (b : Bool). Where b (First (at_part (commit && is_some (waiting_of (alone a).desk turn.client t)) (part_at (alone a) turn.client t)) r
-      (r ≡ cond {A = Reply} commit (finish_reply false (alone a) t (a.fates t)) (reply.Refused (refusal.Aborted cause.Asked))))
+      let none : EndsNone turn.client t commit (state_of a).desk r (a.fates t) = finish_none a held k turn.client t commit r h (λ own. let wrong : standing.Dead ≡ standing.Own = sym dead ∙ own in cc) in
+      let part : part_at (state_of a) turn.client t ≡ AtEnd cause.TimedOut = part_is a held k turn.client t h ∙ ap part_of dead in
+      let why : IsFinishAnswer false (state_of a) turn.client t commit r = subst (λ (b : Bool). Where b (First (at_part (commit && is_some (waiting_of (state_of a).desk turn.client t)) (part_at (state_of a) turn.client t)) r
+      (r ≡ cond {A = Reply} commit (finish_reply false (state_of a) t (a.fates t)) (reply.Refused (refusal.Aborted cause.Asked))))
       (r ≡ reply.Refused refusal.UnknownTrans)) (sym (eq-eqb t.server a.holder.server (here ∙ sym h.server)))
-      (subst (λ (p : Part). First (at_part (commit && is_some (waiting_of (alone a).desk turn.client t)) p) r (r ≡ cond {A = Reply} commit (finish_reply false (alone a) t (a.fates t)) (reply.Refused (refusal.Aborted cause.Asked)))) (sym part) refl) in
+      (subst (λ (p : Part). First (at_part (commit && is_some (waiting_of (state_of a).desk turn.client t)) p) r (r ≡ cond {A = Reply} commit (finish_reply false (state_of a) t (a.fates t)) (reply.Refused (refusal.Aborted cause.Asked)))) (sym part) refl) in
       let now_as : IsAs (counted_as a turn.client turn.number w r) held (record k { sessions = counted_in k.sessions turn r }) = counts_as a held k turn r h is up in
       stepped_so a before now held held k (record k { sessions = counted_in k.sessions turn (reply.Refused (refusal.Aborted cause.TimedOut)); dead = without_part turn.client t k.dead; waits = without_calls_of turn.client t k.waits }) turn.client turn.number w (call.Finish t commit) false r []
       (without_dead a turn.client turn.number w t (counted_as a turn.client turn.number w r)) x so h
@@ -246,7 +246,7 @@ module _ {V : Type 0} (a : Alone) (before now : ℕ) (held : Contents) (k : Serv
 
 -- ---- time runs out for none that is live
 
-module _ {V : Type 0} (a : Alone) (before now : ℕ) (held : Contents) (k : ServerState V) (t : TransId) where
+module _ {V : Type 0} (a : Account) (before now : ℕ) (held : Contents) (k : ServerState V) (t : TransId) where
   pub idle_stepped : (x : Answer) → IsAs a held k → k.is_down ≡ false → map.get k.lives t ≡ None → x ≡ told_answer None [] → Stepped a before now held k (event.Timeout t) x
   idle_stepped x h up none so = record {
     failed = false;
@@ -290,7 +290,7 @@ module _ {V : Type 0} (a : Alone) (before now : ℕ) (held : Contents) (k : Serv
 -- ---- a tick, and a force
 
 -- nothing comes about
-pub bare_stepped : {V : Type 0} (a : Alone) (faults : ℕ) (held : Contents) (k : ServerState V) (e : Event) (x : Answer) → IsAs a held k → k.is_down ≡ false → IsIdleEvent e → x ≡ told_answer None []
+pub bare_stepped : {V : Type 0} (a : Account) (faults : ℕ) (held : Contents) (k : ServerState V) (e : Event) (x : Answer) → IsAs a held k → k.is_down ≡ false → IsIdleEvent e → x ≡ told_answer None []
     → Stepped a faults faults held k e x
 bare_stepped {V} a faults held k e x h up idle so = go e idle
   where

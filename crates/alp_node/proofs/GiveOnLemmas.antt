@@ -18,7 +18,7 @@ use Rattle.alp_locks.specs.Tables.{Holders, holding}
 use Rattle.alp_trans.specs.Counting.{AreCountsOf}
 use Rattle.alp_trans.specs.Parts.{own_of}
 use Rattle.alp_trans.specs.declared.part.Part.{Part}
-use Rattle.alp_journal.specs.Alone.{Alone, with_granted, call_on, is_on_trans}
+use Rattle.alp_journal.specs.Account.{Account, with_granted, call_on, is_on_trans}
 use Rattle.alp_journal.specs.Answers.{more_locks}
 use Rattle.alp_journal.specs.Counts.{lock_set, request_in, with_resources}
 use Rattle.alp_journal.specs.Desk.{Waiting, file_trans, grant_in, is_of as is_of_trans}
@@ -106,7 +106,7 @@ alike_with_held cells h locks locked t (Some l) None held at a = absurd a
 
 -- The live parts and the waiting calls are as the journal tells them. The counts of parts go by `cells`, and there is room for them beside
 -- those of `room`; and this is so of what each part did.
-pub record AreKept {V : Type 0} (P : TransId → Part → List Edit → Type 0) (cells : Cells) (sizes : Sizes) (room : Cells) (a : Alone) (k : ServerState V) : Type 0 where
+pub record AreKept {V : Type 0} (P : TransId → Part → List Edit → Type 0) (cells : Cells) (sizes : Sizes) (room : Cells) (a : Account) (k : ServerState V) : Type 0 where
   pub lives : (t : TransId) → IsAlikeApart cells (a.locked t) (map.get k.lives t) (a.holder.lives t)
   pub waits : a.waits ≡ waiting_calls k.waits
   pub named : AllByRecursion (λ (w : WaitingCall). file_trans w.call ≡ Some w.trans) k.waits
@@ -185,9 +185,9 @@ marked_alike t (w ∷ ws) all = (λ i. one i ∷ marked_alike t ws all.1 i)
     one : grant_in t (waiting w) ≡ waiting (grant_one t w)
     one = ap (λ (x : Option TransId). cond {A = Waiting} (is_of_trans t x) (record (waiting w) { is_granted = true }) (waiting w)) all.0 ∙ go (same_trans w.trans t)
 
-module _ {V : Type 0} (P : TransId → Part → List Edit → Type 0) (cells : Cells) (sizes : Sizes) (room : Cells) (a : Alone) (k : ServerState V) (t : TransId) (c : Call) where
+module _ {V : Type 0} (P : TransId → Part → List Edit → Type 0) (cells : Cells) (sizes : Sizes) (room : Cells) (a : Account) (k : ServerState V) (t : TransId) (c : Call) where
   -- the journal behind the grant
-  abbrev pub granted_state : Alone
+  abbrev pub granted_state : Account
   granted_state = record a {
     holder = grants a.holder t c (a.holder.lives t);
     locked = lock_set a.locked t (with_resources (request_in a.holder c (a.holder.lives t)) (a.locked t));
@@ -269,7 +269,7 @@ module _ {V : Type 0} (P : TransId → Part → List Edit → Type 0) (cells : C
         }
 
     -- the state where the part is known to live
-    abbrev state_with : Option Life → Alone
+    abbrev state_with : Option Life → Account
     state_with z = record a {
       holder = grants a.holder t c z;
       locked = lock_set a.locked t (with_resources (request_in a.holder c z) (a.locked t));
@@ -378,7 +378,7 @@ module _ {V : Type 0} (P : TransId → Part → List Edit → Type 0) (cells : C
 -- ---- one after the other
 
 module _ {V : Type 0} (P : TransId → Part → List Edit → Type 0) (cells : Cells) (sizes : Sizes) (room : Cells) where
-  pub all_granted : (gs : List (TransId × Call)) (a : Alone) (k : ServerState V) → AreKept P cells sizes room a k → AllByRecursion (HasCall k) gs
+  pub all_granted : (gs : List (TransId × Call)) (a : Account) (k : ServerState V) → AreKept P cells sizes room a k → AllByRecursion (HasCall k) gs
       → AreKept P cells sizes room (with_granted a gs) (granted_all k (list_map (λ (g : TransId × Call). g.0) gs))
   all_granted [] a k h all = h
   all_granted (g ∷ gs) a k h all = all_granted gs (granted_state P cells sizes room a k g.0 g.1) (granted_one k g.0) (grant_kept P cells sizes room a k g.0 g.1 h all.0) (each_there gs all.1)

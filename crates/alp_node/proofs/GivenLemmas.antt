@@ -17,7 +17,7 @@ use Rattle.alp_journal.specs.declared.event.Event.{Event}
 use Rattle.alp_journal.specs.Moves.{is_stop}
 use Rattle.alp_journal.specs.Answered.{is_fault_reply}
 use Rattle.alp_vault.specs.declared.vault.Vault.{Ghosts}
-use Rattle.alp_journal.specs.Alone.{alone}
+use Rattle.alp_journal.specs.Account.{state_of}
 use Rattle.alp_calls.specs.Looks.{IsLeft}
 use Rattle.alp_calls.specs.Parts.{is_full}
 use Rattle.alp_node.specs.Durable.{said_by, Leaves, Besides, NoOther}
@@ -123,7 +123,7 @@ module _ {V : Type 0} (G : Ghosts V) (old new : ServerState V) where
     seat = seat;
     turned = λ up. IfOk-from_err r (λ x. HasTurned o old new e x.kept) err;
     leaves = λ told a h.
-        match_err r (λ x. Leaves G old.vault new.vault (Besides G old.vault (λ c. c ≡ said_by (alone a) (entry_of e x)))) (λ _. Leaves G old.vault new.vault (Besides G old.vault NoOther)) err (λ _. left_leaves G old.vault new.vault NoOther left);
+        match_err r (λ x. Leaves G old.vault new.vault (Besides G old.vault (λ c. c ≡ said_by (state_of a) (entry_of e x)))) (λ _. Leaves G old.vault new.vault (Besides G old.vault NoOther)) err (λ _. left_leaves G old.vault new.vault NoOther left);
   }
 
   -- that of a session's next call

@@ -27,7 +27,7 @@ use Rattle.alp_queue.specs.Order.{without as without_of}
 use Rattle.alp_queue.specs.declared.waiter.Waiter.{Waiter}
 use Rattle.alp_trans.specs.declared.part.Part.{Part}
 use Rattle.alp_vault.specs.Contents.{Contents}
-use Rattle.alp_journal.specs.Alone.{Alone, AreApart, AreTwo, IsSettled, IsQuiet, with_granted, granted_calls, call_on, is_on_trans, holder_granted, waits_granted}
+use Rattle.alp_journal.specs.Account.{Account, AreApart, AreTwo, IsSettled, IsQuiet, with_granted, granted_calls, call_on, is_on_trans, holder_granted, waits_granted}
 use Rattle.alp_journal.specs.Answered.{in_turn, IsWalk, IsWaitingFor}
 use Rattle.alp_journal.specs.Counts.{lock_set, request_in, with_resources}
 use Rattle.alp_journal.specs.Coordinator.{Fate, Undrawn}
@@ -204,12 +204,12 @@ idle_calls h parts client t none (w ∷ ws) named = (one, idle_calls h parts cli
 
 -- ---- the part goes
 
-module _ {V : Type 0} (a : Alone) (held : Contents) (k : ServerState V) (t : TransId) (cells : Cells) (clock kept : ℕ) (applied : List (Stamp × Decided)) (left : List (Stamp × List Edit)) where
+module _ {V : Type 0} (a : Account) (held : Contents) (k : ServerState V) (t : TransId) (cells : Cells) (clock kept : ℕ) (applied : List (Stamp × Decided)) (left : List (Stamp × List Edit)) where
   -- the holder with these cells, where the part is gone
   abbrev pub holder_gone : Holder
   holder_gone = with_life (record a.holder { cells = cells; clock = clock; kept = kept; applied = applied; left = left }) t None
 
-  abbrev pub state_gone : Alone
+  abbrev pub state_gone : Account
   state_gone = record a { holder = holder_gone; locked = lock_set a.locked t [] }
 
   abbrev pub table_gone : Holders
@@ -365,7 +365,7 @@ module _ {V : Type 0} (a : Alone) (held : Contents) (k : ServerState V) (t : Tra
 
 -- ---- a part ends without effect: the server behind it
 
-module _ {V : Type 0} (a : Alone) (held : Contents) (k : ServerState V) (t : TransId) where
+module _ {V : Type 0} (a : Account) (held : Contents) (k : ServerState V) (t : TransId) where
   abbrev none_beyond : TransId → Part → List Edit → Type 0
   none_beyond u p es = PutNoneBeyond a.holder.server a.ids.epoch k.given es × (u.epoch ≡ a.ids.epoch)
 
@@ -379,7 +379,7 @@ module _ {V : Type 0} (a : Alone) (held : Contents) (k : ServerState V) (t : Tra
         (gone_room k.sizes a.holder.cells k.lives t h.room)
 
     module _ (g : Gone) where
-      abbrev pub state_then : Alone
+      abbrev pub state_then : Account
       state_then = with_granted (state_gone a held k t a.holder.cells a.holder.clock a.holder.kept a.holder.applied a.holder.left) g.given
 
       abbrev pub server_then : ServerState V
@@ -390,7 +390,7 @@ module _ {V : Type 0} (a : Alone) (held : Contents) (k : ServerState V) (t : Tra
 
       -- with these fates, sessions, ends that are to be told, and waiting calls
       module _ (fates : TransId → Fate) (sessions : ℕ → Option Session) (dead : ℕ → TransId → Option Cause) (waits : List Waiting) (kept_sessions : Sessions) (kept_dead : List DeadPart) (kept_waits : List WaitingCall) where
-        abbrev pub state_told : Alone
+        abbrev pub state_told : Account
         state_told = record state_then { fates = fates; sessions = sessions; dead = dead; waits = waits; is_down = false; pending = [] }
 
         abbrev pub server_told : ServerState V

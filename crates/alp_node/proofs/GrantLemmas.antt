@@ -35,7 +35,7 @@ use Rattle.alp_calls.specs.Parts.{GivesOnly}
 use Rattle.alp_vault.specs.Contents.{Contents}
 use Rattle.alp_journal.specs.Moves.{is_of_no_file}
 use Rattle.alp_journal.specs.Moves as journal
-use Rattle.alp_journal.specs.Alone.{Alone, alone}
+use Rattle.alp_journal.specs.Account.{Account, state_of}
 use Rattle.alp_node.specs.Asks.{is_of_given, is_given, IsGivenOn, AreGiven, asks_made, asks_given, makes_file, is_made, plan_if, plan_for, count_made, plan_of, with_plan}
 use Rattle.alp_node.specs.Calls.{next_file}
 use Rattle.alp_node.specs.ServerState.{IsAs, IsReady}
@@ -97,13 +97,13 @@ made_locked under f = right-above (under (Whole f)) (held_by ((Whole f, Write) �
 -- ---- ids
 
 -- an open of a file that was given is performed
-pub of_given : {V : Type 0} (a : Alone) (held : Contents) (k : ServerState V) (c : Call) (r : Reply) → IsAs a held k → is_of_given k.server k.epoch k.given c ≡ true → is_of_no_file (alone a) c r ≡ false
+pub of_given : {V : Type 0} (a : Account) (held : Contents) (k : ServerState V) (c : Call) (r : Reply) → IsAs a held k → is_of_given k.server k.epoch k.given c ≡ true → is_of_no_file (state_of a) c r ≡ false
 of_given a held k (call.OpenFile t g x mode choice) (reply.Refused refusal.UnknownFile) h given = ap not (known_file a held k g h given)
 of_given a held k (call.OpenFile t g x mode choice) (reply.Refused f) h given = refl
 of_given a held k (call.OpenFile t g x mode choice) r h given = refl
 of_given a held k c r h given = refl
 
-pub next_told : {V : Type 0} (a : Alone) (held : Contents) (k : ServerState V) → IsAs a held k → next_file k ≡ journal.next_file (alone a)
+pub next_told : {V : Type 0} (a : Account) (held : Contents) (k : ServerState V) → IsAs a held k → next_file k ≡ journal.next_file (state_of a)
 next_told a held k h = λ i. record { server = sym h.server i; epoch = sym h.epoch i; counter = sym h.files i + 1 }
 
 same_id : (g f : FileId) → Some g ≡ Some f → f ≡ g

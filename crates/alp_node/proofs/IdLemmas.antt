@@ -12,7 +12,7 @@ use Rattle.alp_files.proofs.SameLemmas.{same_file-true, same_file-itself}
 use Rattle.alp_vault.specs.Contents.{Contents}
 use Rattle.alp_journal.specs.Ids.{is_drawn}
 use Rattle.alp_journal.specs.State.{is_file_drawn}
-use Rattle.alp_journal.specs.Alone.{Alone, alone}
+use Rattle.alp_journal.specs.Account.{Account, state_of}
 use Rattle.alp_node.specs.Asks.{is_given}
 use Rattle.alp_node.specs.ServerState.{IsAs, ids_to}
 use Rattle.alp_node.specs.declared.server_state.ServerState.{ServerState}
@@ -152,21 +152,21 @@ module _ (server epoch : ℕ) (f : FileId) where
       go false true h = refl
       go false false h = h
 
-module _ {V : Type 0} (a : Alone) (held : Contents) (k : ServerState V) (f : FileId) where
-  told_as : IsAs a held k → is_file_drawn (alone a) f ≡ (is_drawn k.server k.epoch 0 f.server f.epoch f.counter || has_file f (ids_to k.server k.epoch k.given))
+module _ {V : Type 0} (a : Account) (held : Contents) (k : ServerState V) (f : FileId) where
+  told_as : IsAs a held k → is_file_drawn (state_of a) f ≡ (is_drawn k.server k.epoch 0 f.server f.epoch f.counter || has_file f (ids_to k.server k.epoch k.given))
   told_as h =
       ap (λ (fs : List FileId). is_drawn a.holder.server a.ids.epoch 0 f.server f.epoch f.counter || has_file f fs) h.made.all
       ∙ early_drawn a.holder.server a.ids.epoch f (ids_to a.holder.server a.ids.epoch k.given) h.made.early h.made.old
       ∙ (λ i. is_drawn (h.server i) (h.epoch i) 0 f.server f.epoch f.counter || has_file f (ids_to (h.server i) (h.epoch i) k.given))
 
   -- an id that was never given was not drawn
-  pub unknown_file : IsAs a held k → 0 < k.epoch → is_given k.server k.epoch k.given f ≡ false → is_file_drawn (alone a) f ≡ false
-  unknown_file h some none = go (is_file_drawn (alone a) f) refl
+  pub unknown_file : IsAs a held k → 0 < k.epoch → is_given k.server k.epoch k.given f ≡ false → is_file_drawn (state_of a) f ≡ false
+  unknown_file h some none = go (is_file_drawn (state_of a) f) refl
     where
-      go : (b : Bool) → is_file_drawn (alone a) f ≡ b → b ≡ false
+      go : (b : Bool) → is_file_drawn (state_of a) f ≡ b → b ≡ false
       go false e = refl
       go true e = let wrong : true ≡ false = sym (drawn_given k.server k.epoch k.given f some (sym (told_as h) ∙ e)) ∙ none in cc
 
   -- one that was given was drawn
-  pub known_file : IsAs a held k → is_given k.server k.epoch k.given f ≡ true → is_file_drawn (alone a) f ≡ true
+  pub known_file : IsAs a held k → is_given k.server k.epoch k.given f ≡ true → is_file_drawn (state_of a) f ≡ true
   known_file h given = told_as h ∙ given_drawn k.server k.epoch k.given f given

@@ -24,8 +24,8 @@ use Rattle.alp_journal.specs.Laws.{IsLawfulDeed, DoLivesAgree, WaitsInTurn, Repe
 use Rattle.alp_journal.specs.Messages.{Mail, on_call, due}
 use Rattle.alp_journal.specs.Answers.{IsAnswer, AnswersCall}
 use Rattle.alp_journal.specs.Answered.{CountsVotes, ForgetsDone, GrantsFor, GrantsAtOnce}
-use Rattle.alp_journal.specs.Alone.{Alone, alone, IsQuiet, Leads}
-use Rattle.alp_journal.proofs.AloneLemmas.{quiet_votes, quiet_forgets}
+use Rattle.alp_journal.specs.Account.{Account, state_of, IsQuiet, Leads}
+use Rattle.alp_journal.proofs.CallLemmas.{quiet_votes, quiet_forgets}
 use Rattle.alp_journal.proofs.QuietLemmas.{quiet_up}
 use Rattle.alp_calls.proofs.LookLemmas.{left_same}
 use Rattle.alp_node.specs.Halts.{says_shut}
@@ -100,7 +100,7 @@ cond_same : {A : Type 0} (b : Bool) (x : A) → cond {A = A} b x x ≡ x
 cond_same true x = refl
 cond_same false x = refl
 
-module _ (a : Alone) (client epoch number : ℕ) (c : Call) (r : Option Reply) where
+module _ (a : Account) (client epoch number : ℕ) (c : Call) (r : Option Reply) where
   abbrev asked : Event
   asked = event.Call client epoch number c
 
@@ -108,24 +108,24 @@ module _ (a : Alone) (client epoch number : ℕ) (c : Call) (r : Option Reply) w
   idle_entry = record { event = asked; reply = r; acts = [] }
 
   -- all stays
-  abbrev pub unmoved : Alone
+  abbrev pub unmoved : Account
   unmoved = record a { is_down = false; pending = [] }
 
   -- what is owed of such an entry
   record IdleOwes : Type 0 where
-    tries : tried (alone a) idle_entry ≡ []
-    desk : desk_told (alone a) asked r ≡ (alone a).desk
-    drawn : [] ≡ begun_new (alone a) asked r
-    keeps : KeepsSessions (alone a) idle_entry asked
-    tells : TellsDecided (alone a) (alone unmoved) asked r
-    answer : AnswersCall false (alone a) asked r
-    mail : due false (alone a) (alone unmoved) asked r ≡ []
-    grants : GrantsAtOnce false (alone a) idle_entry asked r
+    tries : tried (state_of a) idle_entry ≡ []
+    desk : desk_told (state_of a) asked r ≡ (state_of a).desk
+    drawn : [] ≡ begun_new (state_of a) asked r
+    keeps : KeepsSessions (state_of a) idle_entry asked
+    tells : TellsDecided (state_of a) (state_of unmoved) asked r
+    answer : AnswersCall false (state_of a) asked r
+    mail : due false (state_of a) (state_of unmoved) asked r ≡ []
+    grants : GrantsAtOnce false (state_of a) idle_entry asked r
 
   idle_so : IsQuiet a → a.is_down ≡ false → IdleOwes → Leads false a idle_entry unmoved
   idle_so q up o =
-      let s : State = alone a in
-      let leaves : next s idle_entry ≡ alone unmoved =
+      let s : State = state_of a in
+      let leaves : next s idle_entry ≡ state_of unmoved =
       ap (λ (ds : List Deed). record (state_after state_deed s ds) { desk = desk_told (state_after state_deed s ds) asked r; is_down = false; pending = [] }) o.tries ∙ ap (λ (d : Desk). record s { desk = d; is_down = false; pending = [] }) o.desk in
       record {
         leaves = leaves;
@@ -156,28 +156,28 @@ module _ (a : Alone) (client epoch number : ℕ) (c : Call) (r : Option Reply) w
       }
 
 -- it is lawful and has its cause, and leaves all as it was
-pub idle_call_leads : (a : Alone) (client epoch number : ℕ) (c : Call) (r : Option Reply) → IsQuiet a → a.is_down ≡ false → IsIdle (order_of a.ids.epoch epoch number c (a.sessions client))
+pub idle_call_leads : (a : Account) (client epoch number : ℕ) (c : Call) (r : Option Reply) → IsQuiet a → a.is_down ≡ false → IsIdle (order_of a.ids.epoch epoch number c (a.sessions client))
     → r ≡ idle_reply (order_of a.ids.epoch epoch number c (a.sessions client)) a.ids.epoch (a.sessions client) → Leads false a (idle_entry a client epoch number c r) (unmoved a client epoch number c r)
 idle_call_leads a client epoch number c None q up idle told =
     idle_so a client epoch number c None q up (record {
       tries = refl;
-      desk = desk_silent (alone a) client epoch number c;
-      drawn = sym (cond_same {A = List TransId} (is_new (alone a) client epoch number) []);
-      keeps = keeps_idle (alone a) client epoch number c (idle_entry a client epoch number c None) idle refl told;
+      desk = desk_silent (state_of a) client epoch number c;
+      drawn = sym (cond_same {A = List TransId} (is_new (state_of a) client epoch number) []);
+      keeps = keeps_idle (state_of a) client epoch number c (idle_entry a client epoch number c None) idle refl told;
       tells = tt;
       answer = tt;
       mail = refl;
       grants = tt;
     })
 idle_call_leads a client epoch number c (Some y) q up idle told =
-    let s : State = alone a in
+    let s : State = state_of a in
     let old : is_new s client epoch number ≡ false = idle_not_new a.ids.epoch epoch number c (a.sessions client) y idle (sym told) in
     idle_so a client epoch number c (Some y) q up (record {
       tries = ap (λ (b : Bool). cond {A = List Deed} b (call_deeds s client c y) [] ++ [] ++ cond {A = List Deed} b (done_of s y (answered s client c)) []) old;
       desk = desk_idle s client epoch number c y old (sym told);
       drawn = sym (ap (λ (b : Bool). cond {A = List TransId} b (begun_in (Some y)) []) old);
       keeps = keeps_idle s client epoch number c (idle_entry a client epoch number c (Some y)) idle refl told;
-      tells = subst (λ (b : Bool). Where b (TellsIn (alone (unmoved a client epoch number c (Some y))) c y) (Unit {0})) (sym old) tt;
+      tells = subst (λ (b : Bool). Where b (TellsIn (state_of (unmoved a client epoch number c (Some y))) c y) (Unit {0})) (sym old) tt;
       answer = subst (λ (b : Bool). Where b (IsAnswer false s client c y) (Unit {0})) (sym old) tt;
       mail = ap (λ (b : Bool). cond {A = List Mail} b (on_call s client c y) []) old;
       grants = subst (λ (b : Bool). Where b (GrantsFor false s client c y [] (file_trans c)) (Unit {0})) (sym old) tt;
@@ -185,7 +185,7 @@ idle_call_leads a client epoch number c (Some y) q up idle told =
 
 -- ---- as the server keeps it
 
-pub idle_stepped : {V : Type 0} (a : Alone) (before now : ℕ) (held : Contents) (k : ServerState V) (client epoch number : ℕ) (c : Call) (x : Answer) → IsAs a held k → k.is_down ≡ false
+pub idle_stepped : {V : Type 0} (a : Account) (before now : ℕ) (held : Contents) (k : ServerState V) (client epoch number : ℕ) (c : Call) (x : Answer) → IsAs a held k → k.is_down ≡ false
     → IsIdle (order_of k.epoch epoch number c (session_at k.sessions client)) → x ≡ told_answer (idle_reply (order_of k.epoch epoch number c (session_at k.sessions client)) k.epoch (session_at k.sessions client)) []
     → Stepped a before now held k (event.Call client epoch number c) x
 idle_stepped a before now held k client epoch number c x h up idle so =

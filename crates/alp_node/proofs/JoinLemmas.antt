@@ -16,10 +16,10 @@ use Rattle.alp_journal.specs.declared.event.Event.TheVariants as event
 use Rattle.alp_journal.specs.Answered.{is_fault_reply}
 use Rattle.alp_journal.specs.Desk.{Session, Waiting, waiting_of}
 use Rattle.alp_journal.specs.Holder.{Life}
-use Rattle.alp_journal.specs.Alone.{Alone, alone}
-use Rattle.alp_journal.proofs.AloneBegins.{with_buried_as}
-use Rattle.alp_journal.proofs.AloneEntries.{counted_as}
-use Rattle.alp_journal.proofs.AloneJoins.{HasNoLife, JoinOwes, join_unknown_leads, join_busy_leads, join_leads}
+use Rattle.alp_journal.specs.Account.{Account, state_of}
+use Rattle.alp_journal.proofs.BeginCalls.{with_buried_as}
+use Rattle.alp_journal.proofs.RefusedCalls.{counted_as}
+use Rattle.alp_journal.proofs.KnownJoins.{HasNoLife, JoinOwes, join_unknown_leads, join_busy_leads, join_leads}
 use Rattle.alp_node.specs.Dead.{is_dead}
 use Rattle.alp_node.specs.Halts.{says_shut}
 use Rattle.alp_node.specs.Releases.{buried}
@@ -53,7 +53,7 @@ own_lives cells locks rs client t (Some m) (Some life) b alike none l is own =
 own_lives cells locks rs client t None (Some life) b alike none l is own = absurd alike
 own_lives cells locks rs client t o None b alike none l is own = (let wrong : None ≡ Some l = is in cc)
 
-module _ {V : Type 0} (a : Alone) (before now : ℕ) (held : Contents) (k : ServerState V) (turn : Turn) (t : TransId) where
+module _ {V : Type 0} (a : Account) (before now : ℕ) (held : Contents) (k : ServerState V) (turn : Turn) (t : TransId) where
   -- the client has no part of it here
   pub join_unknown_stepped : (x : Answer) → IsAs a held k → IsTurn k.sessions turn → k.is_down ≡ false → (standing_of turn.client (map.get k.lives t) (is_dead turn.client t k.dead) ≡ standing.Own → ⊥) → x ≡ refused_answer refusal.UnknownTrans []
       → Stepped a before now held (record k { sessions = counted_in k.sessions turn (reply.Refused refusal.UnknownTrans) }) (event.Call turn.client k.epoch turn.number (call.Join t)) x
@@ -82,7 +82,7 @@ module _ {V : Type 0} (a : Alone) (before now : ℕ) (held : Contents) (k : Serv
     }
 
     -- a call of it waits, or is to be collected
-    pub join_busy_stepped : (v : Waiting) (x : Answer) → waiting_of (alone a).desk turn.client t ≡ Some v → x ≡ refused_answer refusal.NotYet []
+    pub join_busy_stepped : (v : Waiting) (x : Answer) → waiting_of (state_of a).desk turn.client t ≡ Some v → x ≡ refused_answer refusal.NotYet []
         → Stepped a before now held (buried_kept a held k turn.client turn.number (session_of turn is) (reply.Refused refusal.NotYet)) (event.Call turn.client k.epoch turn.number (call.Join t)) x
     join_busy_stepped v x busy so =
         let w : Session = session_of turn is in
@@ -91,7 +91,7 @@ module _ {V : Type 0} (a : Alone) (before now : ℕ) (held : Contents) (k : Serv
         stepped_so a before now held held k (buried_kept a held k turn.client turn.number w r) turn.client turn.number w (call.Join t) false r [] (with_buried_as a turn.client turn.number w r) x so h leads
         (buried_as a held k turn.client turn.number w r h is.client up named leads.quiet) (λ e. cc) (stands_timely a.holder.clock 0 k.clock h.clock)
 
-    pub join_stepped : (x : Answer) → waiting_of (alone a).desk turn.client t ≡ None → x ≡ told_answer (Some reply.Joined) []
+    pub join_stepped : (x : Answer) → waiting_of (state_of a).desk turn.client t ≡ None → x ≡ told_answer (Some reply.Joined) []
         → Stepped a before now held (buried_kept a held k turn.client turn.number (session_of turn is) reply.Joined) (event.Call turn.client k.epoch turn.number (call.Join t)) x
     join_stepped x idle so =
         let w : Session = session_of turn is in
@@ -103,7 +103,7 @@ module _ {V : Type 0} (a : Alone) (before now : ℕ) (held : Contents) (k : Serv
 -- a step by which the client's dead parts go
 pub buried_step : {V : Type 0} (G : Ghosts V) (k new : ServerState V) (turn : Turn) (t : TransId) (x : Answer) (r : Reply) → new ≡ record (buried k turn.client) { sessions = counted_in k.sessions turn r } → IsTurn k.sessions turn → k.is_down ≡ false
     → (is_fault_reply k.server (Some r) || says_shut (Some r)) ≡ false → IsKeepable k.clock r → TellsRun None r → x ≡ told_answer (Some r) []
-    → (IsTrue (G.tells k.vault) → (a : Alone) → IsAs a (G.held k.vault) k
+    → (IsTrue (G.tells k.vault) → (a : Account) → IsAs a (G.held k.vault) k
     → Stepped a (G.faults k.vault) (G.faults k.vault) (G.held k.vault) (record (buried k turn.client) { sessions = counted_in k.sessions turn r }) (event.Call turn.client k.epoch turn.number (call.Join t)) x)
     → IsStep G k new (event.Call turn.client k.epoch turn.number (call.Join t)) (Ok x)
 buried_step G k new turn t x r kept is up calm keeps pages so steps =

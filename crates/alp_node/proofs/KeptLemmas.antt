@@ -16,9 +16,9 @@ use Rattle.alp_journal.specs.declared.event.Event.TheVariants as event
 use Rattle.alp_base.specs.Causes.{Rose}
 use Rattle.alp_journal.specs.Ids.{same_trans}
 use Rattle.alp_journal.specs.Holder.{Life}
-use Rattle.alp_journal.specs.Alone.{Alone, Leads, AreEarlier}
+use Rattle.alp_journal.specs.Account.{Account, Leads, AreEarlier}
 use Rattle.alp_journal.proofs.IdLemmas.{same_trans-true}
-use Rattle.alp_journal.proofs.AloneLemmas.{call_entry}
+use Rattle.alp_journal.proofs.CallLemmas.{call_entry}
 use Rattle.alp_node.specs.Sessions.{session_at, with_session}
 use Rattle.alp_node.specs.ServerState.{IsLife, IsAlike, IsAs}
 use Rattle.alp_node.specs.Steps.{Stepped, IsOf, IsTimely, IsTurn, told_answer, entry_of}
@@ -124,7 +124,7 @@ sessions_as sessions kept client w all full le c = ap (cond {A = Option Session}
 -- ---- all of it
 
 -- with another vault that holds the same
-pub as_with : {V : Type 0} (a : Alone) (held then : Contents) (k : ServerState V) (v : V) → then ≡ held → IsAs a held k → IsAs a then (record k { vault = v })
+pub as_with : {V : Type 0} (a : Account) (held then : Contents) (k : ServerState V) (v : V) → then ≡ held → IsAs a held k → IsAs a then (record k { vault = v })
 as_with a held then k v same h = subst (λ (x : Contents). IsAs a x (record k { vault = v })) (sym same) (record {
   server = h.server;
   sizes = h.sizes;
@@ -157,8 +157,8 @@ as_with a held then k v same h = subst (λ (x : Contents). IsAs a x (record k { 
 })
 
 -- a new call's entry and its answer
-module _ {V : Type 0} (a : Alone) (before now : ℕ) (held then : Contents) (k new : ServerState V) (client number : ℕ) (w : Session) (c : Call) where
-  pub stepped_so : (failed : Bool) (r : Reply) (acts : List Act) (m : Alone) (x : Answer) → x ≡ told_answer (Some r) acts → IsAs a held k → Leads failed a (call_entry a client number w c r acts) m
+module _ {V : Type 0} (a : Account) (before now : ℕ) (held then : Contents) (k new : ServerState V) (client number : ℕ) (w : Session) (c : Call) where
+  pub stepped_so : (failed : Bool) (r : Reply) (acts : List Act) (m : Account) (x : Answer) → x ≡ told_answer (Some r) acts → IsAs a held k → Leads failed a (call_entry a client number w c r acts) m
       → IsAs m then new → (failed ≡ true → Rose before now) → IsTimely a.holder.clock (event.Call client k.epoch number c) new.clock → Stepped a before now then new (event.Call client k.epoch number c) x
   stepped_so failed r acts m x is h leads kept rose timely = record {
     failed = failed;

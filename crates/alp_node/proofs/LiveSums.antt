@@ -13,7 +13,7 @@ use Rattle.alp_journal.specs.Coordinator.{Fate, Undrawn, Running, Finishing, Com
 use Rattle.alp_journal.specs.Holder.{Life}
 use Rattle.alp_journal.specs.State.{State}
 use Rattle.alp_journal.specs.Answers.{need_at, needs_of_all, all_live, made_at, made_by_all}
-use Rattle.alp_journal.specs.Alone.{Alone, alone, IsPaired}
+use Rattle.alp_journal.specs.Account.{Account, state_of, IsPaired}
 use Rattle.alp_node.specs.ServerState.{IsAs, IsAlike, trans_to}
 use Rattle.alp_node.specs.Totals.{totals_of}
 use Rattle.alp_node.specs.declared.lives.Live.{Live}
@@ -57,7 +57,7 @@ pub none_pass : (p : TransId → Bool) (early late : List TransId) → AllByRecu
 none_pass p [] late none = refl
 none_pass p (t ∷ ts) late none = ap (λ (b : Bool). cond {A = List TransId} b (t ∷ filter p (ts ++ late)) (filter p (ts ++ late))) none.0 ∙ none_pass p ts late none.1
 
-module _ {V : Type 0} (a : Alone) (held : Contents) (k : ServerState V) (h : IsAs a held k) where
+module _ {V : Type 0} (a : Account) (held : Contents) (k : ServerState V) (h : IsAs a held k) where
   -- of those that began in older epochs none is live
   pub early_gone : (t : TransId) → t.epoch < a.ids.epoch → a.holder.lives t ≡ None
   early_gone t old = go (a.holder.lives t) refl
@@ -79,7 +79,7 @@ module _ {V : Type 0} (a : Alone) (held : Contents) (k : ServerState V) (h : IsA
 
   -- what the live parts of the journal come to
   all_sum : (g : Live → ℕ) (f : Option Life → ℕ) → f None ≡ 0 → ((t : TransId) (o : Option Live) (x : Option Life) → IsAlike a.holder.cells k.locks.held (a.locked t) t o x → f x ≡ weigh g o)
-      → sum_list (λ t. f (a.holder.lives t)) (all_live (alone a)) ≡ all_in g k.lives
+      → sum_list (λ t. f (a.holder.lives t)) (all_live (state_of a)) ≡ all_in g k.lives
   all_sum g f none same =
       let at : TransId → ℕ = λ t. f (a.holder.lives t) in
       let runs : TransId → Bool = λ t. is_running (a.fates t) in
@@ -90,29 +90,29 @@ module _ {V : Type 0} (a : Alone) (held : Contents) (k : ServerState V) (h : IsA
       (λ t. same t (map.get k.lives t) (a.holder.lives t) (h.lives t)) in
       omega (arith, last, all)
 
-  need_same : (t : TransId) (o : Option Live) (x : Option Life) → IsAlike a.holder.cells k.locks.held (a.locked t) t o x → need_at (alone a) x ≡ weigh (λ (l : Live). l.part.counts.places) o
+  need_same : (t : TransId) (o : Option Live) (x : Option Life) → IsAlike a.holder.cells k.locks.held (a.locked t) t o x → need_at (state_of a) x ≡ weigh (λ (l : Live). l.part.counts.places) o
   need_same t None None x = refl
   need_same t (Some l) (Some life) x = sym x.counts.places
   need_same t None (Some life) x = absurd x
   need_same t (Some l) None x = absurd x
 
-  files_same : (t : TransId) (o : Option Live) (x : Option Life) → IsAlike a.holder.cells k.locks.held (a.locked t) t o x → made_at is_leader (alone a) x ≡ weigh (λ (l : Live). l.part.counts.files) o
+  files_same : (t : TransId) (o : Option Live) (x : Option Life) → IsAlike a.holder.cells k.locks.held (a.locked t) t o x → made_at is_leader (state_of a) x ≡ weigh (λ (l : Live). l.part.counts.files) o
   files_same t None None x = refl
   files_same t (Some l) (Some life) x = sym x.counts.files
   files_same t None (Some life) x = absurd x
   files_same t (Some l) None x = absurd x
 
-  owners_same : (t : TransId) (o : Option Live) (x : Option Life) → IsAlike a.holder.cells k.locks.held (a.locked t) t o x → made_at is_owner (alone a) x ≡ weigh (λ (l : Live). l.part.counts.owners) o
+  owners_same : (t : TransId) (o : Option Live) (x : Option Life) → IsAlike a.holder.cells k.locks.held (a.locked t) t o x → made_at is_owner (state_of a) x ≡ weigh (λ (l : Live). l.part.counts.owners) o
   owners_same t None None x = refl
   owners_same t (Some l) (Some life) x = sym x.counts.owners
   owners_same t None (Some life) x = absurd x
   owners_same t (Some l) None x = absurd x
 
-  pub all_needs : needs_of_all (alone a) (all_live (alone a)) ≡ (totals_of k.lives).places
-  all_needs = needs_list (alone a) (all_live (alone a)) ∙ all_sum (λ (l : Live). l.part.counts.places) (need_at (alone a)) refl need_same
+  pub all_needs : needs_of_all (state_of a) (all_live (state_of a)) ≡ (totals_of k.lives).places
+  all_needs = needs_list (state_of a) (all_live (state_of a)) ∙ all_sum (λ (l : Live). l.part.counts.places) (need_at (state_of a)) refl need_same
 
-  pub all_files : made_by_all is_leader (alone a) (all_live (alone a)) ≡ (totals_of k.lives).files
-  all_files = made_list is_leader (alone a) (all_live (alone a)) ∙ all_sum (λ (l : Live). l.part.counts.files) (made_at is_leader (alone a)) refl files_same
+  pub all_files : made_by_all is_leader (state_of a) (all_live (state_of a)) ≡ (totals_of k.lives).files
+  all_files = made_list is_leader (state_of a) (all_live (state_of a)) ∙ all_sum (λ (l : Live). l.part.counts.files) (made_at is_leader (state_of a)) refl files_same
 
-  pub all_owners : made_by_all is_owner (alone a) (all_live (alone a)) ≡ (totals_of k.lives).owners
-  all_owners = made_list is_owner (alone a) (all_live (alone a)) ∙ all_sum (λ (l : Live). l.part.counts.owners) (made_at is_owner (alone a)) refl owners_same
+  pub all_owners : made_by_all is_owner (state_of a) (all_live (state_of a)) ≡ (totals_of k.lives).owners
+  all_owners = made_list is_owner (state_of a) (all_live (state_of a)) ∙ all_sum (λ (l : Live). l.part.counts.owners) (made_at is_owner (state_of a)) refl owners_same

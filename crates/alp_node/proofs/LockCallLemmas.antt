@@ -32,7 +32,7 @@ use Rattle.alp_journal.specs.Holder.{Life, view_in}
 use Rattle.alp_journal.specs.Moves.{is_stop}
 use Rattle.alp_journal.specs.Answers.{First, IsLocked, shape_refusal, lock_refusal, locks_then, more_locks, choice_of}
 use Rattle.alp_journal.specs.Answered.{asks, rises_on}
-use Rattle.alp_journal.specs.Alone.{Alone, alone}
+use Rattle.alp_journal.specs.Account.{Account, state_of}
 use Rattle.alp_base.specs.declared.choices.Choice.{Choice}
 use Rattle.alp_base.specs.declared.choices.Choice.TheVariants as choice
 use Rattle.alp_node.specs.Halts.{HaveCauses}
@@ -109,7 +109,7 @@ none_asked_free locks t holder e =
 
 -- ---- what it asks
 
-module _ {V : Type 0} (a : Alone) (held : Contents) (k : ServerState V) (t : TransId) (l : Live) (c : Call) (ns : List Need) (life : Life) (h : IsAs a held k) (up : k.is_down ≡ false) (mine : IsLife a.holder.cells k.locks.held (a.locked t) t l life)
+module _ {V : Type 0} (a : Account) (held : Contents) (k : ServerState V) (t : TransId) (l : Live) (c : Call) (ns : List Need) (life : Life) (h : IsAs a held k) (up : k.is_down ≡ false) (mine : IsLife a.holder.cells k.locks.held (a.locked t) t l life)
     (served : IsServedCall c) (told : ns ≡ asks_of (holding k.locks.held t) (seen held.cells l.part) (own_of l.part) c) where
   -- how many resources it has locked then
   abbrev pub counts : LockCounts
@@ -141,15 +141,15 @@ module _ {V : Type 0} (a : Alone) (held : Contents) (k : ServerState V) (t : Tra
   asked_locks =
       ap (λ (ms : List Need). length (with_resources ms (a.locked t))) lock_request ∙ count_all (holding k.locks.held t) ns (a.locked t) lock_known ∙ ap (λ (n : ℕ). n + fresh_on (holding k.locks.held t) ns) (sym mine.count)
 
-  pub made_locks : counts.made ≡ locks_then (alone a) t life c
+  pub made_locks : counts.made ≡ locks_then (state_of a) t life c
   made_locks = ap (λ (m : ℕ). m + more_locks c) (sym asked_locks)
 
   -- too many are what the journal says are too many
-  pub told_locks : lock_refusal (alone a) t life c ≡ too_locked k.sizes.area l.part.counts.cells counts.made
+  pub told_locks : lock_refusal (state_of a) t life c ≡ too_locked k.sizes.area l.part.counts.cells counts.made
   told_locks = λ i. too_locked (h.sizes i).area (sym mine.counts.cells i) (sym made_locks i)
 
   -- neither its shape nor its locks refuse it
-  pub not_refused : shape_refusal (alone a) life c ≡ None → too_locked k.sizes.area l.part.counts.cells counts.made ≡ None → option_or (shape_refusal (alone a) life c) (lock_refusal (alone a) t life c) ≡ None
+  pub not_refused : shape_refusal (state_of a) life c ≡ None → too_locked k.sizes.area l.part.counts.cells counts.made ≡ None → option_or (shape_refusal (state_of a) life c) (lock_refusal (state_of a) t life c) ≡ None
   not_refused shape few = λ i. option_or (shape i) ((told_locks ∙ few) i)
 
   -- one that is refused for its open asks for nothing
@@ -167,17 +167,17 @@ module _ {V : Type 0} (a : Alone) (held : Contents) (k : ServerState V) (t : Tra
     pub shut_few : IsWithin k.sizes l → too_locked k.sizes.area l.part.counts.cells counts.made ≡ None
     shut_few within = ap (too_locked k.sizes.area l.part.counts.cells) shut_counts ∙ none_locked k.sizes.area l.part.counts.cells l.locks within.locks within.log
 
-    pub shut_first : option_or (shape_refusal (alone a) life c) (lock_refusal (alone a) t life c) ≡ Some shut.refusal
-    shut_first = ap (λ (x : Option Refusal). option_or x (lock_refusal (alone a) t life c)) shut.first
+    pub shut_first : option_or (shape_refusal (state_of a) life c) (lock_refusal (state_of a) t life c) ≡ Some shut.refusal
+    shut_first = ap (λ (x : Option Refusal). option_or x (lock_refusal (state_of a) t life c)) shut.first
 
 -- ---- it is refused
 
-module _ {V : Type 0} (a : Alone) (before now : ℕ) (held : Contents) (k : ServerState V) (turn : Turn) (t : TransId) (l : Live) (c : Call) (ns : List Need) where
+module _ {V : Type 0} (a : Account) (before now : ℕ) (held : Contents) (k : ServerState V) (turn : Turn) (t : TransId) (l : Live) (c : Call) (ns : List Need) where
   abbrev then_counts : LockCounts
   then_counts = counts_then l.locks (holding k.locks.held t) ns c
 
   -- it would leave too many locks
-  pub locks_stepped : (f : Refusal) (x : Handed) → IsAs a held k → 0 < k.epoch → IsTurn k.sessions turn → k.is_down ≡ false → map.get k.lives t ≡ Some l → l.client ≡ turn.client → waiting_of (alone a).desk turn.client t ≡ None → IsWithin k.sizes l → IsServedCall c
+  pub locks_stepped : (f : Refusal) (x : Handed) → IsAs a held k → 0 < k.epoch → IsTurn k.sessions turn → k.is_down ≡ false → map.get k.lives t ≡ Some l → l.client ≡ turn.client → waiting_of (state_of a).desk turn.client t ≡ None → IsWithin k.sizes l → IsServedCall c
       → ns ≡ asks_of (holding k.locks.held t) (seen held.cells l.part) (own_of l.part) c → shape_of k.server k.epoch k.given (length l.part.opens.items) c ≡ None → too_locked k.sizes.area l.part.counts.cells then_counts.made ≡ Some f → file_trans c ≡ Some t
       → x ≡ refused_answer f []
       → Stepped a before now held (record k { sessions = counted_in k.sessions turn (reply.Refused f) }) (event.Call turn.client k.epoch turn.number c) x
@@ -187,13 +187,13 @@ module _ {V : Type 0} (a : Alone) (before now : ℕ) (held : Contents) (k : Serv
       first_stepped a before now held k turn t c f y.life x h is up of (own_standing turn.client (map.get k.lives t) (is_dead turn.client t k.dead) (subst (IsOf turn.client) (sym there) own)) idle y.is
       (go y.life y.alike (shape_cases a held k h raised t l y.life y.alike c served shape)) counted.now (count_none_done a t c f counted) so
     where
-      go : (life : Life) (mine : IsLife a.holder.cells k.locks.held (a.locked t) t l life) → (shape_refusal (alone a) life c ≡ None) ⊎ IsShut a held k h raised t l life mine c
-          → option_or (shape_refusal (alone a) life c) (lock_refusal (alone a) t life c) ≡ Some f
+      go : (life : Life) (mine : IsLife a.holder.cells k.locks.held (a.locked t) t l life) → (shape_refusal (state_of a) life c ≡ None) ⊎ IsShut a held k h raised t l life mine c
+          → option_or (shape_refusal (state_of a) life c) (lock_refusal (state_of a) t life c) ≡ Some f
       go life mine (inl passes) = λ i. option_or (passes i) ((told_locks a held k t l c ns life h up mine served told ∙ many) i)
       go life mine (inr shut) = (let wrong : None ≡ Some f = sym (shut_few a held k t l c ns life h up mine served told raised shut within) ∙ many in cc)
 
   -- another is in its way
-  pub conflict_stepped : (holder : TransId) (x : Handed) → IsAs a held k → 0 < k.epoch → IsTurn k.sessions turn → k.is_down ≡ false → map.get k.lives t ≡ Some l → l.client ≡ turn.client → waiting_of (alone a).desk turn.client t ≡ None → may_wait c ≡ false → IsServedCall c
+  pub conflict_stepped : (holder : TransId) (x : Handed) → IsAs a held k → 0 < k.epoch → IsTurn k.sessions turn → k.is_down ≡ false → map.get k.lives t ≡ Some l → l.client ≡ turn.client → waiting_of (state_of a).desk turn.client t ≡ None → may_wait c ≡ false → IsServedCall c
       → ns ≡ asks_of (holding k.locks.held t) (seen held.cells l.part) (own_of l.part) c → shape_of k.server k.epoch k.given (length l.part.opens.items) c ≡ None → too_locked k.sizes.area l.part.counts.cells then_counts.made ≡ None → file_trans c ≡ Some t → IsSound k.locks
       → blocker k.locks.held t (plan_of k.locks t ns).rises ≡ Some holder
       → x ≡ refused_answer (refusal.LockConflict holder) []
@@ -202,18 +202,18 @@ module _ {V : Type 0} (a : Alone) (before now : ℕ) (held : Contents) (k : Serv
       let y : IsLive a.holder.cells k.locks.held (a.locked t) t l (a.holder.lives t) = live_there a.holder.cells k.locks.held (a.locked t) t (map.get k.lives t) (a.holder.lives t) l there (h.lives t) in
       let r : Reply = reply.Refused (refusal.LockConflict holder) in
       let mine : standing_of turn.client (map.get k.lives t) (is_dead turn.client t k.dead) ≡ standing.Own = own_standing turn.client (map.get k.lives t) (is_dead turn.client t k.dead) (subst (IsOf turn.client) (sym there) own) in
-      let none : option_or (shape_refusal (alone a) y.life c) (lock_refusal (alone a) t y.life c) ≡ None =
+      let none : option_or (shape_refusal (state_of a) y.life c) (lock_refusal (state_of a) t y.life c) ≡ None =
       not_refused a held k t l c ns y.life h up y.alike served told (open_there y.life y.alike (shape_cases a held k h raised t l y.life y.alike c served shape)) few in
       refused_stepped a before now held k turn t c false (refusal.LockConflict holder) x h is up (λ e. cc) of refl refl
       (work_why a before now held k turn t c false r y.life h mine idle y.is
-      (inr (subst (λ (z : Option Refusal). First z r (IsLocked (alone a) t y.life c r)) (sym none)
+      (inr (subst (λ (z : Option Refusal). First z r (IsLocked (state_of a) t y.life c r)) (sym none)
       (IsLocked.conflict holder (fails (lock_choice a held k t l c ns y.life h up y.alike served told)) (least_holder a held k t l y.life c ns h y.alike (lock_request a held k t l c ns y.life h up y.alike served told) sound.agreeing holder named)))))
-      (work_grants a before now held k turn t c false r y.life [] h mine idle y.is (sym (one_or_none (is_some (option_or (shape_refusal (alone a) y.life c) (lock_refusal (alone a) t y.life c))) [] refl))) so
+      (work_grants a before now held k turn t c false r y.life [] h mine idle y.is (sym (one_or_none (is_some (option_or (shape_refusal (state_of a) y.life c) (lock_refusal (state_of a) t y.life c))) [] refl))) so
     where
       no_need : ns ≡ [] → ⊥
       no_need none = none_asked_free k.locks.held t holder (subst (λ (ms : List Need). blocker k.locks.held t (plan_of k.locks t ms).rises ≡ Some holder) none named)
 
-      open_there : (life : Life) (mine : IsLife a.holder.cells k.locks.held (a.locked t) t l life) → (shape_refusal (alone a) life c ≡ None) ⊎ IsShut a held k h raised t l life mine c → shape_refusal (alone a) life c ≡ None
+      open_there : (life : Life) (mine : IsLife a.holder.cells k.locks.held (a.locked t) t l life) → (shape_refusal (state_of a) life c ≡ None) ⊎ IsShut a held k h raised t l life mine c → shape_refusal (state_of a) life c ≡ None
       open_there life mine (inl passes) = passes
       open_there life mine (inr shut) = absurd (no_need (shut_none a held k t l c ns life h up mine served told raised shut))
 

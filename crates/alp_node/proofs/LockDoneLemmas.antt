@@ -49,9 +49,9 @@ use Rattle.alp_journal.specs.Moves as journal
 use Rattle.alp_journal.specs.Laws.{IsFree}
 use Rattle.alp_journal.specs.Answers.{First, IsFileOf, IsFileAnswer, IsLocked, IsThreads, count_refusal, shape_refusal, lock_refusal, more_locks, unless_counts}
 use Rattle.alp_journal.specs.Answered.{GrantsFor, asks, grants_by}
-use Rattle.alp_journal.specs.Alone.{Alone, alone, IsQuiet, Leads}
-use Rattle.alp_journal.proofs.AloneLemmas.{call_entry}
-use Rattle.alp_journal.proofs.AloneCalls.{PerformOwes, performed_leads, granted_leads, with_call}
+use Rattle.alp_journal.specs.Account.{Account, state_of, IsQuiet, Leads}
+use Rattle.alp_journal.proofs.CallLemmas.{call_entry}
+use Rattle.alp_journal.proofs.FileCalls.{PerformOwes, performed_leads, granted_leads, with_call}
 use Rattle.alp_journal.specs.Moves.{is_stop}
 use Rattle.alp_node.specs.Asks.{is_of_given, AreGiven, asks_of, asks_given, makes_file, plan_of, with_plan, acts_of}
 use Rattle.alp_node.specs.Calls.{IsServedCall, given_of, next_file}
@@ -142,7 +142,7 @@ held_already held asks same (n ∷ ns) among = (
     some_more true m (Some y) there = refl
     some_more false m x there = there
 
-module _ {V : Type 0} (a : Alone) (before now : ℕ) (held : Contents) (k : ServerState V) (turn : Turn) (t : TransId) (l : Live) (p : Part) (c : Call) (ns : List Need) (room : Room) (r : Reply) (v : V) where
+module _ {V : Type 0} (a : Account) (before now : ℕ) (held : Contents) (k : ServerState V) (turn : Turn) (t : TransId) (l : Live) (p : Part) (c : Call) (ns : List Need) (room : Room) (r : Reply) (v : V) where
   -- how many are locked then, and what was asked
   abbrev pub locks_now : LockCounts
   locks_now = counts_then l.locks (holding k.locks.held t) ns c
@@ -180,7 +180,7 @@ module _ {V : Type 0} (a : Alone) (before now : ℕ) (held : Contents) (k : Serv
     lock_after : AreCountsOf a.holder.cells (life.edits ++ did.edits) given.after
     lock_after = lock_right.counts life.edits mine.intents mine.counts
 
-    lock_counted : refused ≡ count_refusal (alone a) t life c did
+    lock_counted : refused ≡ count_refusal (state_of a) t life c did
     lock_counted = refusal_same a held k h up locks_now.made room of t life c did l.part.counts given.after mine.counts lock_after (made_locks a held k t l c ns life h up mine served from)
 
     of_file : is_of_given k.server k.epoch k.given c ≡ true
@@ -220,7 +220,7 @@ module _ {V : Type 0} (a : Alone) (before now : ℕ) (held : Contents) (k : Serv
     idle : waits k.locks.waiting t ≡ false
     idle = idle_in k.server k.epoch k.given k.lives k.waits t k.locks.waiting (asks_none t k.waits away) ready.waits.queued
 
-    idle_so : waiting_of (alone a).desk turn.client t ≡ None
+    idle_so : waiting_of (state_of a).desk turn.client t ≡ None
     idle_so = idle_told a turn.client t k.waits h.waits named away
 
     pub lock_free : IsFree a.holder t life c
@@ -234,17 +234,17 @@ module _ {V : Type 0} (a : Alone) (before now : ℕ) (held : Contents) (k : Serv
         same_agree (with_made under (id_in g)) o.held (holding (table_then g).held t) (holding (table_then g).held u) then_holds
         (λ q. others_held u o at q ∙ sym (taken_other k.locks (plan g) refl u q away)) (taken_agrees k.locks (plan g) refl ready.sound (free_given m on k t c ns g ready free) idle u away)
 
-    next_id : (f : FileId) → id_in g ≡ Some f → f ≡ journal.next_file (alone a)
+    next_id : (f : FileId) → id_in g ≡ Some f → f ≡ journal.next_file (state_of a)
     next_id f e = id_given (next_file k) f g e given.ids ∙ next_told a held k h
 
-    lock_threads : IsThreads (alone a) t life c r
+    lock_threads : IsThreads (state_of a) t life c r
     lock_threads = record { given = g; own = given.own; right = lock_right.reply; next_id = next_id; counted = given.said ∙ ap (unless_counts g) lock_counted }
 
     -- it is refused for its open, and for no counts, or neither its shape nor its locks refuse it
-    cases : (shape_refusal (alone a) life c ≡ None) ⊎ IsShut a held k h ready.raised t l life mine c
+    cases : (shape_refusal (state_of a) life c ≡ None) ⊎ IsShut a held k h ready.raised t l life mine c
     cases = shape_cases a held k h ready.raised t l life mine c served shape
 
-    passed : shape_refusal (alone a) life c ≡ None → option_or (shape_refusal (alone a) life c) (lock_refusal (alone a) t life c) ≡ None
+    passed : shape_refusal (state_of a) life c ≡ None → option_or (shape_refusal (state_of a) life c) (lock_refusal (state_of a) t life c) ≡ None
     passed open_there = not_refused a held k t l c ns life h up mine served from open_there few
 
     module _ (shut : IsShut a held k h ready.raised t l life mine c) where
@@ -266,17 +266,17 @@ module _ {V : Type 0} (a : Alone) (before now : ℕ) (held : Contents) (k : Serv
       shut_reply : r ≡ reply.Refused shut.refusal
       shut_reply = given.said ∙ ap (unless_counts g) shut_passes ∙ shut_given
 
-    lock_answer : IsFileAnswer (alone a) t c r (Some life)
+    lock_answer : IsFileAnswer (state_of a) t c r (Some life)
     lock_answer = go cases
       where
-        go : (shape_refusal (alone a) life c ≡ None) ⊎ IsShut a held k h ready.raised t l life mine c → First (option_or (shape_refusal (alone a) life c) (lock_refusal (alone a) t life c)) r (IsLocked (alone a) t life c r)
-        go (inl open_there) = subst (λ (x : Option Refusal). First x r (IsLocked (alone a) t life c r)) (sym (passed open_there)) (IsLocked.performed r lock_free lock_threads)
-        go (inr shut) = subst (λ (x : Option Refusal). First x r (IsLocked (alone a) t life c r)) (sym (shut_first a held k t l c ns life h up mine served from ready.raised shut)) (shut_reply shut)
+        go : (shape_refusal (state_of a) life c ≡ None) ⊎ IsShut a held k h ready.raised t l life mine c → First (option_or (shape_refusal (state_of a) life c) (lock_refusal (state_of a) t life c)) r (IsLocked (state_of a) t life c r)
+        go (inl open_there) = subst (λ (x : Option Refusal). First x r (IsLocked (state_of a) t life c r)) (sym (passed open_there)) (IsLocked.performed r lock_free lock_threads)
+        go (inr shut) = subst (λ (x : Option Refusal). First x r (IsLocked (state_of a) t life c r)) (sym (shut_first a held k t l c ns life h up mine served from ready.raised shut)) (shut_reply shut)
 
     my_standing : standing_of turn.client (map.get k.lives t) (is_dead turn.client t k.dead) ≡ standing.Own
     my_standing = own_standing turn.client (map.get k.lives t) (is_dead turn.client t k.dead) (subst (IsOf turn.client) (sym there) own)
 
-    pub lock_why : IsFileOf false (alone a) turn.client c r (Some t)
+    pub lock_why : IsFileOf false (state_of a) turn.client c r (Some t)
     lock_why = work_why a before now held k turn t c false r life h my_standing idle_so live (inr lock_answer)
 
     grants_of : (o : Option Refusal) → refused ≡ o → grants_by true t r ≡ t ∷ []
@@ -287,25 +287,25 @@ module _ {V : Type 0} (a : Alone) (before now : ℕ) (held : Contents) (k : Serv
     asks_so = lock_asks a held k t l c ns life h up mine served from
 
     -- it is granted where something rises
-    lock_grants : GrantsFor false (alone a) turn.client c r (cond {A = List TransId} (length asked.rises == 0) [] (t ∷ [])) (Some t)
+    lock_grants : GrantsFor false (state_of a) turn.client c r (cond {A = List TransId} (length asked.rises == 0) [] (t ∷ [])) (Some t)
     lock_grants = work_grants a before now held k turn t c false r life (cond {A = List TransId} (length asked.rises == 0) [] (t ∷ [])) h my_standing idle_so live (go cases)
       where
         by_first : Option Refusal → List TransId
         by_first x = cond {A = List TransId} (is_some x) [] (grants_by (asks a.holder life c) t r)
 
-        go : (shape_refusal (alone a) life c ≡ None) ⊎ IsShut a held k h ready.raised t l life mine c → cond {A = List TransId} (length asked.rises == 0) [] (t ∷ []) ≡ by_first (option_or (shape_refusal (alone a) life c) (lock_refusal (alone a) t life c))
+        go : (shape_refusal (state_of a) life c ≡ None) ⊎ IsShut a held k h ready.raised t l life mine c → cond {A = List TransId} (length asked.rises == 0) [] (t ∷ []) ≡ by_first (option_or (shape_refusal (state_of a) life c) (lock_refusal (state_of a) t life c))
         go (inl open_there) = grants_as t r (asks a.holder life c) asked.rises (grants_of refused refl) asks_so ∙ sym (ap by_first (passed open_there))
         go (inr shut) =
             let nothing : ns ≡ [] = shut_none a held k t l c ns life h up mine served from ready.raised shut in
             let none : asked.rises ≡ [] = ap (λ (ms : List Need). risen (held_of k.locks.held t) ms) nothing ∙ none_risen (held_of k.locks.held t) [] tt (risen (held_of k.locks.held t) []) refl in
             ap (λ (ms : List Need). cond {A = List TransId} (length ms == 0) [] (t ∷ [])) none ∙ sym (ap by_first (shut_first a held k t l c ns life h up mine served from ready.raised shut))
 
-    pub grants_none : asked.rises ≡ [] → GrantsFor false (alone a) turn.client c r [] (Some t)
-    grants_none none = subst (λ (ns : List Need). GrantsFor false (alone a) turn.client c r (cond {A = List TransId} (length ns == 0) [] (t ∷ [])) (Some t)) none lock_grants
+    pub grants_none : asked.rises ≡ [] → GrantsFor false (state_of a) turn.client c r [] (Some t)
+    grants_none none = subst (λ (ns : List Need). GrantsFor false (state_of a) turn.client c r (cond {A = List TransId} (length ns == 0) [] (t ∷ [])) (Some t)) none lock_grants
 
-    pub grants_some : (n : Need) (ns : List Need) → asked.rises ≡ n ∷ ns → GrantsFor false (alone a) turn.client c r (t ∷ []) (Some t)
+    pub grants_some : (n : Need) (ns : List Need) → asked.rises ≡ n ∷ ns → GrantsFor false (state_of a) turn.client c r (t ∷ []) (Some t)
     grants_some n ns some =
-        subst (λ (e : Bool). GrantsFor false (alone a) turn.client c r (cond {A = List TransId} e [] (t ∷ [])) (Some t)) (ap (λ (ms : List Need). length ms == 0) some ∙ not_empty n ns) lock_grants
+        subst (λ (e : Bool). GrantsFor false (state_of a) turn.client c r (cond {A = List TransId} e [] (t ∷ [])) (Some t)) (ap (λ (ms : List Need). length ms == 0) some ∙ not_empty n ns) lock_grants
 
     -- what is held already is not granted
     pub under_held : asked.rises ≡ [] → under ≡ life.held
@@ -335,7 +335,7 @@ module _ {V : Type 0} (a : Alone) (before now : ℕ) (held : Contents) (k : Serv
       lock_done : Performs l.part p did g
       lock_done = IsRight.done lock_right passes
 
-      lock_owes : file_trans c ≡ Some t → IsFormed c → (x : Holding) → under ≡ x → (ts : List TransId) → GrantsFor false (alone a) turn.client c r ts (Some t) → PerformOwes a turn.client turn.number told t life c g false x ts
+      lock_owes : file_trans c ≡ Some t → IsFormed c → (x : Holding) → under ≡ x → (ts : List TransId) → GrantsFor false (state_of a) turn.client c r ts (Some t) → PerformOwes a turn.client turn.number told t life c g false x ts
       lock_owes of_trans formed x same ts grants = record {
         quiet = h.quiet;
         up = h.down ∙ up;
@@ -352,8 +352,8 @@ module _ {V : Type 0} (a : Alone) (before now : ℕ) (held : Contents) (k : Serv
         next_id = next_id;
         locked = subst (λ (y : Holding). HoldsEach y (needs_of (view_in a.holder life) life.own c)) same (granted-holds life.held (needs_of (view_in a.holder life) life.own c));
         agree = λ u m at away. subst (λ (y : Holding). DoAgree (with_made y (id_in g)) m.held) same (lock_agrees u m at away);
-        why = subst (λ (y : Reply). IsFileOf false (alone a) turn.client c y (Some t)) as_given lock_why;
-        grants = subst (λ (y : Reply). GrantsFor false (alone a) turn.client c y ts (Some t)) as_given grants;
+        why = subst (λ (y : Reply). IsFileOf false (state_of a) turn.client c y (Some t)) as_given lock_why;
+        grants = subst (λ (y : Reply). GrantsFor false (state_of a) turn.client c y ts (Some t)) as_given grants;
       }
 
       -- all that it did is under its locks

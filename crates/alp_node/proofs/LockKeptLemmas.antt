@@ -27,14 +27,14 @@ use Rattle.alp_journal.specs.declared.act.Act.TheVariants as act
 use Rattle.alp_journal.specs.declared.event.Event.TheVariants as event
 use Rattle.alp_journal.specs.Ids.{same_trans}
 use Rattle.alp_journal.specs.Counts.{lock_set, request_in}
-use Rattle.alp_journal.proofs.AloneEntries.{counted_as}
+use Rattle.alp_journal.proofs.RefusedCalls.{counted_as}
 use Rattle.alp_journal.specs.Desk.{Session}
 use Rattle.alp_journal.specs.Desk.{Waiting, file_trans, is_of}
 use Rattle.alp_journal.specs.Holder.{Life, view_in, held_for}
 use Rattle.alp_journal.specs.Answers.{IsFileOf, unless_counts}
 use Rattle.alp_journal.specs.Answered.{GrantsFor}
-use Rattle.alp_journal.specs.Alone.{Alone, alone, IsQuiet, Leads}
-use Rattle.alp_journal.proofs.AloneLemmas.{call_entry}
+use Rattle.alp_journal.specs.Account.{Account, state_of, IsQuiet, Leads}
+use Rattle.alp_journal.proofs.CallLemmas.{call_entry}
 use Rattle.alp_node.specs.Asks.{AreGiven, asks_of, with_plan, acts_of}
 use Rattle.alp_node.specs.Calls.{IsServedCall, next_file}
 use Rattle.alp_node.specs.Covers.{AreHeld}
@@ -58,7 +58,7 @@ use Rattle.alp_node.proofs.KeptLemmas.{session_of, IsLive, live_there, alike_und
 use Rattle.alp_node.proofs.LockLemmas.{taken_other, taken_beside, taken_waiting}
 use Rattle.alp_node.proofs.LockCallLemmas.{locked_then}
 use Rattle.alp_node.proofs.LockDoneLemmas.{locks_now, asked, lock_left, first_held, lock_free, lock_why, grants_none, grants_some, under_held, still_locked, known_then, count_then, lock_performed}
-use Rattle.alp_journal.proofs.AloneRefusals.{with_locks, refused_granted_leads}
+use Rattle.alp_journal.proofs.RefusedGrants.{with_locks, refused_granted_leads}
 use Rattle.alp_node.proofs.BesideLemmas.{AreNamed, AreOthers, others_told, idle_told, queue_beside, asked_beside}
 use Rattle.alp_node.proofs.WaitLemmas.{named_all}
 use Rattle.alp_node.proofs.MapLemmas.{get_put}
@@ -66,7 +66,7 @@ use Rattle.alp_files.proofs.FilesLemmas.{same-some}
 use Rattle.alp_journal.proofs.IdLemmas.{same_trans-true}
 use Rattle.alp_node.proofs.ServedLemmas.{refused_stepped}
 
-module _ {V : Type 0} (a : Alone) (before now : ℕ) (held : Contents) (k : ServerState V) (turn : Turn) (t : TransId) (l : Live) (p : Part) (c : Call) (ns : List Need) (room : Room) (r : Reply) (v : V) where
+module _ {V : Type 0} (a : Account) (before now : ℕ) (held : Contents) (k : ServerState V) (turn : Turn) (t : TransId) (l : Live) (p : Part) (c : Call) (ns : List Need) (room : Room) (r : Reply) (v : V) where
   abbrev locks_asked : LockCounts
   locks_asked = locks_now a before now held k turn t l p c ns room r v
 
@@ -114,8 +114,8 @@ module _ {V : Type 0} (a : Alone) (before now : ℕ) (held : Contents) (k : Serv
     stands : IsAsBefore l.part p
     stands = subst (StandsAfter l.part p given.after) full given.stands
 
-    why : IsFileOf false (alone a) turn.client c (reply.Refused f) (Some t)
-    why = subst (λ (y : Reply). IsFileOf false (alone a) turn.client c y (Some t)) as_refused (lock_why a before now held k turn t l p c ns room r v m on ready life h up is there own live mine served files from given of shape few free away)
+    why : IsFileOf false (state_of a) turn.client c (reply.Refused f) (Some t)
+    why = subst (λ (y : Reply). IsFileOf false (state_of a) turn.client c y (Some t)) as_refused (lock_why a before now held k turn t l p c ns room r v m on ready life h up is there own live mine served files from given of shape few free away)
 
     more : IsMore life.held would
     more = joined-more life.held (request_in a.holder c (Some life))
@@ -197,7 +197,7 @@ module _ {V : Type 0} (a : Alone) (before now : ℕ) (held : Contents) (k : Serv
         let still : would ≡ life.held = under_held a before now held k turn t l p c ns room r v m on ready life h up is there own live mine served files from given of shape few free away none in
         let rs : resources ≡ a.locked t = still_locked a before now held k turn t l p c ns room r v m on ready life h up is there own live mine served files from given of shape few free away still in
         refused_stepped a before now then server_now turn t c false f x (held_as then same still rs) is up (λ e. cc) of_trans counted.now (count_none_done a t c f counted) why
-        (subst (λ (y : Reply). GrantsFor false (alone a) turn.client c y [] (Some t)) as_refused (grants_none a before now held k turn t l p c ns room r v m on ready life h up is there own live mine served files from given of shape few free away none)) so
+        (subst (λ (y : Reply). GrantsFor false (state_of a) turn.client c y [] (Some t)) as_refused (grants_none a before now held k turn t l p c ns room r v m on ready life h up is there own live mine served files from given of shape few free away none)) so
 
     -- ---- it is granted
 
@@ -247,7 +247,7 @@ module _ {V : Type 0} (a : Alone) (before now : ℕ) (held : Contents) (k : Serv
         let leads : Leads false a (call_entry a turn.client turn.number w c (reply.Refused f) (act.Granted t ∷ [])) (with_locks a turn.client turn.number w t life c f) =
         refused_granted_leads a turn.client turn.number w t life c f false h.quiet (h.down ∙ up) (turn_session a held k turn h is) is.number live (mine.client ∙ own) of_trans (idle_told a turn.client t k.waits h.waits named away) counted.passes counted.now
         (lock_free a before now held k turn t l p c ns room r v m on ready life h up is there own live mine served files from given of shape few free away) why
-        (subst (λ (y : Reply). GrantsFor false (alone a) turn.client c y (t ∷ []) (Some t)) as_refused (grants_some a before now held k turn t l p c ns room r v m on ready life h up is there own live mine served files from given of shape few free away n others some)) in
+        (subst (λ (y : Reply). GrantsFor false (state_of a) turn.client c y (t ∷ []) (Some t)) as_refused (grants_some a before now held k turn t l p c ns room r v m on ready life h up is there own live mine served files from given of shape few free away n others some)) in
         stepped_so a before now held then k (left (reply.Refused f)) turn.client turn.number w c false (reply.Refused f) (act.Granted t ∷ []) (with_locks a turn.client turn.number w t life c f) x so h leads (granted_as then same leads.quiet) (λ e. cc)
         (stands_timely a.holder.clock (seen_in (event.Call turn.client k.epoch turn.number c)) k.clock h.clock)
 

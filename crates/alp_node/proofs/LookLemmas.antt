@@ -28,7 +28,7 @@ use Rattle.alp_journal.specs.Ids.{same_trans}
 use Rattle.alp_journal.specs.Desk.{file_trans, waiting_of}
 use Rattle.alp_journal.specs.declared.act.Act.TheVariants as act
 use Rattle.alp_journal.specs.declared.event.Event.TheVariants as event
-use Rattle.alp_journal.specs.Alone.{Alone, alone}
+use Rattle.alp_journal.specs.Account.{Account, state_of}
 use Rattle.alp_journal.proofs.IdLemmas.{same_trans-true}
 use Rattle.alp_calls.specs.declared.limits.Room.{Room}
 use Rattle.alp_node.specs.Asks.{is_given}
@@ -155,10 +155,10 @@ module _ {V : Type 0} (G : Ghosts V) (k : ServerState V) (m : LiveMap) (v : V) w
     pub part : Live
     pub there : map.get m t ≡ Some part
     pub own : part.client ≡ turn.client
-    pub kept : (a : Alone) → IsAs a (G.held k.vault) k → IsAs a (G.held v) looked
+    pub kept : (a : Account) → IsAs a (G.held k.vault) k → IsAs a (G.held v) looked
     pub ready : (n : ℕ) (on : Bool) → IsTrue on → IsReady n (G.serves k.vault) k → IsReady n on looked
 
-  module _ (turn : Turn) (t : TransId) (c : Call) (unseen : IsUnseen turn t) (left : IsLeft G k.vault v) (is : IsTurn k.sessions turn) (up : k.is_down ≡ false) (named : file_trans c ≡ Some t) (calm : (a : Alone) → IsAs a (G.held k.vault) k → waiting_of (alone a).desk turn.client t ≡ None) where
+  module _ (turn : Turn) (t : TransId) (c : Call) (unseen : IsUnseen turn t) (left : IsLeft G k.vault v) (is : IsTurn k.sessions turn) (up : k.is_down ≡ false) (named : file_trans c ≡ Some t) (calm : (a : Account) → IsAs a (G.held k.vault) k → waiting_of (state_of a).desk turn.client t ≡ None) where
     own_there : standing_of turn.client (map.get m t) (is_dead turn.client t k.dead) ≡ standing.Own
     own_there = own_standing turn.client (map.get m t) (is_dead turn.client t k.dead) (subst (IsOf turn.client) (sym unseen.there) unseen.own)
 
@@ -194,7 +194,7 @@ module _ {V : Type 0} (G : Ghosts V) (k : ServerState V) (m : LiveMap) (v : V) w
         (left_noted G k looked refl refl refl left up) (left_seated G k looked refl refl refl left) left
 
   -- whatever the fault was
-  pub without_step : (N new : ServerState V) (turn : Turn) (t : TransId) (c : Call) (fault : CallFault) (r : Result Answer OutOfMemory) → N ≡ looked → Looks G k.vault v (Some fault) → IsTurn k.sessions turn → k.is_down ≡ false → file_trans c ≡ Some t → ((a : Alone) → IsAs a (G.held k.vault) k → waiting_of (alone a).desk turn.client t ≡ None) → IsUnseen turn t
+  pub without_step : (N new : ServerState V) (turn : Turn) (t : TransId) (c : Call) (fault : CallFault) (r : Result Answer OutOfMemory) → N ≡ looked → Looks G k.vault v (Some fault) → IsTurn k.sessions turn → k.is_down ≡ false → file_trans c ≡ Some t → ((a : Account) → IsAs a (G.held k.vault) k → waiting_of (state_of a).desk turn.client t ≡ None) → IsUnseen turn t
       → (fault ≡ call_fault.Failed → IsRefused N new turn refusal.ReadFault r) → (fault ≡ call_fault.Stopped → IsDown N new (act.Stopped ∷ []) r) → (fault ≡ call_fault.OutOfMemory → (new ≡ N) × IsErr r)
       → IsStep G k new (event.Call turn.client k.epoch turn.number c) r
   without_step N new turn t c call_fault.Failed r is_looked look is up named calm unseen failed stopped memory =

@@ -26,9 +26,9 @@ use Rattle.alp_journal.specs.Holder.{Life}
 use Rattle.alp_journal.specs.Ids.{is_drawn}
 use Rattle.alp_journal.specs.Laws.{ending_of}
 use Rattle.alp_journal.specs.State.{is_trans_drawn}
-use Rattle.alp_journal.specs.Alone.{Alone, alone, IsPaired}
-use Rattle.alp_journal.proofs.AloneEntries.{counted_as}
-use Rattle.alp_journal.proofs.AloneOutcomes.{outcome_unknown_leads, outcome_leads}
+use Rattle.alp_journal.specs.Account.{Account, state_of, IsPaired}
+use Rattle.alp_journal.proofs.RefusedCalls.{counted_as}
+use Rattle.alp_journal.proofs.OutcomeCalls.{outcome_unknown_leads, outcome_leads}
 use Rattle.alp_node.specs.Decisions.{time_at, IsEnd}
 use Rattle.alp_node.specs.Endings.{is_begun, ending_by, ending_now, ending_here, ending_in}
 use Rattle.alp_node.specs.ServerState.{IsAs, IsReady, IsAlike}
@@ -81,27 +81,27 @@ given_id server epoch count t e = record {
 
 -- ---- how it stands
 
-module _ {V : Type 0} (a : Alone) (held : Contents) (k : ServerState V) (t : TransId) (h : IsAs a held k) where
-  drawn_is : is_trans_drawn (alone a) t ≡ is_begun k t
+module _ {V : Type 0} (a : Account) (held : Contents) (k : ServerState V) (t : TransId) (h : IsAs a held k) where
+  drawn_is : is_trans_drawn (state_of a) t ≡ is_begun k t
   drawn_is = λ i. is_drawn (h.server i) (h.epoch i) (h.drawn i) t.server t.epoch t.counter
 
   -- of what does not run nothing is known where it is of another epoch
-  of_other : (f : Fate) → IsPaired None f → (t.epoch == a.ids.epoch) ≡ false → ending_of (alone a) t f ≡ ending.Unknown
+  of_other : (f : Fate) → IsPaired None f → (t.epoch == a.ids.epoch) ≡ false → ending_of (state_of a) t f ≡ ending.Unknown
   of_other Undrawn h away = refl
   of_other (Running c js) h away = absurd h
   of_other (Finishing c js vs) h away = absurd h
-  of_other (Committed stamp js ds) h away = ap (λ (ks : List JoinNo). ending_of (alone a) t (Committed stamp ks ds)) h ∙ ap (λ (b : Bool). cond {A = Ending} b (ending.Committed stamp) ending.Unknown) away
+  of_other (Committed stamp js ds) h away = ap (λ (ks : List JoinNo). ending_of (state_of a) t (Committed stamp ks ds)) h ∙ ap (λ (b : Bool). cond {A = Ending} b (ending.Committed stamp) ending.Unknown) away
   of_other (Forgotten stamp js) h away = absurd h
   of_other (Ended c) h away = ap (λ (b : Bool). cond {A = Ending} b ending.Aborted ending.Unknown) away
 
   -- and in this epoch it is as its time says
-  of_this : (time : ℕ) (f : Fate) → IsPaired None f → IsEnd time t f → (t.epoch == a.ids.epoch) ≡ true → ending_of (alone a) t f ≡ ending_by t time
+  of_this : (time : ℕ) (f : Fate) → IsPaired None f → IsEnd time t f → (t.epoch == a.ids.epoch) ≡ true → ending_of (state_of a) t f ≡ ending_by t time
   of_this time Undrawn h is now = absurd is
   of_this time (Running c js) h is now = absurd h
   of_this time (Finishing c js vs) h is now = absurd h
   of_this time (Committed stamp js ds) h is now =
       let some : (time == 0) ≡ false = ne_eqb time 0 (λ none. (let late : 0 < time = is.0 in absurd (omega (arith, none, late)))) in
-      ap (λ (ks : List JoinNo). ending_of (alone a) t (Committed stamp ks ds)) h ∙ ap (λ (b : Bool). cond {A = Ending} b (ending.Committed stamp) ending.Unknown) now ∙ ap (λ (x : Stamp). ending.Committed x) is.1
+      ap (λ (ks : List JoinNo). ending_of (state_of a) t (Committed stamp ks ds)) h ∙ ap (λ (b : Bool). cond {A = Ending} b (ending.Committed stamp) ending.Unknown) now ∙ ap (λ (x : Stamp). ending.Committed x) is.1
       ∙ sym (ap (λ (b : Bool). cond {A = Ending} b ending.Aborted (ending.Committed (record { ts = time; trans = t }))) some)
   of_this time (Forgotten stamp js) h is now = absurd h
   of_this time (Ended c) h is now =
@@ -109,13 +109,13 @@ module _ {V : Type 0} (a : Alone) (held : Contents) (k : ServerState V) (t : Tra
 
   -- it runs just while it is kept
   of_kept : (locked : List Resource) (o : Option Live) (x : Option Life) (f : Fate) (time : ℕ) → IsAlike a.holder.cells k.locks.held locked t o x → IsPaired x f → IsEnd time t f → (t.epoch == a.ids.epoch) ≡ true
-      → ending_of (alone a) t f ≡ cond {A = Ending} (is_some o) ending.Running (ending_by t time)
+      → ending_of (state_of a) t f ≡ cond {A = Ending} (is_some o) ending.Running (ending_by t time)
   of_kept locked None None f time alike pair is now = of_this time f pair is now
-  of_kept locked (Some l) (Some life) f time alike pair is now = ap (ending_of (alone a) t) pair.0
+  of_kept locked (Some l) (Some life) f time alike pair is now = ap (ending_of (state_of a) t) pair.0
   of_kept locked None (Some life) f time alike pair is now = absurd alike
   of_kept locked (Some l) None f time alike pair is now = absurd alike
 
-  pub ending_said : is_begun k t ≡ true → ending_of (alone a) t (a.fates t) ≡ ending_here k t
+  pub ending_said : is_begun k t ≡ true → ending_of (state_of a) t (a.fates t) ≡ ending_here k t
   ending_said begun = go (t.epoch == k.epoch) refl
     where
       id : IsGivenId k.server k.epoch k.drawn t
@@ -125,7 +125,7 @@ module _ {V : Type 0} (a : Alone) (held : Contents) (k : ServerState V) (t : Tra
       none_live away None e = refl
       none_live away (Some life) e = absurd (away (h.current t life e))
 
-      go : (b : Bool) → (t.epoch == k.epoch) ≡ b → ending_of (alone a) t (a.fates t) ≡ cond {A = Ending} b (ending_now k t) ending.Unknown
+      go : (b : Bool) → (t.epoch == k.epoch) ≡ b → ending_of (state_of a) t (a.fates t) ≡ cond {A = Ending} b (ending_now k t) ending.Unknown
       go true e =
           let now : t.epoch ≡ k.epoch = eqb-true t.epoch k.epoch e in
           of_kept (a.locked t) (map.get k.lives t) (a.holder.lives t) (a.fates t) (time_at k.decisions t.counter) (h.lives t) (h.quiet.settled.paired t)
@@ -150,7 +150,7 @@ ending_past n serves k t h = go (t.epoch == k.epoch) (is_some (map.get k.lives t
 
 -- ---- its answer
 
-module _ {V : Type 0} (a : Alone) (before now : ℕ) (held : Contents) (k : ServerState V) (turn : Turn) (t : TransId) where
+module _ {V : Type 0} (a : Account) (before now : ℕ) (held : Contents) (k : ServerState V) (turn : Turn) (t : TransId) where
   pub outcome_unknown_stepped : (x : Answer) → IsAs a held k → IsTurn k.sessions turn → k.is_down ≡ false → is_begun k t ≡ false → x ≡ refused_answer refusal.UnknownTrans []
       → Stepped a before now held (record k { sessions = counted_in k.sessions turn (reply.Refused refusal.UnknownTrans) }) (event.Call turn.client k.epoch turn.number (call.Outcome t)) x
   outcome_unknown_stepped x h is up strange so =

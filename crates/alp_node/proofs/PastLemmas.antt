@@ -24,7 +24,7 @@ use Rattle.alp_journal.specs.Coordinator.{Fate, Undrawn, Running, Committed}
 use Rattle.alp_journal.specs.Coordinator as fate
 use Rattle.alp_journal.specs.Holder.{Life}
 use Rattle.alp_journal.specs.State.{is_other_server}
-use Rattle.alp_journal.specs.Alone.{Alone, alone, IsQuiet, IsPaired, IsTriedCommit, AreEarlier}
+use Rattle.alp_journal.specs.Account.{Account, state_of, IsQuiet, IsPaired, IsTriedCommit, AreEarlier}
 use Rattle.alp_journal.specs.Restarts.{restarted_at, with_decided}
 use Rattle.alp_journal.proofs.IdLemmas.{all-append, same_trans-true}
 use Rattle.alp_journal.proofs.StampLemmas.{put-last, AreEarlier-push}
@@ -40,7 +40,7 @@ use Rattle.alp_node.proofs.ToComeLemmas.{comes_after}
 
 -- ---- what stays
 
-pub past_of : {V : Type 0} (n : ℕ) (serves : Bool) (a : Alone) (held : Contents) (k : ServerState V) (sizes : Sizes) → IsAs a held k → IsReady n serves k → k.sizes ≡ sizes → IsPast a k.server k.epoch sizes
+pub past_of : {V : Type 0} (n : ℕ) (serves : Bool) (a : Account) (held : Contents) (k : ServerState V) (sizes : Sizes) → IsAs a held k → IsReady n serves k → k.sizes ≡ sizes → IsPast a k.server k.epoch sizes
 past_of n serves a held k sizes h ready same = record {
   number = h.server;
   lone = h.lone;
@@ -115,8 +115,8 @@ beyond_before server epoch n t far = farther (t.server == server && nat_lt 0 t.c
 -- ---- a server that starts again
 
 -- in the epoch after its last one, with this clock, on these cells
-pub again_as : {V : Type 0} (old : ServerState V) (sizes : Sizes) (b : Alone) (c : ClockNote) (held : Contents)
-    → ((n : ℕ) → is_other_server (alone b) n ≡ false) → 0 < b.ids.epoch → b.sizes ≡ sizes → b.ids.epoch + 1 ≡ c.epoch → held.cells ≡ b.holder.cells → held.notes ≡ clock_notes c → IsVolumeOf sizes held.cells
+pub again_as : {V : Type 0} (old : ServerState V) (sizes : Sizes) (b : Account) (c : ClockNote) (held : Contents)
+    → ((n : ℕ) → is_other_server (state_of b) n ≡ false) → 0 < b.ids.epoch → b.sizes ≡ sizes → b.ids.epoch + 1 ≡ c.epoch → held.cells ≡ b.holder.cells → held.notes ≡ clock_notes c → IsVolumeOf sizes held.cells
     → HaveBegun b.holder.server b.ids.epoch b.ids.transactions b.begun → ((t : TransId) → is_beyond b.holder.server b.ids.epoch b.ids.transactions t ≡ true → b.fates t ≡ Undrawn)
     → AreMade b.holder.server b.ids.epoch b.ids.files b.holder.made → SeesNoneToCome b.holder.server b.ids.epoch b.ids.files (map.get b.holder.cells) → AreEarlier c.clock b.holder.applied
     → IsQuiet (restarted_at b c.clock) → IsAs (restarted_at b c.clock) held (new_kept old b.holder.server sizes c)
@@ -151,7 +151,7 @@ again_as old sizes b c held lone some same later cells notes volume begun undraw
   down = refl;
 }
 
-module _ {V : Type 0} (old : ServerState V) (server epoch : ℕ) (sizes : Sizes) (a : Alone) (past : IsPast a server epoch sizes) (some : 0 < epoch) where
+module _ {V : Type 0} (old : ServerState V) (server epoch : ℕ) (sizes : Sizes) (a : Account) (past : IsPast a server epoch sizes) (some : 0 < epoch) where
   some_epoch : 0 < a.ids.epoch
   some_epoch = subst (λ (n : ℕ). 0 < n) (sym past.now) some
 
@@ -164,7 +164,7 @@ module _ {V : Type 0} (old : ServerState V) (server epoch : ℕ) (sizes : Sizes)
 
   -- the commit that was tried is found made
   module _ (c : IsTriedCommit a.holder a.ids.epoch a.is_down a.pending) where
-    abbrev decided : Alone
+    abbrev decided : Account
     decided = with_decided a c.stamp c.life
 
     its_running : a.fates c.stamp.trans ≡ Running c.life.client []

@@ -23,7 +23,7 @@ use Rattle.alp_files.specs.declared.refusal.What.TheVariants as what
 use Rattle.alp_journal.specs.Counts.{log_need}
 use Rattle.alp_node.specs.Shapes.{too_locked}
 use Rattle.alp_journal.specs.Answers.{if_over, all_live, made_by_all, left_places, locks_then, count_refusal}
-use Rattle.alp_journal.specs.Alone.{Alone, alone}
+use Rattle.alp_journal.specs.Account.{Account, state_of}
 use Rattle.alp_calls.specs.Limits.{IsAllowed}
 use Rattle.alp_calls.proofs.PartLaws.{allowed}
 use Rattle.alp_node.specs.Rooms.{IsRoomOf, counted}
@@ -48,18 +48,18 @@ none_locked area cells locks few log = λ i. option_or (if_over (not_over 1024 l
 counted_low : (n : ℕ) → n ≤ 4096 → counted n ≡ n
 counted_low n low = omega (arith, low)
 
-module _ {V : Type 0} (a : Alone) (held : Contents) (k : ServerState V) (h : IsAs a held k) (up : k.is_down ≡ false) (locks : ℕ) (room : Room) (of : IsRoomOf true held.cells k locks room) where
-  left_same : room.left ≡ left_places (alone a)
+module _ {V : Type 0} (a : Account) (held : Contents) (k : ServerState V) (h : IsAs a held k) (up : k.is_down ≡ false) (locks : ℕ) (room : Room) (of : IsRoomOf true held.cells k locks room) where
+  left_same : room.left ≡ left_places (state_of a)
   left_same =
       of.left refl ∙ (λ i. (sym h.sizes i).home - HEAD_PAGES - used_of (h.cells up i) - (totals_of k.lives).places)
       ∙ ap (λ (n : ℕ). a.sizes.home - HEAD_PAGES - used_of a.holder.cells - n) (sym (all_needs a held k h))
 
-  files_same : room.files ≡ file_count_of a.holder.cells + made_by_all is_leader (alone a) (all_live (alone a))
+  files_same : room.files ≡ file_count_of a.holder.cells + made_by_all is_leader (state_of a) (all_live (state_of a))
   files_same =
       of.files refl ∙ ap (λ (m : Cells). counted (file_count_of m + (totals_of k.lives).files)) (h.cells up) ∙ counted_low (file_count_of a.holder.cells + (totals_of k.lives).files) h.room.files
       ∙ ap (λ (n : ℕ). file_count_of a.holder.cells + n) (sym (all_files a held k h))
 
-  owners_same : room.owners ≡ owner_count_of a.holder.cells + made_by_all is_owner (alone a) (all_live (alone a))
+  owners_same : room.owners ≡ owner_count_of a.holder.cells + made_by_all is_owner (state_of a) (all_live (state_of a))
   owners_same =
       of.owners refl ∙ ap (λ (m : Cells). counted (owner_count_of m + (totals_of k.lives).owners)) (h.cells up)
       ∙ counted_low (owner_count_of a.holder.cells + (totals_of k.lives).owners) (omega (arith, h.room.owners)) ∙ ap (λ (n : ℕ). owner_count_of a.holder.cells + n) (sym (all_owners a held k h))
@@ -68,7 +68,7 @@ module _ {V : Type 0} (a : Alone) (held : Contents) (k : ServerState V) (h : IsA
   area_same = of.area ∙ ap (λ (s : Sizes). s.area) (sym h.sizes)
 
   module _ (t : TransId) (life : Life) (c : Call) (x : Answer) (now later : Counts) (before : AreCountsOf a.holder.cells life.edits now) (after : AreCountsOf a.holder.cells (life.edits ++ x.edits) later) where
-    pub refusal_same : locks ≡ locks_then (alone a) t life c → refused_for room now later ≡ count_refusal (alone a) t life c x
+    pub refusal_same : locks ≡ locks_then (state_of a) t life c → refused_for room now later ≡ count_refusal (state_of a) t life c x
     refusal_same locked = λ i. refused_for
         (record { left = left_same i; files = files_same i; owners = owners_same i; area = area_same i; locks = (of.held ∙ locked) i })
         (record { cells = before.cells i; places = before.places i; files = before.files i; owners = before.owners i })

@@ -12,7 +12,7 @@ use Rattle.alp_vault.specs.declared.vault.Vault.{Ghosts}
 use Rattle.alp_calls.specs.Looks.{IsLeft}
 use Rattle.alp_calls.proofs.LookLemmas.{left_same}
 use Rattle.alp_journal.specs.declared.event.Event.{Event}
-use Rattle.alp_journal.specs.Alone.{Alone}
+use Rattle.alp_journal.specs.Account.{Account}
 use Rattle.alp_node.specs.Durable.{Leaves, Besides}
 use Rattle.alp_node.specs.ServerState.{IsAs, IsReady}
 use Rattle.alp_node.specs.Steps.{Stepped, IsGiven, IsSeated, IsNoted, IsStepAs, IsStep}
@@ -73,7 +73,7 @@ module _ {V : Type 0} (G : Ghosts V) where
 
     -- a step that only looks into the vault, by what the event is among the calls of its client
     pub left_step_as : (o : Option CallOrder) (e : Event) (x : Answer) → old.is_down ≡ false
-        → (IsTrue (G.tells old.vault) → (a : Alone) → IsAs a (G.held old.vault) old → Stepped a (G.faults old.vault) (G.faults new.vault) (G.held new.vault) new e x)
+        → (IsTrue (G.tells old.vault) → (a : Account) → IsAs a (G.held old.vault) old → Stepped a (G.faults old.vault) (G.faults new.vault) (G.held new.vault) new e x)
         → IsGiven old.server o (G.faults old.vault) (G.faults new.vault) (G.allowance new.vault) new.is_down x
         → ((n : ℕ) → IsReady n (G.serves old.vault) old → IsReady (n + 1) (G.serves new.vault) new)
         → (new.is_down ≡ false → HasTurned o old new e x.kept)
@@ -91,7 +91,7 @@ module _ {V : Type 0} (G : Ghosts V) where
 
     -- that of a session's next call
     pub left_step : (e : Event) (x : Answer) → old.is_down ≡ false
-        → (IsTrue (G.tells old.vault) → (a : Alone) → IsAs a (G.held old.vault) old → Stepped a (G.faults old.vault) (G.faults new.vault) (G.held new.vault) new e x)
+        → (IsTrue (G.tells old.vault) → (a : Account) → IsAs a (G.held old.vault) old → Stepped a (G.faults old.vault) (G.faults new.vault) (G.held new.vault) new e x)
         → IsGiven old.server (Some order.Next) (G.faults old.vault) (G.faults new.vault) (G.allowance new.vault) new.is_down x
         → ((n : ℕ) → IsReady n (G.serves old.vault) old → IsReady (n + 1) (G.serves new.vault) new)
         → (new.is_down ≡ false → HasTurned (Some order.Next) old new e x.kept)

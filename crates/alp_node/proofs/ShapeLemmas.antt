@@ -36,7 +36,7 @@ use Rattle.alp_journal.specs.State.{is_file_drawn}
 use Rattle.alp_journal.specs.declared.event.Event.TheVariants as event
 use Rattle.alp_journal.specs.Answers.{shape_refusal, lock_refusal, open_refusal, open_reply, more_locks, if_over}
 use Rattle.alp_journal.specs.Answered.{is_fault_reply}
-use Rattle.alp_journal.specs.Alone.{Alone, alone}
+use Rattle.alp_journal.specs.Account.{Account, state_of}
 use Rattle.alp_node.specs.Asks.{is_given, is_of_given}
 use Rattle.alp_node.specs.Calls.{IsServedCall}
 use Rattle.alp_node.specs.Dead.{is_dead}
@@ -126,8 +126,8 @@ shape_quiet here server epoch given opens c f e = go (shape_is server epoch give
     go (inr x) = ap (λ (g : Refusal). is_fault_reply here (Some (reply.Refused g)) || says_shut (Some (reply.Refused g))) x.0
 
 -- where the counts refuse it nothing is done
-pub count_none_done : (a : Alone) (t : TransId) (c : Call) (f : Refusal) → IsCountRefusal f → done_by (alone a) c (reply.Refused f) (Some t) ≡ []
-count_none_done a t c f counts = ap (λ (b : Bool). cond {A = List Deed} (b || is_of_no_file (alone a) c (reply.Refused f)) [] (Performs t (record { call = c; reply = reply.Refused f }) ∷ [])) counts.passes
+pub count_none_done : (a : Account) (t : TransId) (c : Call) (f : Refusal) → IsCountRefusal f → done_by (state_of a) c (reply.Refused f) (Some t) ≡ []
+count_none_done a t c f counts = ap (λ (b : Bool). cond {A = List Deed} (b || is_of_no_file (state_of a) c (reply.Refused f)) [] (Performs t (record { call = c; reply = reply.Refused f }) ∷ [])) counts.passes
 
 -- ---- as the journal tells it
 
@@ -135,27 +135,27 @@ count_none_done a t c f counts = ap (λ (b : Bool). cond {A = List Deed} (b || i
 pub first_is : (o p q : Option Refusal) (f : Refusal) → o ≡ Some f → option_or (option_or o p) q ≡ Some f
 first_is o p q f e = ap (λ (x : Option Refusal). option_or (option_or x p) q) e
 
-module _ {V : Type 0} (a : Alone) (held : Contents) (k : ServerState V) (h : IsAs a held k) (raised : 0 < k.epoch) (t : TransId) (l : Live) (life : Life) (mine : IsLife a.holder.cells k.locks.held (a.locked t) t l life) where
+module _ {V : Type 0} (a : Account) (held : Contents) (k : ServerState V) (h : IsAs a held k) (raised : 0 < k.epoch) (t : TransId) (l : Live) (life : Life) (mine : IsLife a.holder.cells k.locks.held (a.locked t) t l life) where
   -- the ids that the counts tell as given the journal tells too
-  drawn_same : (f : FileId) → is_file_drawn (alone a) f ≡ is_given k.server k.epoch k.given f
+  drawn_same : (f : FileId) → is_file_drawn (state_of a) f ≡ is_given k.server k.epoch k.given f
   drawn_same f = go (is_given k.server k.epoch k.given f) refl
     where
-      go : (b : Bool) → is_given k.server k.epoch k.given f ≡ b → is_file_drawn (alone a) f ≡ b
+      go : (b : Bool) → is_given k.server k.epoch k.given f ≡ b → is_file_drawn (state_of a) f ≡ b
       go true e = known_file a held k f h e
       go false e = unknown_file a held k f h raised e
 
   opens_same : length life.own.opens ≡ length l.part.opens.items
   opens_same = ap (λ (w : Own). length w.opens) (sym mine.own)
 
-  create_shape : (u : TransId) (start : Props) (choice : Choice) → shape_refusal (alone a) life (call.CreateFile u start choice) ≡ shape_of k.server k.epoch k.given (length l.part.opens.items) (call.CreateFile u start choice)
+  create_shape : (u : TransId) (start : Props) (choice : Choice) → shape_refusal (state_of a) life (call.CreateFile u start choice) ≡ shape_of k.server k.epoch k.given (length l.part.opens.items) (call.CreateFile u start choice)
   create_shape u start choice = ap (λ (n : ℕ). option_or (no_size start.size) (no_open n)) opens_same
 
   open_shape : (u : TransId) (f : FileId) (access : Access) (mode : Mode) (choice : Choice)
-      → shape_refusal (alone a) life (call.OpenFile u f access mode choice) ≡ shape_of k.server k.epoch k.given (length l.part.opens.items) (call.OpenFile u f access mode choice)
+      → shape_refusal (state_of a) life (call.OpenFile u f access mode choice) ≡ shape_of k.server k.epoch k.given (length l.part.opens.items) (call.OpenFile u f access mode choice)
   open_shape u f access mode choice = λ i. option_or (if_over (not (drawn_same f i)) refusal.UnknownFile) (no_open (opens_same i))
 
   -- what is refused for its shape is so before all else
-  pub shape_told : (c : Call) (f : Refusal) (rest : Option Refusal) → IsServedCall c → shape_of k.server k.epoch k.given (length l.part.opens.items) c ≡ Some f → option_or (shape_refusal (alone a) life c) rest ≡ Some f
+  pub shape_told : (c : Call) (f : Refusal) (rest : Option Refusal) → IsServedCall c → shape_of k.server k.epoch k.given (length l.part.opens.items) c ≡ Some f → option_or (shape_refusal (state_of a) life c) rest ≡ Some f
   shape_told (call.CreateFile u start choice) f rest is e = ap (λ (x : Option Refusal). option_or x rest) (create_shape u start choice ∙ e)
   shape_told (call.OpenFile u g access mode choice) f rest is e = ap (λ (x : Option Refusal). option_or x rest) (open_shape u g access mode choice ∙ e)
   shape_told (call.ReadPages u n r mode choice) f rest is e = first_is (no_run r) _ rest f e
@@ -167,14 +167,14 @@ module _ {V : Type 0} (a : Alone) (held : Contents) (k : ServerState V) (h : IsA
   -- where it is not, it is refused for its open, and then needs nothing, or it is not refused
   pub record IsShut (c : Call) : Type 0 where
     pub refusal : Refusal
-    pub first : shape_refusal (alone a) life c ≡ Some refusal
+    pub first : shape_refusal (state_of a) life c ≡ Some refusal
     pub is : (r : Reply) → answer_in a.holder life (record { call = c; reply = r }) ≡ refused life.own refusal
     pub shows : open_reply (Some (reply.Refused refusal)) ≡ Some refusal
     pub none : needs_of (view_in a.holder life) life.own c ≡ []
     pub less : more_locks c ≡ 0
 
-  by_open : (c : Call) → more_locks c ≡ 0 → shape_refusal (alone a) life c ≡ open_refusal (alone a) life c → ((r : Reply) → answer_in a.holder life (record { call = c; reply = r }) ≡ answer_in a.holder life (record { call = c; reply = reply.Plain }))
-      → EitherOpen life.own (needs_of (view_in a.holder life) life.own c) (answer_in a.holder life (record { call = c; reply = reply.Plain })) → (shape_refusal (alone a) life c ≡ None) ⊎ IsShut c
+  by_open : (c : Call) → more_locks c ≡ 0 → shape_refusal (state_of a) life c ≡ open_refusal (state_of a) life c → ((r : Reply) → answer_in a.holder life (record { call = c; reply = r }) ≡ answer_in a.holder life (record { call = c; reply = reply.Plain }))
+      → EitherOpen life.own (needs_of (view_in a.holder life) life.own c) (answer_in a.holder life (record { call = c; reply = reply.Plain })) → (shape_refusal (state_of a) life c ≡ None) ⊎ IsShut c
   by_open c less first same (inl passes) = inl (first ∙ passes)
   by_open c less first same (inr x) = inr (record {
     refusal = x.refusal;
@@ -185,7 +185,7 @@ module _ {V : Type 0} (a : Alone) (held : Contents) (k : ServerState V) (h : IsA
     less = less;
   })
 
-  pub shape_cases : (c : Call) → IsServedCall c → shape_of k.server k.epoch k.given (length l.part.opens.items) c ≡ None → (shape_refusal (alone a) life c ≡ None) ⊎ IsShut c
+  pub shape_cases : (c : Call) → IsServedCall c → shape_of k.server k.epoch k.given (length l.part.opens.items) c ≡ None → (shape_refusal (state_of a) life c ≡ None) ⊎ IsShut c
   shape_cases (call.CreateFile u start choice) is e = inl (create_shape u start choice ∙ e)
   shape_cases (call.OpenFile u g access mode choice) is e = inl (open_shape u g access mode choice ∙ e)
   shape_cases (call.CloseFile u n) is e = by_open (call.CloseFile u n) refl refl (λ r. refl) (close_open (view_in a.holder life) life.own n (open_at life.own.opens n))
@@ -193,16 +193,16 @@ module _ {V : Type 0} (a : Alone) (held : Contents) (k : ServerState V) (h : IsA
       by_open (call.DeleteFile u n choice) refl refl (λ r. refl)
       (either_change (view_in a.holder life) life.own (open_at life.own.opens n) (λ o p. (Whole o.file, Write) ∷ (Leaf (OwnerOf p.owner), Write) ∷ []) (delete_file life.own) (λ o p. refl))
   shape_cases (call.ReadPages u n r mode choice) is e =
-      by_open (call.ReadPages u n r mode choice) refl (ap (λ (x : Option Refusal). option_or x (open_refusal (alone a) life (call.ReadPages u n r mode choice))) e) (λ r. refl)
+      by_open (call.ReadPages u n r mode choice) refl (ap (λ (x : Option Refusal). option_or x (open_refusal (state_of a) life (call.ReadPages u n r mode choice))) e) (λ r. refl)
       (either_open (view_in a.holder life) life.own (open_at life.own.opens n) (λ o p. page_needs o.file r.first r.count mode) (read_pages life.own r) (read_on (view_in a.holder life) life.own r))
   shape_cases (call.WritePages u n r pages choice) is e =
-      by_open (call.WritePages u n r pages choice) refl (ap (λ (x : Option Refusal). option_or x (open_refusal (alone a) life (call.WritePages u n r pages choice))) e) (λ r. refl)
+      by_open (call.WritePages u n r pages choice) refl (ap (λ (x : Option Refusal). option_or x (open_refusal (state_of a) life (call.WritePages u n r pages choice))) e) (λ r. refl)
       (either_change (view_in a.holder life) life.own (open_at life.own.opens n) (λ o p. mark_needs o.file p (r.first + r.count) ++ page_needs o.file r.first r.count Write) (write_pages life.own r pages) (write_on (view_in a.holder life) life.own r pages))
   shape_cases (call.LockPages u n r mode choice) is e =
-      by_open (call.LockPages u n r mode choice) refl (ap (λ (x : Option Refusal). option_or x (open_refusal (alone a) life (call.LockPages u n r mode choice))) e) (λ r. refl)
+      by_open (call.LockPages u n r mode choice) refl (ap (λ (x : Option Refusal). option_or x (open_refusal (state_of a) life (call.LockPages u n r mode choice))) e) (λ r. refl)
       (lock_open (view_in a.holder life) life.own r (is_changing mode) (open_at life.own.opens n) (λ o p. page_needs o.file r.first r.count mode))
   shape_cases (call.SetSize u n size choice) is e =
-      by_open (call.SetSize u n size choice) refl (ap (λ (x : Option Refusal). option_or x (open_refusal (alone a) life (call.SetSize u n size choice))) e) (λ r. refl)
+      by_open (call.SetSize u n size choice) refl (ap (λ (x : Option Refusal). option_or x (open_refusal (state_of a) life (call.SetSize u n size choice))) e) (λ r. refl)
       (either_change (view_in a.holder life) life.own (open_at life.own.opens n) (size_needs size) (set_size life.own size) (size_on (view_in a.holder life) life.own size))
   shape_cases (call.ReadProps u n) is e = by_open (call.ReadProps u n) refl refl (λ r. refl) (props_open (open_at life.own.opens n))
     where
@@ -222,25 +222,25 @@ module _ {V : Type 0} (a : Alone) (held : Contents) (k : ServerState V) (h : IsA
   shape_cases c is e = (let wrong : false ≡ true = is in cc)
 
   -- and nothing is done
-  pub shape_none : (c : Call) (f : Refusal) → IsServedCall c → shape_of k.server k.epoch k.given (length l.part.opens.items) c ≡ Some f → done_by (alone a) c (reply.Refused f) (Some t) ≡ []
+  pub shape_none : (c : Call) (f : Refusal) → IsServedCall c → shape_of k.server k.epoch k.given (length l.part.opens.items) c ≡ Some f → done_by (state_of a) c (reply.Refused f) (Some t) ≡ []
   shape_none c f is e = go (shape_is k.server k.epoch k.given (length l.part.opens.items) c f e)
     where
-      drawn_not : (x : Call) → is_of_given k.server k.epoch k.given x ≡ false → done_by (alone a) x (reply.Refused refusal.UnknownFile) (Some t) ≡ []
+      drawn_not : (x : Call) → is_of_given k.server k.epoch k.given x ≡ false → done_by (state_of a) x (reply.Refused refusal.UnknownFile) (Some t) ≡ []
       drawn_not (call.OpenFile u g access mode choice) away = ap (λ (b : Bool). cond {A = List Deed} (not b) [] (Performs t (record { call = call.OpenFile u g access mode choice; reply = reply.Refused refusal.UnknownFile }) ∷ [])) (drawn_same g ∙ away)
       drawn_not x away = cc
 
-      go : IsCountRefusal f ⊎ ((f ≡ refusal.UnknownFile) × (is_of_given k.server k.epoch k.given c ≡ false)) → done_by (alone a) c (reply.Refused f) (Some t) ≡ []
+      go : IsCountRefusal f ⊎ ((f ≡ refusal.UnknownFile) × (is_of_given k.server k.epoch k.given c ≡ false)) → done_by (state_of a) c (reply.Refused f) (Some t) ≡ []
       go (inl counts) = count_none_done a t c f counts
-      go (inr x) = subst (λ (g : Refusal). done_by (alone a) c (reply.Refused g) (Some t) ≡ []) (sym x.0) (drawn_not c x.1)
+      go (inr x) = subst (λ (g : Refusal). done_by (state_of a) c (reply.Refused g) (Some t) ≡ []) (sym x.0) (drawn_not c x.1)
 
 -- a file call is refused for its shape
-pub shape_stepped : {V : Type 0} (a : Alone) (before now : ℕ) (held : Contents) (k : ServerState V) (turn : Turn) (t : TransId) (c : Call) (f : Refusal) (x : Answer) → IsAs a held k → 0 < k.epoch → IsTurn k.sessions turn → k.is_down ≡ false
-    → file_trans c ≡ Some t → IsServedCall c → standing_of turn.client (map.get k.lives t) (is_dead turn.client t k.dead) ≡ standing.Own → waiting_of (alone a).desk turn.client t ≡ None → (l : Live) → map.get k.lives t ≡ Some l
+pub shape_stepped : {V : Type 0} (a : Account) (before now : ℕ) (held : Contents) (k : ServerState V) (turn : Turn) (t : TransId) (c : Call) (f : Refusal) (x : Answer) → IsAs a held k → 0 < k.epoch → IsTurn k.sessions turn → k.is_down ≡ false
+    → file_trans c ≡ Some t → IsServedCall c → standing_of turn.client (map.get k.lives t) (is_dead turn.client t k.dead) ≡ standing.Own → waiting_of (state_of a).desk turn.client t ≡ None → (l : Live) → map.get k.lives t ≡ Some l
     → shape_of k.server k.epoch k.given (length l.part.opens.items) c ≡ Some f → x ≡ refused_answer f []
     → Stepped a before now held (record k { sessions = counted_in k.sessions turn (reply.Refused f) }) (event.Call turn.client k.epoch turn.number c) x
 shape_stepped a before now held k turn t c f x h raised is up named served own idle l there e so =
     let y : IsLive a.holder.cells k.locks.held (a.locked t) t l (a.holder.lives t) = live_there a.holder.cells k.locks.held (a.locked t) t (map.get k.lives t) (a.holder.lives t) l there (h.lives t) in
-    first_stepped a before now held k turn t c f y.life x h is up named own idle y.is (shape_told a held k h raised t l y.life y.alike c f (lock_refusal (alone a) t y.life c) served e)
+    first_stepped a before now held k turn t c f y.life x h is up named own idle y.is (shape_told a held k h raised t l y.life y.alike c f (lock_refusal (state_of a) t y.life c) served e)
     (shape_now k.server k.epoch k.given (length l.part.opens.items) c f e) (shape_none a held k h raised t l y.life y.alike c f served e) so
 
 -- ---- its locks

@@ -28,7 +28,7 @@ use Rattle.alp_calls.proofs.CountLaws.{used_after, files_after, owners_after}
 use Rattle.alp_calls.proofs.PartLaws.{part_fits, same_change}
 use Rattle.alp_journal.specs.Ids.{same_trans}
 use Rattle.alp_journal.specs.Holder.{Life}
-use Rattle.alp_journal.specs.Alone.{Alone}
+use Rattle.alp_journal.specs.Account.{Account}
 use Rattle.alp_node.specs.Eases.{new_blocks, shared_in, eased_live, eased}
 use Rattle.alp_node.specs.Rooms.{IsWithin}
 use Rattle.alp_turns.proofs.StandLemmas.{needs_stand}
@@ -51,7 +51,7 @@ intended_of cells locks rs u (Some l) (Some life) m is h = subst (λ (y : Life).
 intended_of cells locks rs u None (Some life) m is h = absurd h
 intended_of cells locks rs u (Some l) None m is h = absurd h
 
-module _ {V : Type 0} (a : Alone) (held : Contents) (k : ServerState V) (h : IsAs a held k) (t : TransId) (l : Live) (there : map.get k.lives t ≡ Some l) (life : Life) (live : a.holder.lives t ≡ Some life) (mine : IsLife a.holder.cells k.locks.held (a.locked t) t l life) where
+module _ {V : Type 0} (a : Account) (held : Contents) (k : ServerState V) (h : IsAs a held k) (t : TransId) (l : Live) (there : map.get k.lives t ≡ Some l) (life : Life) (live : a.holder.lives t ≡ Some life) (mine : IsLife a.holder.cells k.locks.held (a.locked t) t l life) where
   abbrev cells_then : Cells
   cells_then = edits_map life.edits a.holder.cells
 

@@ -16,7 +16,7 @@ use Rattle.alp_journal.specs.Deeds.{Deed, Finishes, Ends}
 use Rattle.alp_journal.specs.Moves.{finishes, ends_by}
 use Rattle.alp_journal.specs.Messages.{Mail, on_finish}
 use Rattle.alp_journal.specs.Answers.{Part, NoPart, AtWork, AtEnd, own_part, ended_part, part_at}
-use Rattle.alp_journal.specs.Alone.{Alone, alone, IsPaired}
+use Rattle.alp_journal.specs.Account.{Account, state_of, IsPaired}
 use Rattle.alp_node.specs.Dead.{is_dead}
 use Rattle.alp_node.specs.ServerState.{IsAs, IsAlike}
 use Rattle.alp_node.specs.Standings.{standing_of}
@@ -94,21 +94,21 @@ ends_none client cells locks rs t (Some l) (Some life) f b commit desk r h p not
 ends_none client cells locks rs t None (Some life) f b commit desk r h p not_own = absurd h
 ends_none client cells locks rs t (Some l) None f b commit desk r h p not_own = absurd h
 
-module _ {V : Type 0} (a : Alone) (held : Contents) (k : ServerState V) (client : ℕ) (t : TransId) where
+module _ {V : Type 0} (a : Account) (held : Contents) (k : ServerState V) (client : ℕ) (t : TransId) where
   -- an id of another server was not drawn here
   pub undrawn_elsewhere : IsAs a held k → (t.server == a.holder.server) ≡ false → a.fates t ≡ Undrawn
   undrawn_elsewhere h away = h.undrawn t (ap (λ (b : Bool). not (b && nat_lt 0 t.counter && (nat_lt t.epoch a.ids.epoch || (t.epoch == a.ids.epoch && nat_le t.counter k.drawn)))) away)
 
-  pub part_is : IsAs a held k → part_at (alone a) client t ≡ part_of (standing_of client (map.get k.lives t) (is_dead client t k.dead))
+  pub part_is : IsAs a held k → part_at (state_of a) client t ≡ part_of (standing_of client (map.get k.lives t) (is_dead client t k.dead))
   part_is h = go (t.server == a.holder.server) refl ∙ own_part_is client a.holder.cells k.locks.held (a.locked t) t (map.get k.lives t) (a.holder.lives t) (a.fates t) (a.dead client t) (is_dead client t k.dead) (h.lives t) (h.quiet.settled.paired t) (h.dead client t)
     where
-      go : (b : Bool) → (t.server == a.holder.server) ≡ b → part_at (alone a) client t ≡ own_part client (a.dead client t) (a.fates t)
+      go : (b : Bool) → (t.server == a.holder.server) ≡ b → part_at (state_of a) client t ≡ own_part client (a.dead client t) (a.fates t)
       go true e = ap (λ (b : Bool). cond {A = Part} b (own_part client (a.dead client t) (a.fates t)) (ended_part (a.dead client t))) e
       go false e = ap (λ (b : Bool). cond {A = Part} b (own_part client (a.dead client t) (a.fates t)) (ended_part (a.dead client t))) e
           ∙ sym (ap (own_part client (a.dead client t)) (undrawn_elsewhere h e))
 
-  pub finish_none : (commit : Bool) (r : Reply) → IsAs a held k → (standing_of client (map.get k.lives t) (is_dead client t k.dead) ≡ standing.Own → ⊥) → EndsNone client t commit (alone a).desk r (a.fates t)
-  finish_none commit r h = ends_none client a.holder.cells k.locks.held (a.locked t) t (map.get k.lives t) (a.holder.lives t) (a.fates t) (is_dead client t k.dead) commit (alone a).desk r (h.lives t) (h.quiet.settled.paired t)
+  pub finish_none : (commit : Bool) (r : Reply) → IsAs a held k → (standing_of client (map.get k.lives t) (is_dead client t k.dead) ≡ standing.Own → ⊥) → EndsNone client t commit (state_of a).desk r (a.fates t)
+  finish_none commit r h = ends_none client a.holder.cells k.locks.held (a.locked t) t (map.get k.lives t) (a.holder.lives t) (a.fates t) (is_dead client t k.dead) commit (state_of a).desk r (h.lives t) (h.quiet.settled.paired t)
 
 -- the client's own is live
 pub own_standing : (client : ℕ) (o : Option Live) (b : Bool) → IsOf client o → standing_of client o b ≡ standing.Own

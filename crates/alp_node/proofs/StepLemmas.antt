@@ -21,7 +21,7 @@ use Rattle.alp_node.specs.Halts.{HaveCauses, says_shut}
 use Rattle.alp_node.proofs.SeatLemmas.{left_alone, left_step_as, left_step}
 use Rattle.alp_journal.specs.declared.event.Event.{Event}
 use Rattle.alp_journal.specs.declared.event.Event.TheVariants as event
-use Rattle.alp_journal.specs.Alone.{Alone, alone}
+use Rattle.alp_journal.specs.Account.{Account, state_of}
 use Rattle.alp_vault.specs.declared.vault.Vault.{Ghosts}
 use Rattle.alp_node.specs.ServerState.{IsAs, IsReady}
 use Rattle.alp_node.specs.Steps.{Stepped, IsStepAs, IsStep, IsTurn, counted_in, ended, told_answer, refused_answer, entry_of}
@@ -41,10 +41,10 @@ module _ {V : Type 0} (G : Ghosts V) (k new : ServerState V) (v : V) where
   pub down_step : (turn : Turn) (c : Call) (x : Answer) (acts : List Act) → IsSameVault G.tells G.volume G.server G.servers k.vault v → Spends (G.allowance k.vault) (G.allowance v) → G.serves v ≡ false → G.faults k.vault ≤ G.faults v
       → new ≡ record k { is_down = true; vault = v }
       → x ≡ refused_answer refusal.Down acts → list_any is_stop acts ≡ true → HaveCauses (G.faults k.vault) (G.faults v) (G.allowance v) acts
-      → (IsTrue (G.tells k.vault) → (a : Alone) → IsAs a (G.held k.vault) k
+      → (IsTrue (G.tells k.vault) → (a : Account) → IsAs a (G.held k.vault) k
       → Stepped a (G.faults k.vault) (G.faults v) (G.held v) (record k { is_down = true; vault = v }) (event.Call turn.client k.epoch turn.number c) x)
-      → (IsTrue (G.tells k.vault) → (a : Alone) → IsAs a (G.held k.vault) k
-      → Leaves G k.vault v (Besides G k.vault (λ z. z ≡ said_by (alone a) (entry_of (event.Call turn.client k.epoch turn.number c) x))))
+      → (IsTrue (G.tells k.vault) → (a : Account) → IsAs a (G.held k.vault) k
+      → Leaves G k.vault v (Besides G k.vault (λ z. z ≡ said_by (state_of a) (entry_of (event.Call turn.client k.epoch turn.number c) x))))
       → IsStep G k new (event.Call turn.client k.epoch turn.number c) (Ok x)
   down_step turn c x acts same spends off later down so stop causes steps leaves =
       subst (λ (y : ServerState V). IsStep G k y (event.Call turn.client k.epoch turn.number c) (Ok x)) (sym down) (record {
@@ -63,7 +63,7 @@ module _ {V : Type 0} (G : Ghosts V) (k new : ServerState V) where
   pub plain_step : (turn : Turn) (c : Call) (x : Answer) (r : Reply) (acts : List Act) → new.vault ≡ k.vault → new.server ≡ k.server → new.sizes ≡ k.sizes → new.epoch ≡ k.epoch → k.is_down ≡ false → new.is_down ≡ false → (is_fault_reply k.server (Some r) || says_shut (Some r)) ≡ false
       → x ≡ told_answer (Some r) acts → list_any is_stop acts ≡ false → ((before now : ℕ) (allowance : Allowance) → HaveCauses before now allowance acts)
       → ((n : ℕ) → IsReady n (G.serves k.vault) k → IsReady (n + 1) (G.serves k.vault) new)
-      → (IsTrue (G.tells k.vault) → (a : Alone) → IsAs a (G.held k.vault) k → Stepped a (G.faults k.vault) (G.faults k.vault) (G.held k.vault) new (event.Call turn.client k.epoch turn.number c) x)
+      → (IsTrue (G.tells k.vault) → (a : Account) → IsAs a (G.held k.vault) k → Stepped a (G.faults k.vault) (G.faults k.vault) (G.held k.vault) new (event.Call turn.client k.epoch turn.number c) x)
       → HasTurned (Some order.Next) k new (event.Call turn.client k.epoch turn.number c) (Some r)
       → IsStep G k new (event.Call turn.client k.epoch turn.number c) (Ok x)
   plain_step turn c x r acts vault server sizes epoch was up quiet so none causes ready steps turned =
@@ -75,7 +75,7 @@ module _ {V : Type 0} (G : Ghosts V) (k new : ServerState V) where
 
   -- the call is refused, and the session counts it
   pub refused_step : (turn : Turn) (c : Call) (x : Answer) (f : Refusal) → (is_fault_reply k.server (Some (reply.Refused f)) || says_shut (Some (reply.Refused f))) ≡ false → IsTurn k.sessions turn → k.is_down ≡ false → new ≡ record k { sessions = counted_in k.sessions turn (reply.Refused f) } → x ≡ refused_answer f []
-      → (IsTrue (G.tells k.vault) → (a : Alone) → IsAs a (G.held k.vault) k → Stepped a (G.faults k.vault) (G.faults k.vault) (G.held k.vault) (record k { sessions = counted_in k.sessions turn (reply.Refused f) }) (event.Call turn.client k.epoch turn.number c) x)
+      → (IsTrue (G.tells k.vault) → (a : Account) → IsAs a (G.held k.vault) k → Stepped a (G.faults k.vault) (G.faults k.vault) (G.held k.vault) (record k { sessions = counted_in k.sessions turn (reply.Refused f) }) (event.Call turn.client k.epoch turn.number c) x)
       → IsInSession (reply.Refused f)
       → IsStep G k new (event.Call turn.client k.epoch turn.number c) (Ok x)
   refused_step turn c x f quiet is up same so steps inside =
@@ -88,7 +88,7 @@ module _ {V : Type 0} (G : Ghosts V) (k new : ServerState V) where
   pub silent_step : (e : Event) (x : Answer) (acts : List Act) → new.vault ≡ k.vault → new.server ≡ k.server → new.sizes ≡ k.sizes → new.epoch ≡ k.epoch → k.is_down ≡ false → new.is_down ≡ false
       → x ≡ told_answer None acts
       → list_any is_stop acts ≡ false → ((before now : ℕ) (allowance : Allowance) → HaveCauses before now allowance acts) → ((n : ℕ) → IsReady n (G.serves k.vault) k → IsReady (n + 1) (G.serves k.vault) new)
-      → ((a : Alone) → IsAs a (G.held k.vault) k → Stepped a (G.faults k.vault) (G.faults k.vault) (G.held k.vault) new e x)
+      → ((a : Account) → IsAs a (G.held k.vault) k → Stepped a (G.faults k.vault) (G.faults k.vault) (G.held k.vault) new e x)
       → new.clock ≡ k.clock → new.sessions ≡ k.sessions → IsStepAs G None k new e (Ok x)
   silent_step e x acts vault server sizes epoch was up so none causes ready steps clock sessions =
       left_step_as G k new server sizes epoch (left_alone G k.vault new.vault vault) None e x was
@@ -100,7 +100,7 @@ module _ {V : Type 0} (G : Ghosts V) (k new : ServerState V) where
   -- a part ends without effect, and others have its locks
   pub ended_step : (turn : Turn) (t : TransId) (ts : List TransId) (c : Call) (cause : Cause) (x : Answer) → (is_fault_reply k.server (Some (reply.Refused (refusal.Aborted cause))) || false) ≡ false → IsTurn k.sessions turn → k.is_down ≡ false
       → new ≡ ended k turn t (reply.Refused (refusal.Aborted cause)) → x ≡ refused_answer (refusal.Aborted cause) (act.Released t ∷ grant_acts ts)
-      → (IsTrue (G.tells k.vault) → (a : Alone) → IsAs a (G.held k.vault) k
+      → (IsTrue (G.tells k.vault) → (a : Account) → IsAs a (G.held k.vault) k
       → Stepped a (G.faults k.vault) (G.faults k.vault) (G.held k.vault) (ended k turn t (reply.Refused (refusal.Aborted cause))) (event.Call turn.client k.epoch turn.number c) x)
       → IsStep G k new (event.Call turn.client k.epoch turn.number c) (Ok x)
   ended_step turn t ts c cause x quiet is up done so steps =

@@ -24,7 +24,7 @@ use Rattle.alp_journal.specs.Opening.{Start}
 use Rattle.alp_journal.specs.State.{State, is_other_server}
 use Rattle.alp_journal.specs.Laws.{IsLawful}
 use Rattle.alp_journal.specs.Answered.{IsAnswered}
-use Rattle.alp_journal.specs.Alone.{Alone, alone, IsQuiet, AreEarlier, AreOwnEvents}
+use Rattle.alp_journal.specs.Account.{Account, state_of, IsQuiet, AreEarlier, AreOwnEvents}
 use Rattle.alp_node.specs.DownStates.{DownState}
 use Rattle.alp_node.specs.NodeStates.{NodeState}
 use Rattle.alp_node.specs.Durable.{stored_by, Leaves}
@@ -53,9 +53,9 @@ pub record IsLeftOf (s : State) (c : Contents) : Type 0 where
 
 -- Of the state that a server fell in these stay: which it is, and that no other is of the run; the ids that it gave and those that it
 -- did not; what was applied; and that it was quiet.
-pub record IsPast (a : Alone) (server epoch : ℕ) (sizes : Sizes) : Type 0 where
+pub record IsPast (a : Account) (server epoch : ℕ) (sizes : Sizes) : Type 0 where
   pub number : a.holder.server ≡ server
-  pub lone : (n : ℕ) → is_other_server (alone a) n ≡ false
+  pub lone : (n : ℕ) → is_other_server (state_of a) n ≡ false
   pub volume : a.sizes ≡ sizes
   pub now : a.ids.epoch ≡ epoch
   pub clock : a.holder.clock ≤ 2 ^ 62
@@ -73,8 +73,8 @@ pub record IsPastRight {V : Type 0} (o : Start) (sizes : Sizes) (d : DownState V
   pub lawful : IsLawful o d.journal
   pub caused : IsAnswered o d.journal
   pub own : AreOwnEvents d.journal
-  pub state : Alone
-  pub says : state_of o d.journal ≡ alone state
+  pub state : Account
+  pub says : state_of o d.journal ≡ state_of state
   pub past : IsPast state d.server d.epoch sizes
 
 -- what it was started on

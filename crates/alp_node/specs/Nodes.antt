@@ -26,7 +26,7 @@ use Rattle.alp_journal.specs.State.{State, opened}
 use Rattle.alp_journal.specs.Moves.{next, is_stop}
 use Rattle.alp_journal.specs.Laws.{IsLawful}
 use Rattle.alp_journal.specs.Answered.{IsAnswered, IsAnsweredEntry, entries_limit}
-use Rattle.alp_journal.specs.Alone.{Alone, alone, AreOwnEvents}
+use Rattle.alp_journal.specs.Account.{Account, state_of, AreOwnEvents}
 use Rattle.alp_node.specs.NodeStates.{NodeState}
 use Rattle.alp_node.specs.ServerState.{IsAs, IsReady}
 use Rattle.alp_node.specs.Durable.{IsDurable}
@@ -63,8 +63,8 @@ pub record IsRight {V : Type 0} (o : Start) (held : Contents) (n : NodeState V) 
   pub lawful : IsLawful o n.journal
   pub caused : IsAnswered o n.journal
   pub own : AreOwnEvents n.journal
-  pub state : Alone
-  pub says : state_of o n.journal ≡ alone state
+  pub state : Account
+  pub says : state_of o n.journal ≡ state_of state
   pub kept : IsAs state held n.kept
 
 -- ---- what is sent

@@ -33,7 +33,7 @@ use Rattle.alp_journal.specs.Holder.{Holder, Life, view_in}
 use Rattle.alp_journal.specs.Desk.{Session}
 use Rattle.alp_journal.specs.Ids.{is_drawn}
 use Rattle.alp_journal.specs.State.{is_other_server}
-use Rattle.alp_journal.specs.Alone.{Alone, alone, IsQuiet, AreEarlier}
+use Rattle.alp_journal.specs.Account.{Account, state_of, IsQuiet, AreEarlier}
 use Rattle.alp_node.specs.Asks.{is_given}
 use Rattle.alp_node.specs.Covers.{AreHeld, AreSizedEdits}
 use Rattle.alp_node.specs.Dead.{dead_in}
@@ -136,9 +136,9 @@ IsWaitingAs h locked w = (l : Life) → h.lives w.trans ≡ Some l → IsAskedAs
 
 -- The server keeps what this state says, with this in its vault, which counts while it is not down; and it is down just
 -- where the vault was stopped, or failed in a commit. No other server is of the run.
-pub record IsAs {V : Type 0} (a : Alone) (held : Contents) (k : ServerState V) : Type 0 where
+pub record IsAs {V : Type 0} (a : Account) (held : Contents) (k : ServerState V) : Type 0 where
   pub server : a.holder.server ≡ k.server
-  pub lone : (n : ℕ) → is_other_server (alone a) n ≡ false
+  pub lone : (n : ℕ) → is_other_server (state_of a) n ≡ false
   pub sizes : a.sizes ≡ k.sizes
   pub epoch : a.ids.epoch ≡ k.epoch
   pub clock : a.holder.clock ≡ k.clock
@@ -202,4 +202,4 @@ IsReadyForMore serves k = (steps : ℕ) × (steps + 1 < 2 ^ 32) × IsReady steps
 
 -- it keeps what some journal says
 abbrev pub IsOfJournal : {V : Type 0} → Contents → ServerState V → Type 0
-IsOfJournal held k = (a : Alone) × IsAs a held k
+IsOfJournal held k = (a : Account) × IsAs a held k

@@ -16,7 +16,7 @@ use Rattle.alp_journal.specs.declared.event.Event.{Event}
 use Rattle.alp_journal.specs.declared.event.Event.TheVariants as event
 use Rattle.alp_journal.specs.declared.entry.Entry.{Entry}
 use Rattle.alp_journal.specs.Moves.{is_stop}
-use Rattle.alp_journal.specs.Alone.{Alone, alone, Leads}
+use Rattle.alp_journal.specs.Account.{Account, state_of, Leads}
 use Rattle.alp_fields.specs.ClockNote.{clock_kept}
 use Rattle.alp_vault.specs.Vault.{IsSameVault}
 use Rattle.alp_vault.specs.Volumes.{AreNotesSoFar}
@@ -54,9 +54,9 @@ IsTimely before e now = now ≤ max before (seen_in e) + 1
 
 -- The entry of the answered event is lawful and has its cause, the server keeps what its state says then, and the clock is no
 -- later than it may be. That a read of the device failed shows only where the count of faults rose.
-pub record Stepped {V : Type 0} (a : Alone) (before now : ℕ) (held : Contents) (new : ServerState V) (e : Event) (x : Answer) : Type 0 where
+pub record Stepped {V : Type 0} (a : Account) (before now : ℕ) (held : Contents) (new : ServerState V) (e : Event) (x : Answer) : Type 0 where
   pub failed : Bool
-  pub next : Alone
+  pub next : Account
   pub leads : Leads failed a (entry_of e x) next
   pub rose : failed ≡ true → Rose before now
   pub kept : IsAs next held new
@@ -93,7 +93,7 @@ pub record IsGiven (here : ℕ) (o : Option CallOrder) (before now : ℕ) (allow
 -- Where memory was wanting, the server keeps what it kept, and its vault holds, counts and allows what it did. Of any vault its
 -- sessions and its clock are as before.
 pub record IsStill {V : Type 0} (G : Ghosts V) (old new : ServerState V) : Type 0 where
-  pub kept : (a : Alone) → IsAs a (G.held old.vault) old → IsAs a (G.held new.vault) new
+  pub kept : (a : Account) → IsAs a (G.held old.vault) old → IsAs a (G.held new.vault) new
   pub ready : (steps : ℕ) → IsReady steps (G.serves old.vault) old → IsReady steps (G.serves new.vault) new
   pub up : new.is_down ≡ old.is_down
   pub sessions : new.sessions ≡ old.sessions
@@ -104,7 +104,7 @@ pub record IsStill {V : Type 0} (G : Ghosts V) (old new : ServerState V) : Type 
 -- one it is as before.
 pub record IsStepAs {V : Type 0} (G : Ghosts V) (o : Option CallOrder) (old new : ServerState V) (e : Event) (r : Result Answer OutOfMemory) : Type 0 where
   -- where the vault tells what it holds, by what the journal says
-  pub stepped : IsTrue (G.tells old.vault) → (a : Alone) → IsAs a (G.held old.vault) old → IfOk r (Stepped a (G.faults old.vault) (G.faults new.vault) (G.held new.vault) new e)
+  pub stepped : IsTrue (G.tells old.vault) → (a : Account) → IsAs a (G.held old.vault) old → IfOk r (Stepped a (G.faults old.vault) (G.faults new.vault) (G.held new.vault) new e)
   -- and of any vault
   pub given : IfOk r (IsGiven old.server o (G.faults old.vault) (G.faults new.vault) (G.allowance new.vault) new.is_down)
   pub ready : (steps : ℕ) → IsReady steps (G.serves old.vault) old → OnOk r (IsReady (steps + 1) (G.serves new.vault) new)
@@ -114,8 +114,8 @@ pub record IsStepAs {V : Type 0} (G : Ghosts V) (o : Option CallOrder) (old new 
   pub turned : new.is_down ≡ false → IfOk r (λ x. HasTurned o old new e x.kept)
   -- through the step a crash leaves what it might have left before, or all that the entry was to bring about, and nothing else where
   -- memory was wanting
-  pub leaves : IsTrue (G.tells old.vault) → (a : Alone) → IsAs a (G.held old.vault) old
-      → MatchResult r (λ x. Leaves G old.vault new.vault (Besides G old.vault (λ c. c ≡ said_by (alone a) (entry_of e x)))) (λ _. Leaves G old.vault new.vault (Besides G old.vault NoOther))
+  pub leaves : IsTrue (G.tells old.vault) → (a : Account) → IsAs a (G.held old.vault) old
+      → MatchResult r (λ x. Leaves G old.vault new.vault (Besides G old.vault (λ c. c ≡ said_by (state_of a) (entry_of e x)))) (λ _. Leaves G old.vault new.vault (Besides G old.vault NoOther))
 
 -- what the next call of a session comes to
 abbrev pub IsStep : {V : Type 0} → Ghosts V → (old new : ServerState V) → Event → Result Answer OutOfMemory → Type 0

@@ -6,7 +6,7 @@ ghost use Rattle.alp_base.specs.Orders.{trans_cmp};
 ghost use Rattle.alp_files.specs.declared.refusal.Refusal.TheVariants as refusal;
 ghost use Rattle.alp_files.specs.declared.reply.Reply.TheVariants as reply;
 ghost use Rattle.alp_journal.specs.declared.entry.Entry.{Entry as AnEntry};
-ghost use Rattle.alp_journal.specs.Alone.{Alone};
+ghost use Rattle.alp_journal.specs.Account.{Account};
 ghost use Rattle.alp_node.specs.ServerState.{IsAs, IsReadyForMore, IsOfJournal};
 ghost use Rattle.alp_base.specs.Allowances.{Sets};
 ghost use Rattle.alp_base.specs.Crashes.{Either, SameOutcomes, Adds};
@@ -76,7 +76,7 @@ impl<V: Vault> Node<V> {
         ensures down { self.old.kept.is_down ≡ true → (result ≡ Ok (Some (reply.Refused refusal.Down))) × (self.new ≡ self.old) }
         ensures full { self.old.kept.is_down ≡ false → IsFull self.old → (result ≡ Ok (Some (reply.Refused refusal.JournalFull))) × (self.new ≡ self.old) }
         ensures err { OnErr result (HasNoEntry V.Vault self.old self.new) }
-        ensures still { (a : Alone) → IsAs a (V.held self.old.kept.vault) self.old.kept → OnErr result (IsAs a (V.held self.new.kept.vault) self.new.kept) }
+        ensures still { (a : Account) → IsAs a (V.held self.old.kept.vault) self.old.kept → OnErr result (IsAs a (V.held self.new.kept.vault) self.new.kept) }
         ensures opening { self.new.opening ≡ self.old.opening }
         ensures servers { self.new.servers ≡ self.old.servers }
         ensures seat { IsSeated V.Vault self.old.kept self.new.kept }

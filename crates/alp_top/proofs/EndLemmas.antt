@@ -6,7 +6,7 @@ use Rattle.std.specs.FinMap as map
 use Rattle.alp_files.specs.Apart.{AreSized}
 use Rattle.alp_files.specs.Sound.{AreSound}
 use Rattle.alp_journal.specs.Along.{Along, state_after}
-use Rattle.alp_journal.specs.Alone.{alone, AreOwnEvents}
+use Rattle.alp_journal.specs.Account.{state_of, AreOwnEvents}
 use Rattle.alp_journal.specs.Laws.{IsLawful}
 use Rattle.alp_journal.specs.Moves.{next}
 use Rattle.alp_journal.specs.Opening.{Start}
@@ -77,7 +77,7 @@ module _ {V : Type 0} (G : Ghosts V) (n : NodeState V) (on : IsOn G n) (up : n.k
   ending_is e is =
       let r = of_journal in
       let k = r.kept in
-      let s : State = alone r.state in
+      let s : State = state_of r.state in
       let counts = tally_is (start_in G n) n.journal r.opening.ready r.opening.decisions r.lawful r.own r.caused.1 in
       let begun : (tally_in n.journal).begun ≡ length s.begun = counts.0 ∙ ap (λ (z : State). length z.begun) r.says in
       let committed : (tally_in n.journal).committed ≡ length s.holder.applied = counts.1 ∙ ap (λ (z : State). length z.holder.applied) r.says in

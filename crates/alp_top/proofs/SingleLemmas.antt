@@ -21,7 +21,7 @@ use Rattle.alp_journal.specs.declared.entry.Entry.{Entry}
 use Rattle.alp_journal.specs.declared.event.Event.TheVariants as event
 use Rattle.alp_journal.specs.declared.message.Message.{Message}
 use Rattle.alp_journal.specs.Along.{state_after}
-use Rattle.alp_journal.specs.Alone.{Alone, alone, IsOwnEvent, AreOwnEvents}
+use Rattle.alp_journal.specs.Account.{Account, state_of, IsOwnEvent, AreOwnEvents}
 use Rattle.alp_journal.specs.Coordinator.{joins_of}
 use Rattle.alp_journal.specs.Ids.{stamp_cmp}
 use Rattle.alp_journal.specs.Laws.{IsLawful}
@@ -81,8 +81,8 @@ pub record IsSingle (s : ServerLog) : Type 0 where
   pub lawful : IsLawful s.opening s.journal
   pub own : AreOwnEvents s.journal
   pub ranks : s.ranks ≡ ranks_from 1 s.journal
-  pub state : Alone
-  pub says : state_after next (opened s.opening) s.journal ≡ alone state
+  pub state : Account
+  pub says : state_after next (opened s.opening) s.journal ≡ state_of state
 
 module _ (s : ServerLog) (h : Handed) (g : IsSingle s) where
   abbrev log : Log

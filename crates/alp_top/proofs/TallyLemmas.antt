@@ -18,7 +18,7 @@ use Rattle.alp_files.specs.declared.refusal.Cause.TheVariants as cause
 use Rattle.alp_files.specs.declared.refusal.Refusal.TheVariants as refusal
 use Rattle.alp_files.specs.declared.reply.Reply.{Reply}
 use Rattle.alp_files.specs.declared.reply.Reply.TheVariants as reply
-use Rattle.alp_journal.specs.Alone.{IsOwnEvent, AreOwnEvents, AreEarlier}
+use Rattle.alp_journal.specs.Account.{IsOwnEvent, AreOwnEvents, AreEarlier}
 use Rattle.alp_journal.specs.Along.{Along, Where, state_after}
 use Rattle.alp_journal.specs.Answered.{FitsJournal, entries_limit}
 use Rattle.alp_journal.specs.Coordinator.{Fate, Running, Vote, decided, is_running, client_of}

@@ -16,7 +16,7 @@ use Rattle.alp_base.specs.Orders.{transactions_total}
 use Rattle.alp_journal.specs.Answered.{in_turn, is_conversion, is_conversion_of, IsWalk}
 use Rattle.alp_turns.specs.Queues.{IsOnOther, AreCallsApart, request_at, requests_of, queue_of}
 use Rattle.alp_turns.specs.Laws.{GivesOnAlike, WalksAlike, trans_in}
-use Rattle.alp_journal.specs.Alone.{holder_granted, waits_granted, granted_calls, call_on, with_its, is_on_trans}
+use Rattle.alp_journal.specs.Account.{holder_granted, waits_granted, granted_calls, call_on, with_its, is_on_trans}
 use Rattle.alp_journal.specs.Moves.{call_of}
 use Rattle.alp_journal.proofs.IdLemmas.{same_trans-itself, same_trans-true}
 use Rattle.alp_turns.proofs.RequestLemmas.{tied_same, Asking, asking}

@@ -18,7 +18,7 @@ use Rattle.alp_journal.specs.Laws.{IsFree}
 use Rattle.alp_journal.specs.Answered.{IsWalk, IsWaitingFor}
 use Rattle.alp_turns.specs.Queues.{AreHeldAlike, IsOnOther, AreCallsApart, request_for, request_at, requests_of}
 use Rattle.alp_turns.specs.Laws.{trans_in}
-use Rattle.alp_journal.specs.Alone.{holder_granted, waits_granted}
+use Rattle.alp_journal.specs.Account.{holder_granted, waits_granted}
 use Rattle.alp_turns.proofs.RequestLemmas.{Asking, asking, request, free_so, free_there, with_grant, parts_with, alike_with, requests_kept, request_marked, requests_other, unmarked}
 
 -- a waiting call where these were granted

@@ -7,7 +7,7 @@ use Rattle.alp_locks.specs.Tables.{Holders, Table, IsAgreeing}
 use Rattle.alp_locks.specs.Releases.{walked}
 use Rattle.alp_journal.specs.Holder.{Holder}
 use Rattle.alp_journal.specs.Desk.{Waiting}
-use Rattle.alp_journal.specs.Alone.{holder_granted, waits_granted, granted_calls, call_on}
+use Rattle.alp_journal.specs.Account.{holder_granted, waits_granted, granted_calls, call_on}
 use Rattle.alp_journal.specs.Answered.{in_turn, IsWalk}
 use Rattle.alp_turns.specs.Queues.{AreHeldAlike, AreCallsApart, queue_of}
 

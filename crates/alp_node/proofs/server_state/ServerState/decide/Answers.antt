@@ -32,7 +32,7 @@ use Rattle.alp_fields.specs.declared.clock_note.ClockNote.{ClockNote}
 use Rattle.alp_base.specs.declared.faults.Sizes.{Sizes}
 use Rattle.alp_vault.specs.Vault.{IsSameVault}
 use Rattle.alp_vault.specs.Volumes.{AreNotesSoFar}
-use Rattle.alp_journal.specs.Alone.{Alone, alone}
+use Rattle.alp_journal.specs.Account.{Account, state_of}
 use Rattle.alp_journal.specs.Desk.{waiting_of}
 use Rattle.alp_journal.specs.Holder.{with_life}
 use Rattle.alp_journal.specs.Moves.{act_deeds}
@@ -118,7 +118,7 @@ returns-in-Err-Failed g c =
     let write : c.push_reserved-3.new.self.items ≡ act.Decided stamp [] ∷ [] =
     c.push_reserved-3.ensures.items ∙ ap (λ (acts : List Act). acts ++ c.decision-2.result ∷ []) c.in_ok-halted.ensures.items ∙ ap (λ (x : Act). x ∷ []) c.decision-2.ensures in
     let so : c.halt.result ≡ refused_answer refusal.Down (act.Decided stamp [] ∷ act.Failed ∷ []) = c.halt.ensures.answer ∙ ap (λ (acts : List Act). refused_answer refusal.Down (acts ++ act.Failed ∷ [])) write in
-    let idle : (a : Alone) → IsAs a (G.held k.vault) k → waiting_of (alone a).desk turn.client t ≡ None = λ a h. waits_none a (G.held k.vault) k turn.client t mine.0 c.requires.ready.0 (G.serves k.vault) h c.requires.ready.2 mine.1 mine.2 c.requires.idle in
+    let idle : (a : Account) → IsAs a (G.held k.vault) k → waiting_of (state_of a).desk turn.client t ≡ None = λ a h. waits_none a (G.held k.vault) k turn.client t mine.0 c.requires.ready.0 (G.serves k.vault) h c.requires.ready.2 mine.1 mine.2 c.requires.idle in
     down_step G k c.halt.new.self c.store.new.vault turn (call.Finish t true) c.halt.result (act.Decided stamp [] ∷ act.Failed ∷ []) c.store.ensures.kept c.store.ensures.allowance ends.0 ends.2 c.halt.ensures.kept so refl
     (ends.1, tt)
     (λ told a h. commit_halt_stepped a (G.faults k.vault) (G.faults c.store.new.vault) (G.held k.vault) (G.held c.store.new.vault) k turn t c.store.new.vault act.Failed mine.0 c.halt.result (inr refl) h c.requires.turn c.requires.up
@@ -139,7 +139,7 @@ returns-in-Err-Stopped g c =
     let write : c.push_reserved-3.new.self.items ≡ act.Decided stamp [] ∷ [] =
     c.push_reserved-3.ensures.items ∙ ap (λ (acts : List Act). acts ++ c.decision-2.result ∷ []) c.in_ok-halted.ensures.items ∙ ap (λ (x : Act). x ∷ []) c.decision-2.ensures in
     let so : halt.result ≡ refused_answer refusal.Down (act.Decided stamp [] ∷ act.Stopped ∷ []) = halt.ensures.answer ∙ ap (λ (acts : List Act). refused_answer refusal.Down (acts ++ act.Stopped ∷ [])) write in
-    let idle : (a : Alone) → IsAs a (G.held k.vault) k → waiting_of (alone a).desk turn.client t ≡ None = λ a h. waits_none a (G.held k.vault) k turn.client t mine.0 c.requires.ready.0 (G.serves k.vault) h c.requires.ready.2 mine.1 mine.2 c.requires.idle in
+    let idle : (a : Account) → IsAs a (G.held k.vault) k → waiting_of (state_of a).desk turn.client t ≡ None = λ a h. waits_none a (G.held k.vault) k turn.client t mine.0 c.requires.ready.0 (G.serves k.vault) h c.requires.ready.2 mine.1 mine.2 c.requires.idle in
     down_step G k halt.new.self c.store.new.vault turn (call.Finish t true) halt.result (act.Decided stamp [] ∷ act.Stopped ∷ []) c.store.ensures.kept c.store.ensures.allowance ends.0 ends.2 halt.ensures.kept so refl
     (ends.1, tt)
     (λ told a h. commit_halt_stepped a (G.faults k.vault) (G.faults c.store.new.vault) (G.held k.vault) (G.held c.store.new.vault) k turn t c.store.new.vault act.Stopped mine.0 halt.result (inl refl) h c.requires.turn c.requires.up
@@ -239,6 +239,6 @@ returns g c =
       leaves = λ told a h.
           write_leaves a (G.held k.vault) k turn t live h c.requires.turn c.requires.up there own
           (waits_none a (G.held k.vault) k turn.client t live c.requires.ready.0 (G.serves k.vault) h c.requires.ready.2 there own c.requires.idle) (reply.Committed stamp) refl G v x acts
-          (Releases t ∷ flat_map (act_deeds (alone a) (event.Call turn.client a.ids.epoch turn.number (call.Finish t true))) grants) refl so refl
-          (λ o. still_stored a.ids.epoch (alone a) (event.Call turn.client a.ids.epoch turn.number (call.Finish t true)) (granted_behind k t) (with_life o t None)) (stored.leaves told);
+          (Releases t ∷ flat_map (act_deeds (state_of a) (event.Call turn.client a.ids.epoch turn.number (call.Finish t true))) grants) refl so refl
+          (λ o. still_stored a.ids.epoch (state_of a) (event.Call turn.client a.ids.epoch turn.number (call.Finish t true)) (granted_behind k t) (with_life o t None)) (stored.leaves told);
     })
