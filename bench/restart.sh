@@ -1,6 +1,6 @@
 #!/usr/bin/env bash
 # Measures a restart with the built program: microseconds of one, the best of five rounds, in three series. Each plays a script
-# with sixty restarts and one with ten, and divides the difference by fifty. First behind 100, 1,000 and 10,000 commits to one
+# with 1,010 restarts and one with ten, and divides the difference by a thousand. First behind 100, 1,000 and 10,000 commits to one
 # page (a restart is to cost the same behind each), then with 10, 100 and 1,000 files of one page that stand, then with logs
 # whose areas have 64, 512 and 4,096 pages and are half full of page images.
 set -eu
@@ -41,8 +41,8 @@ best() { # SCRIPT
 # The microseconds of a restart behind such a script.
 restart() { # FILES COMMITS AREA
     script "$1" "$2" "$3" 10 > "$folder/few"
-    script "$1" "$2" "$3" 60 > "$folder/many"
-    echo "$((($(best many) - $(best few)) / 50000))"
+    script "$1" "$2" "$3" 1010 > "$folder/many"
+    echo "$((($(best many) - $(best few)) / 1000000))"
 }
 
 for commits in 100 1000 10000; do
