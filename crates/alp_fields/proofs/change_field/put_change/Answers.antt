@@ -29,6 +29,6 @@ returns c =
     let cuts : IsWritten (rising cut) change.cuts one two = subst (λ (xs : List (FileId × ℕ)). IsWritten (rising cut) xs one two) c.as_slice-2.ensures c.in_ok-put_rising-2.ensures in
     on_ok c.put_rising-3.result (IsWritten (rising placed) c.as_slice-3.result.now two end) (IsWritten change_form change start end)
     (λ puts.
-      let last : IsWritten (rising placed) change.puts two end = subst (λ (xs : List (Key × Cell)). IsWritten (rising placed) xs two end) c.as_slice-3.ensures puts in
-      let all = pair_written (rising file_id) (pair (rising cut) (rising placed)) (change_parts change) start one end drops (pair_written (rising cut) (rising placed) (change.cuts, change.puts) one two end cuts last) in
-      record { appended = all.appended; fits = all.fits }) c.put_rising-3.ensures
+    let last : IsWritten (rising placed) change.puts two end = subst (λ (xs : List (Key × Cell)). IsWritten (rising placed) xs two end) c.as_slice-3.ensures puts in
+    let all = pair_written (rising file_id) (pair (rising cut) (rising placed)) (change_parts change) start one end drops (pair_written (rising cut) (rising placed) (change.cuts, change.puts) one two end cuts last) in
+    record { appended = all.appended; fits = all.fits }) c.put_rising-3.ensures

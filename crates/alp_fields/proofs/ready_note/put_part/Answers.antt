@@ -27,8 +27,8 @@ returns c =
     let locks : IsWritten (rising lock) part.locks three four = subst (λ (xs : List (Resource × Mode)). IsWritten (rising lock) xs three four) c.as_slice.ensures c.in_ok-put_rising.ensures in
     on_ok c.put_change.result (IsWritten change_form part.change four end) (IsWritten ready_form part start end)
     (λ change.
-      let all = pair_written trans_id (pair (checked is_time u64) (pair u8 (pair (rising lock) change_form))) (ready_parts part) start one end c.in_ok-put_trans_id.ensures.ok
-      (pair_written (checked is_time u64) (pair u8 (pair (rising lock) change_form)) (part.ts, (part.client, (part.locks, part.change))) one two end c.in_ok-put_time.ensures
-      (pair_written u8 (pair (rising lock) change_form) (part.client, (part.locks, part.change)) two three end c.in_ok-put_u8.ensures.ok
-      (pair_written (rising lock) change_form (part.locks, part.change) three four end locks change))) in
-      record { appended = all.appended; fits = all.fits }) c.put_change.ensures
+    let all = pair_written trans_id (pair (checked is_time u64) (pair u8 (pair (rising lock) change_form))) (ready_parts part) start one end c.in_ok-put_trans_id.ensures.ok
+    (pair_written (checked is_time u64) (pair u8 (pair (rising lock) change_form)) (part.ts, (part.client, (part.locks, part.change))) one two end c.in_ok-put_time.ensures
+    (pair_written u8 (pair (rising lock) change_form) (part.client, (part.locks, part.change)) two three end c.in_ok-put_u8.ensures.ok
+    (pair_written (rising lock) change_form (part.locks, part.change) three four end locks change))) in
+    record { appended = all.appended; fits = all.fits }) c.put_change.ensures
