@@ -278,6 +278,7 @@ module _ {V : Type 0} (k : ServerState V) (turn : Turn) (t : TransId) (l : Live)
       drawn = h.drawn;
       begun = h.begun;
       undrawn = h.undrawn;
+      plain = h.plain;
       ends = h.ends;
       lone = h.lone;
       files = h.files;

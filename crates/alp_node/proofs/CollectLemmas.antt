@@ -261,6 +261,7 @@ module _ {V : Type 0} (a : Account) (held : Contents) (k : ServerState V) (clien
     drawn = h.drawn;
     begun = h.begun;
     undrawn = h.undrawn;
+    plain = h.plain;
     ends = h.ends;
     lone = h.lone;
     files = h.files;

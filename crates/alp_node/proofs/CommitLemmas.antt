@@ -424,6 +424,7 @@ halted_as a m held then k v ds is quiet h =
       drawn = h.drawn;
       begun = h.begun;
       undrawn = h.undrawn;
+      plain = h.plain;
       ends = h.ends;
       lone = h.lone;
       files = h.files;

@@ -104,6 +104,7 @@ hello_stepped a before now held k client name x h le up first is =
         drawn = h.drawn;
         begun = h.begun;
         undrawn = h.undrawn;
+        plain = h.plain;
         ends = h.ends;
         lone = h.lone;
         files = h.files;
@@ -255,6 +256,7 @@ module _ {V : Type 0} (a : Account) (held : Contents) (k : ServerState V) (clien
     drawn = h.drawn;
     begun = h.begun;
     undrawn = h.undrawn;
+    plain = h.plain;
     ends = h.ends;
     lone = h.lone;
     files = h.files;

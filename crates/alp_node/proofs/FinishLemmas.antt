@@ -106,6 +106,7 @@ module _ {V : Type 0} (a : Account) (held : Contents) (k : ServerState V) where
     drawn = h.drawn;
     begun = h.begun;
     undrawn = h.undrawn;
+    plain = h.plain;
     ends = h.ends;
     lone = h.lone;
     files = h.files;
@@ -233,6 +234,7 @@ module _ {V : Type 0} (a : Account) (before now : ℕ) (held : Contents) (k : Se
         drawn = h.drawn;
         begun = h.begun;
         undrawn = h.undrawn;
+        plain = h.plain;
         ends = h.ends;
         lone = h.lone;
         files = h.files;
@@ -275,6 +277,7 @@ module _ {V : Type 0} (a : Account) (before now : ℕ) (held : Contents) (k : Se
       drawn = h.drawn;
       begun = h.begun;
       undrawn = h.undrawn;
+      plain = h.plain;
       ends = h.ends;
       lone = h.lone;
       files = h.files;

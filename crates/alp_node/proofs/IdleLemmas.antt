@@ -216,6 +216,7 @@ idle_stepped a before now held k client epoch number c x h up idle so =
         drawn = h.drawn;
         begun = h.begun;
         undrawn = h.undrawn;
+        plain = h.plain;
         ends = h.ends;
         lone = h.lone;
         files = h.files;

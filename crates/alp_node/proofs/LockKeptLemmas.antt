@@ -172,6 +172,7 @@ module _ {V : Type 0} (a : Account) (before now : ℕ) (held : Contents) (k : Se
       drawn = h.drawn;
       begun = h.begun;
       undrawn = h.undrawn;
+      plain = h.plain;
       ends = h.ends;
       lone = h.lone;
       files = h.files;
@@ -227,6 +228,7 @@ module _ {V : Type 0} (a : Account) (before now : ℕ) (held : Contents) (k : Se
           drawn = h.drawn;
           begun = h.begun;
           undrawn = h.undrawn;
+          plain = h.plain;
           ends = h.ends;
           lone = h.lone;
           files = h.files;
