@@ -64,7 +64,7 @@ use Rattle.alp_node.proofs.GrantLemmas.{asked_below}
 use Rattle.alp_node.proofs.KeptLemmas.{session_of, IsLive, live_there, same_live, stands_timely, stepped_so}
 use Rattle.alp_node.proofs.LiveSums.{up_to_drawn}
 use Rattle.alp_node.proofs.LockCallLemmas.{lock_request, lock_choice, not_refused, asked_locks, shut_none, chosen, none_asked_free}
-use Rattle.alp_node.proofs.OneServer.{lone_runs, lone_works}
+use Rattle.alp_node.proofs.OneServer.{live_runs, life_works}
 use Rattle.alp_node.proofs.ReadyLemmas.{counted_ready, numbered, turned}
 use Rattle.alp_node.proofs.ShapeLemmas.{IsShut, shape_cases, may_lock}
 use Rattle.alp_node.proofs.WaitLemmas.{named_all, asks_none, idle_in, pushed_each, pushed_apart, pushed_asks, asks_last}
@@ -95,14 +95,14 @@ module _ {V : Type 0} (a : Account) (before now : ℕ) (held : Contents) (k : Se
   busy_stepped c named =
       stepped_so a before now held held k kept_back turn.client turn.number (session_of turn is) c false (reply.Refused refusal.NotYet) [] (counted_as a turn.client turn.number (session_of turn is) (reply.Refused refusal.NotYet)) x so h
       (busy_leads a turn.client turn.number (session_of turn is) t mine.life c v h.quiet (h.down ∙ up) (turn_session a held k turn h is) is.number
-      (idle_part a turn.client turn.number (session_of turn is) t mine.life (Some v) busy (lone_works a held k h t mine.life turn.client mine.is (mine.alike.client ∙ own))) named busy)
+      (idle_part a turn.client turn.number (session_of turn is) t mine.life (Some v) busy (life_works a h.lone h.quiet.settled.stands t mine.life turn.client mine.is (mine.alike.client ∙ own))) named busy)
       (counts_as a held k turn (reply.Refused refusal.NotYet) h is up) (λ e. cc) (omega (arith, h.clock))
 
   pub busy_finish_stepped : Stepped a before now held kept_back (event.Call turn.client k.epoch turn.number (call.Finish t true)) x
   busy_finish_stepped =
       stepped_so a before now held held k kept_back turn.client turn.number (session_of turn is) (call.Finish t true) false (reply.Refused refusal.NotYet) [] (counted_as a turn.client turn.number (session_of turn is) (reply.Refused refusal.NotYet)) x so h
       (busy_finish_leads a turn.client turn.number (session_of turn is) t mine.life v h.quiet (h.down ∙ up) (turn_session a held k turn h is) is.number (up_to_drawn a held k h t l there).here
-      (lone_runs a held k h t mine.life mine.is ∙ ap (λ (d : ℕ). Running d []) (mine.alike.client ∙ own)) busy)
+      (live_runs a h.lone h.quiet.settled.stands t mine.life mine.is ∙ ap (λ (d : ℕ). Running d []) (mine.alike.client ∙ own)) busy)
       (counts_as a held k turn (reply.Refused refusal.NotYet) h is up) (λ e. cc) (omega (arith, h.clock))
 
 -- ---- the call waits for its locks
@@ -256,7 +256,7 @@ module _ {V : Type 0} (k : ServerState V) (turn : Turn) (t : TransId) (l : Live)
 
     leads : Leads false a (call_entry a turn.client turn.number w c (reply.Refused refusal.NotYet) []) (with_wait a turn.client turn.number w t life c)
     leads = waits_leads a turn.client turn.number w t life c h.quiet (h.down ∙ up) (turn_session a held k turn h is) is.number
-        (lone_works a held k h t life turn.client there_live.is (alike.client ∙ own)) there_live.is (alike.client ∙ own) named
+        (life_works a h.lone h.quiet.settled.stands t life turn.client there_live.is (alike.client ∙ own)) there_live.is (alike.client ∙ own) named
         (idle_told a turn.client t k.waits h.waits (named_all k.server k.epoch k.given k.drawn k.sizes k.lives k.waits ready.waits.calls) away) passed waits_for taken
 
     waits_as : IsAs (with_wait a turn.client turn.number w t life c) held blocked_kept

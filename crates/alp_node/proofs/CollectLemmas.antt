@@ -268,7 +268,7 @@ module _ {V : Type 0} (a : Account) (held : Contents) (k : ServerState V) (clien
     made = h.made;
     born = h.born;
     earlier = h.earlier;
-    quiet = quiet_without is_it a (joins_kept a held k h is_it a.waits) (none_tried a h.quiet (h.down ∙ up)) h.quiet;
+    quiet = quiet_without is_it a (joins_kept a h.lone h.quiet.settled.stands is_it a.waits) (none_tried a h.quiet (h.down ∙ up)) h.quiet;
     down = h.down;
   }
 

@@ -38,7 +38,7 @@ use Rattle.alp_node.proofs.BesideLemmas.{AreNamed}
 use Rattle.alp_node.proofs.EndLemmas.{buried_kept, buried_as}
 use Rattle.alp_node.proofs.FinishLemmas.{turn_session, counts_as}
 use Rattle.alp_node.proofs.KeptLemmas.{session_of, stands_timely, IsLive, live_there, stepped_so}
-use Rattle.alp_node.proofs.OneServer.{lone_works}
+use Rattle.alp_node.proofs.OneServer.{life_works}
 use Rattle.alp_node.proofs.ReadyLemmas.{refused_ready}
 use Rattle.alp_node.proofs.StepLemmas.{plain_step}
 use Rattle.alp_node.proofs.TurnLemmas.{counts_on}
@@ -73,7 +73,7 @@ module _ {V : Type 0} (a : Account) (before now : ℕ) (held : Contents) (k : Se
     y = live_there a.holder.cells k.locks.held (a.locked t) t (map.get k.lives t) (a.holder.lives t) l live (h.lives t)
 
     works : part_at (state_of a) turn.client t ≡ AtWork
-    works = lone_works a held k h t y.life turn.client y.is (y.alike.client ∙ own)
+    works = life_works a h.lone h.quiet.settled.stands t y.life turn.client y.is (y.alike.client ∙ own)
 
     -- a call of it waits, or is to be collected
     pub join_busy_stepped : (v : Waiting) (x : Answer) → waiting_of (state_of a).desk turn.client t ≡ Some v → x ≡ refused_answer refusal.NotYet []

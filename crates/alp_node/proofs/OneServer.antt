@@ -10,13 +10,15 @@ use Rattle.alp_journal.specs.Ids.{same_trans, has_join}
 use Rattle.alp_journal.specs.Coordinator.{Fate, Vote, Undrawn, Running, Finishing, Committed, Forgotten, Ended, client_of, is_running, has_votes}
 use Rattle.alp_journal.specs.Participant.{Phase, Unseen, Joining, Active, Ready, Applied, Over, live_in, open_in}
 use Rattle.alp_journal.specs.Holder.{Life}
+use Rattle.alp_journal.specs.Desk.{Waiting}
 use Rattle.alp_journal.specs.State.{is_other_server, is_whose, join_for}
 use Rattle.alp_journal.specs.Laws.{IsHolding}
 use Rattle.alp_journal.specs.Answers.{Part, AtWork, ended_part, join_part, part_at, trans_live}
 use Rattle.alp_journal.specs.Messages.{Mail, to_others, trans_ready, all_ready}
 use Rattle.alp_journal.specs.Account.{Account, state_of, is_other, AreJoins, IsFateOf, IsPhaseOf, IsPartAs, IsPaired, IsJoined, HasNoJoin, Stands, IsSettled, IsQuiet, IsTriedCommit, IsTriedDecision, IsTriedVote, IsTriedApplication, IsTriedEnd, IsTriedAbort, HasTried}
-use Rattle.alp_journal.proofs.StandLemmas.{holding_of}
+use Rattle.alp_journal.proofs.StandLemmas.{holding_of, own_here}
 use Rattle.alp_journal.proofs.PartLemmas.{own_at_work, far_part_at}
+use Rattle.alp_journal.proofs.QuietLemmas.{KeepsJoins}
 use Rattle.alp_node.specs.Decisions.{IsPlain}
 
 -- a part is live just while its transaction runs: it is its client's, has not voted, and has no joins
@@ -206,6 +208,13 @@ module _ (a : Account) (lone : (n : ℕ) → is_other_server (state_of a) n ≡ 
     -- a client is at work at its own live part
     pub part_works : (t : TransId) (l : Life) (client : ℕ) → t.server ≡ a.holder.server → a.holder.lives t ≡ Some l → l.client ≡ client → part_at (state_of a) client t ≡ AtWork
     part_works t l client here live mine = own_at_work a t client {js = []} here (live_runs t l live ∙ ap (λ (c : ℕ). Running c []) mine)
+
+    pub life_works : (t : TransId) (l : Life) (client : ℕ) → a.holder.lives t ≡ Some l → l.client ≡ client → part_at (state_of a) client t ≡ AtWork
+    life_works t l client live mine = part_works t l client (own_here a q t l live (no_join t l live)) live mine
+
+    -- whichever of the calls that wait go, no join loses the one that waits for it
+    pub joins_kept : (p : Waiting → Bool) (ws : List Waiting) → KeepsJoins a.phases p ws
+    joins_kept p ws j t client who is = let wrong : None ≡ Some (t, client) = sym (none_open_in j) ∙ ap open_in is in cc
 
     -- and of a transaction of elsewhere it has none, or it is to be told of its end
     pub part_elsewhere : (t : TransId) (client : ℕ) → (t.server == a.holder.server) ≡ false → part_at (state_of a) client t ≡ ended_part (a.dead client t)
