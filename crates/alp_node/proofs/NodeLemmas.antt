@@ -30,7 +30,7 @@ use Rattle.alp_journal.specs.State.{State, state_deed, opened}
 use Rattle.alp_journal.specs.Moves.{next, tried, told, halted, stops}
 use Rattle.alp_journal.specs.Laws.{IsLawful, IsLawfulEntry}
 use Rattle.alp_journal.specs.Answered.{IsAnswered, IsAnsweredSo, IsAnsweredEntry, FitsJournal, entries_limit}
-use Rattle.alp_journal.specs.Account.{Account, state_of, IsPaired, IsOwnEvent, AreOwnEvents}
+use Rattle.alp_journal.specs.Account.{Account, state_of, IsOwnEvent, AreOwnEvents}
 use Rattle.alp_node.specs.declared.answer.Answer.{Answer}
 use Rattle.alp_node.specs.NodeStates.{NodeState}
 use Rattle.alp_node.specs.ServerState.{IsAs, IsReady}
@@ -43,6 +43,7 @@ use Rattle.alp_node.specs.Served.{IsServed, AreLivesSound}
 use Rattle.alp_node.specs.declared.server_state.ServerState.{ServerState}
 use Rattle.alp_node.specs.declared.sessions.CallOrder.{CallOrder}
 use Rattle.alp_node.proofs.KeptLemmas.{IsLive, live_there}
+use Rattle.alp_node.proofs.OneServer.{IsOne, live_one}
 
 pub state_after-push : {S E : Type 0} (step : S → E → S) (s : S) (es : List E) (e : E) → state_after step s (es ++ e ∷ []) ≡ step (state_after step s es) e
 state_after-push step s [] e = refl
@@ -103,7 +104,7 @@ right_sound G n held r up t l there =
     let first : Stands AreSound (opened (start_in G n)) = opened_stands (start_in G n) r.opening.ready r.opening.files r.opening.sizes in
     let now : Stands AreSound (state_of a) = subst (Stands AreSound) r.says (journal_stands AreSound (opened (start_in G n)) n.journal r.own r.lawful first) in
     let y : IsLive a.holder.cells k.locks.held (a.locked t) t l (a.holder.lives t) = live_there a.holder.cells k.locks.held (a.locked t) t (map.get k.lives t) (a.holder.lives t) l there (r.kept.lives t) in
-    let pair : IsPaired (Some y.life) (a.fates t) = subst (λ (x : Option Life). IsPaired x (a.fates t)) y.is (r.kept.quiet.settled.paired t) in
+    let pair : IsOne (Some y.life) (a.fates t) = live_one a r.kept.lone r.kept.quiet.settled.stands t y.life y.is in
     let es : List Edit = y.life.edits in
     let same : edits_map (edits_of (change_of l.part.intents)) held.cells ≡ edits_map es a.holder.cells =
     same_change held.cells l.part es y.alike.intents ∙ ap (edits_map es) (r.kept.cells up) in

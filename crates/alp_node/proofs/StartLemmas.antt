@@ -42,12 +42,14 @@ use Rattle.alp_vault.specs.Volumes.{IsVolumeOf, AreNotesSoFar}
 use Rattle.alp_base.specs.declared.faults.Sizes.{Sizes}
 use Rattle.alp_journal.specs.Opening.{Start, start_at}
 use Rattle.alp_journal.proofs.NoteLemmas.{started_plain}
+use Rattle.alp_journal.proofs.StandLemmas.{none_known}
 use Rattle.alp_journal.specs.Coordinator.{Undrawn}
+use Rattle.alp_journal.specs.Participant.{Unseen}
 use Rattle.alp_journal.specs.Holder.{holder_opened}
 use Rattle.alp_journal.specs.State.{opened}
 use Rattle.alp_journal.specs.Laws.{IsLawful}
 use Rattle.alp_journal.specs.Answered.{IsAnswered}
-use Rattle.alp_journal.specs.Account.{Account, state_of, AreOwnEvents}
+use Rattle.alp_journal.specs.Account.{Account, state_of, HasTried, AreOwnEvents}
 use Rattle.alp_node.specs.declared.server_state.ServerState.{ServerState}
 use Rattle.alp_node.specs.declared.lives.Live.{Live}
 use Rattle.alp_node.specs.NodeStates.{NodeState}
@@ -182,11 +184,13 @@ new_alone o = record {
   ids = record { epoch = o.epoch; transactions = 0; joins = 0; files = 0 };
   holder = holder_opened o;
   fates = λ t. Undrawn;
+  phases = λ j. Unseen;
   sessions = λ client. None;
   waits = [];
   dead = λ client t. None;
   locked = λ t. [];
   begun = [];
+  joined = [];
   is_down = false;
   pending = [];
 }
@@ -245,6 +249,7 @@ new_as old server servers last sizes c held ids later kept state_of volume few f
       drawn = refl;
       begun = record { early = []; old = tt; all = refl };
       undrawn = λ t beyond. refl;
+      plain = λ t. tt;
       ends = ends_none server (clock_kept held.notes).epoch [] (λ t. Undrawn);
       lone = alone_there server servers few first;
       files = refl;
@@ -256,16 +261,32 @@ new_as old server servers last sizes c held ids later kept state_of volume few f
       asked = tt;
       quiet = record {
         settled = record {
-          agree = λ t u k l a b away. (let wrong : None ≡ Some k = a in cc);
-          paired = λ t. tt;
-          ended = λ client t why is. (let wrong : None ≡ Some why = is in cc);
-          parts = tt;
-          came = tt;
-          apart = tt;
-          order = le_refl (clock_kept held.notes).clock;
+          stands = record {
+            agree = λ t u k l a b away. (let wrong : None ≡ Some k = a in cc);
+            paired = λ t. refl;
+            held = λ j. tt;
+            votes = λ t. refl;
+            forgets = λ t. refl;
+            fates = λ t. refl;
+            begun = refl;
+            known = none_known server (clock_kept held.notes).epoch [];
+            phases = λ j. refl;
+            joined = refl;
+            single = λ j k x is its. (let wrong : None ≡ Some x = is in cc);
+            order = le_refl (clock_kept held.notes).clock;
+          };
+          tells = record {
+            ended = λ client t why is. absurd (let wrong : None ≡ Some why = is in cc);
+            parts = tt;
+            others = tt;
+            came = tt;
+            apart = tt;
+            joining = λ j. tt;
+            finishing = λ t. tt;
+          };
         };
         turns = tt;
-        tried = inl refl;
+        tried = HasTried.nothing refl;
       };
       down = refl;
     }
