@@ -4,22 +4,27 @@ use Rattle.std.specs.List.{list_all}
 use Rattle.std.proofs.lemmas.Bool.{and_parts, eqb-true}
 use Rattle.std.proofs.Common.{inl, inr, ◌⊎◌, ◌≡◌, ℕ, List, [], ◌∷◌, ◌++◌, refl, sym, ◌∙◌, ap, subst, eq-eqb}
 use Rattle.alp_base.specs.declared.ids.JoinNo.{JoinNo}
+use Rattle.alp_base.specs.declared.ids.Stamp.{Stamp}
 use Rattle.alp_base.specs.declared.ids.TransId.{TransId}
 use Rattle.alp_files.specs.declared.refusal.Cause.{Cause}
+use Rattle.alp_vault.specs.Contents.{Contents}
 use Rattle.alp_journal.specs.Ids.{same_trans, has_join}
-use Rattle.alp_journal.specs.Coordinator.{Fate, Vote, Undrawn, Running, Finishing, Committed, Forgotten, Ended, client_of, is_running, has_votes}
-use Rattle.alp_journal.specs.Participant.{Phase, Unseen, Joining, Active, Ready, Applied, Over, live_in, open_in}
+use Rattle.alp_journal.specs.Coordinator.{Fate, Vote, Undrawn, Running, Finishing, Committed, Forgotten, Ended, client_of, is_running, decision_in, has_votes}
+use Rattle.alp_journal.specs.Participant.{Phase, Unseen, Joining, Active, Ready, Applied, Over, live_in, open_in, is_ready}
 use Rattle.alp_journal.specs.Holder.{Life}
 use Rattle.alp_journal.specs.Desk.{Waiting}
 use Rattle.alp_journal.specs.State.{is_other_server, is_whose, join_for}
-use Rattle.alp_journal.specs.Laws.{IsHolding}
+use Rattle.alp_journal.specs.Laws.{IsHolding, is_standing}
 use Rattle.alp_journal.specs.Answers.{Part, AtWork, ended_part, join_part, part_at, trans_live}
 use Rattle.alp_journal.specs.Messages.{Mail, to_others, trans_ready, all_ready}
-use Rattle.alp_journal.specs.Account.{Account, state_of, is_other, AreJoins, IsFateOf, IsPhaseOf, IsPartAs, IsPaired, IsJoined, HasNoJoin, Stands, IsSettled, IsQuiet, IsTriedCommit, IsTriedDecision, IsTriedVote, IsTriedApplication, IsTriedEnd, IsTriedAbort, HasTried}
-use Rattle.alp_journal.proofs.StandLemmas.{holding_of, own_here}
+use Rattle.alp_journal.specs.Account.{Account, state_of, is_other, IsFateOf, IsPhaseOf, IsPartAs, IsPaired, HasNoJoin, Stands, IsQuiet, IsTriedCommit, HasTried}
+use Rattle.alp_journal.proofs.StandLemmas.{own_server, holding_of, own_here}
 use Rattle.alp_journal.proofs.PartLemmas.{own_at_work, far_part_at}
 use Rattle.alp_journal.proofs.QuietLemmas.{KeepsJoins}
+use Rattle.alp_journal.proofs.RestartLemmas.{IsNoted}
 use Rattle.alp_node.specs.Decisions.{IsPlain}
+use Rattle.alp_node.specs.ServerState.{IsAs}
+use Rattle.alp_node.specs.declared.server_state.ServerState.{ServerState}
 
 -- a part is live just while its transaction runs: it is its client's, has not voted, and has no joins
 abbrev pub IsOne : Option Life → Fate → Type 0
@@ -239,10 +244,70 @@ module _ (a : Account) (lone : (n : ℕ) → is_other_server (state_of a) n ≡ 
       go (HasTried.nothing e) = inl e
       go (HasTried.commit c) = inr c
       go (HasTried.decision c) = absurd (not_finishing c.stamp.trans c.life.client c.joins c.votes c.finishing)
-      go (HasTried.vote c) = let wrong : Some (c.trans, c.client) ≡ None = dead_so c.join (Active c.trans c.client c.who) c.active in cc
-      go (HasTried.application c) = let wrong : Some (c.stamp.trans, c.client) ≡ None = dead_so c.join (Ready c.stamp.trans c.client c.ts) c.ready in cc
+      go (HasTried.vote c) = absurd (let wrong : Some (c.trans, c.client) ≡ None = dead_so c.join (Active c.trans c.client c.who) c.active in cc)
+      go (HasTried.application c) = absurd (let wrong : Some (c.stamp.trans, c.client) ≡ None = dead_so c.join (Ready c.stamp.trans c.client c.ts) c.ready in cc)
       go (HasTried.end c) =
           let none : c.joins ≡ [] = subst IsPlain c.committed (plain c.trans) in
-          let wrong : false ≡ true = sym (ap (has_join c.join) none) ∙ c.its in
+          absurd (let wrong : false ≡ true = sym (ap (has_join c.join) none) ∙ c.its in cc)
+      go (HasTried.abort c) = absurd (let wrong : Some (c.trans, c.client) ≡ None = dead_so c.join (Ready c.trans c.client c.ts) c.ready in cc)
+
+-- ---- what notes keep
+
+-- no part that is ready, and no decision
+pub noted_none : (b : Account) → ((j : JoinNo) → live_in (b.phases j) ≡ None) → ((t : TransId) → IsPlain (b.fates t)) → IsNoted b [] []
+noted_none b dead plain = record { once = refl; ready = λ j. not_ready (b.phases j) (dead j); decided = λ x. not_standing x (b.fates x.trans) (plain x.trans) }
+  where
+    not_ready : (p : Phase) → live_in p ≡ None → false ≡ is_ready p
+    not_ready Unseen h = refl
+    not_ready (Joining t client who) h = refl
+    not_ready (Active t client who) h = refl
+    not_ready (Ready t client ts) h = let wrong : Some (t, client) ≡ None = h in cc
+    not_ready (Applied t stamp) h = refl
+    not_ready Over h = refl
+
+    not_standing : (x : Stamp) (f : Fate) → IsPlain f → false ≡ is_standing x f
+    not_standing x Undrawn h = refl
+    not_standing x (Running client js) h = refl
+    not_standing x (Finishing client js vs) h = refl
+    not_standing x (Committed stamp [] ds) h = refl
+    not_standing x (Committed stamp (j ∷ js) ds) h = let wrong : j ∷ js ≡ [] = h in cc
+    not_standing x (Forgotten stamp js) h = absurd h
+    not_standing x (Ended c) h = refl
+
+-- ---- of a server
+
+module _ {V : Type 0} (a : Account) (held : Contents) (k : ServerState V) (h : IsAs a held k) where
+  pub one_pair : (t : TransId) → IsOne (a.holder.lives t) (a.fates t)
+  one_pair = paired_one a h.lone h.quiet.settled.stands h.plain
+
+  pub lone_runs : (t : TransId) (l : Life) → a.holder.lives t ≡ Some l → a.fates t ≡ Running l.client []
+  lone_runs = live_runs a h.lone h.quiet.settled.stands
+
+  pub lone_works : (t : TransId) (l : Life) (client : ℕ) → a.holder.lives t ≡ Some l → l.client ≡ client → part_at (state_of a) client t ≡ AtWork
+  lone_works t l client live mine =
+      part_works a h.lone h.quiet.settled.stands t l client (own_here a h.quiet.settled.stands t l live (no_join a h.lone h.quiet.settled.stands t l live)) live mine
+
+  pub no_asking : (j : JoinNo) (t : TransId) (client : ℕ) (who : List ℕ) → a.phases j ≡ Joining t client who → ⊥
+  no_asking j t client who is = let wrong : Some (t, client) ≡ None = ap live_in (sym is) ∙ none_live_in a h.lone h.quiet.settled.stands j in cc
+
+  -- what is to be told of was not decided
+  pub told_undecided : (client : ℕ) (t : TransId) → IsSome (a.dead client t) → decision_in (a.fates t) ≡ None
+  told_undecided client t some = by (a.dead client t) refl some
+    where
+      its : (c : Cause) → a.dead client t ≡ Some c → (f : Fate) → a.fates t ≡ f → IsFateOf a.servers a.holder.server a.ids.epoch a.ids.transactions a.begun t f → decision_in f ≡ None
+      its c e Undrawn is of = refl
+      its c e (Running n js) is of = refl
+      its c e (Finishing n js vs) is of = refl
+      its c e (Committed stamp js ds) is of =
+          let over : a.fates t ≡ Ended c = (h.quiet.settled.tells.ended client t c e).0 (own_server a.holder.server a.ids.epoch a.ids.transactions t of.0.0) in
+          let wrong : Committed stamp js ds ≡ Ended c = sym is ∙ over in
           cc
-      go (HasTried.abort c) = let wrong : Some (c.trans, c.client) ≡ None = dead_so c.join (Ready c.trans c.client c.ts) c.ready in cc
+      its c e (Forgotten stamp js) is of =
+          let over : a.fates t ≡ Ended c = (h.quiet.settled.tells.ended client t c e).0 (own_server a.holder.server a.ids.epoch a.ids.transactions t of.0.0) in
+          let wrong : Forgotten stamp js ≡ Ended c = sym is ∙ over in
+          cc
+      its c e (Ended d) is of = refl
+
+      by : (x : Option Cause) → a.dead client t ≡ x → IsSome x → decision_in (a.fates t) ≡ None
+      by None e some = let wrong : false ≡ true = some in cc
+      by (Some c) e some = its c e (a.fates t) refl (h.quiet.settled.stands.fates t)
