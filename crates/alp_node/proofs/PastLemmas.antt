@@ -7,7 +7,6 @@ use Rattle.std.proofs.lemmas.Bool.{le-leb, lt-ltb, ltb-true, eqb-true}
 use Rattle.alp_base.proofs.NameLemmas.{and_left, and_right}
 use Rattle.alp_base.specs.declared.faults.Sizes.{Sizes}
 use Rattle.alp_base.specs.declared.ids.FileId.{FileId}
-use Rattle.alp_base.specs.declared.ids.JoinNo.{JoinNo}
 use Rattle.alp_base.specs.declared.ids.Stamp.{Stamp}
 use Rattle.alp_base.specs.declared.ids.TransId.{TransId}
 use Rattle.alp_base.specs.declared.key.Key.TheVariants.{Leader}
@@ -24,11 +23,9 @@ use Rattle.alp_vault.specs.Volumes.{IsVolumeOf}
 use Rattle.alp_journal.specs.Ids.{is_drawn, same_trans}
 use Rattle.alp_journal.specs.Coordinator.{Fate, Undrawn, Running, Finishing, Committed, Forgotten, Ended}
 use Rattle.alp_journal.specs.Coordinator as fate
-use Rattle.alp_journal.specs.Participant.{Phase, Unseen, Joining, Active, Ready, Applied, Over, live_in, is_ready}
 use Rattle.alp_journal.specs.Holder.{Life, if_ready}
 use Rattle.alp_journal.specs.Counts.{kept_locks}
 use Rattle.alp_journal.specs.State.{is_other_server}
-use Rattle.alp_journal.specs.Laws.{is_standing}
 use Rattle.alp_journal.specs.Account.{Account, state_of, IsQuiet, IsTriedCommit, AreEarlier}
 use Rattle.alp_journal.specs.Restarts.{restarted_at, with_decided}
 use Rattle.alp_journal.proofs.IdLemmas.{all-append, same_trans-true}
@@ -42,7 +39,7 @@ use Rattle.alp_node.specs.Totals.{totals_of, HaveRoom}
 use Rattle.alp_node.specs.declared.server_state.ServerState.{ServerState}
 use Rattle.alp_node.proofs.DecisionLemmas.{ends_none}
 use Rattle.alp_node.proofs.KeptLemmas.{earlier_more}
-use Rattle.alp_node.proofs.OneServer.{none_live_in, live_one}
+use Rattle.alp_node.proofs.OneServer.{none_live_in, live_one, noted_none}
 use Rattle.alp_node.proofs.StartLemmas.{new_kept, new_room, no_lives, alike_none, no_session, volume_sized}
 use Rattle.alp_node.proofs.ToComeLemmas.{comes_after}
 
@@ -121,29 +118,6 @@ beyond_before server epoch n t far = farther (t.server == server && nat_lt 0 t.c
     nearer : (nat_lt t.epoch epoch || (t.epoch == epoch && nat_le t.counter n)) ≡ true → (nat_lt t.epoch (epoch + 1) || (t.epoch == epoch + 1 && nat_le t.counter 0)) ≡ true
     nearer h = ap (λ (b : Bool). b || (t.epoch == epoch + 1 && nat_le t.counter 0)) (lt-ltb t.epoch (epoch + 1) (low (nat_lt t.epoch epoch) refl h))
 
--- ---- what the notes keep beside the clock
-
-plain_stands : (x : Stamp) (f : Fate) → IsPlain f → is_standing x f ≡ false
-plain_stands x Undrawn p = refl
-plain_stands x (Running client js) p = refl
-plain_stands x (Finishing client js vs) p = refl
-plain_stands x (Committed stamp [] ds) p = refl
-plain_stands x (Committed stamp (j ∷ js) ds) p = let wrong : j ∷ js ≡ [] = p in cc
-plain_stands x (Forgotten stamp js) p = refl
-plain_stands x (Ended c) p = refl
-
-not_ready : (p : Phase) → live_in p ≡ None → is_ready p ≡ false
-not_ready Unseen h = refl
-not_ready (Joining t client who) h = refl
-not_ready (Active t client who) h = refl
-not_ready (Ready t client ts) h = let wrong : Some (t, client) ≡ None = h in cc
-not_ready (Applied t stamp) h = refl
-not_ready Over h = refl
-
--- where no join is live, and no decision has one, it is nothing
-nothing_noted : (b : Account) → ((j : JoinNo) → live_in (b.phases j) ≡ None) → ((t : TransId) → IsPlain (b.fates t)) → IsNoted b [] []
-nothing_noted b none plain = record { once = refl; ready = λ j. sym (not_ready (b.phases j) (none j)); decided = λ x. sym (plain_stands x (b.fates x.trans) (plain x.trans)) }
-
 -- ---- a server that starts again
 
 plain_again : (epoch : ℕ) (f : Fate) → IsPlain f → IsPlain (fate.restarted epoch f)
@@ -215,7 +189,7 @@ module _ {V : Type 0} (old : ServerState V) (server epoch : ℕ) (sizes : Sizes)
   unready t = unvoted_gone (a.holder.lives t) (λ l is. (live_one a past.lone past.quiet.settled.stands t l is).1)
 
   pub past_noted : IsNoted a [] []
-  past_noted = nothing_noted a (none_live_in a past.lone past.quiet.settled.stands) past.plain
+  past_noted = noted_none a (none_live_in a past.lone past.quiet.settled.stands) past.plain
 
   -- nothing of what was tried last is found made
   pub lost_as : (c : ClockNote) (held : Contents) → a.ids.epoch + 1 ≡ c.epoch → c.clock ≡ a.holder.kept → held.cells ≡ a.holder.cells → held.notes ≡ clock_notes c → IsVolumeOf sizes held.cells
@@ -253,7 +227,7 @@ module _ {V : Type 0} (old : ServerState V) (server epoch : ℕ) (sizes : Sizes)
         go false = unready t
 
     pub decided_noted : IsNoted decided [] []
-    decided_noted = nothing_noted decided (none_live_in a past.lone past.quiet.settled.stands) decided_plain
+    decided_noted = noted_none decided (none_live_in a past.lone past.quiet.settled.stands) decided_plain
 
     decided_born : SeesNoneToCome a.holder.server a.ids.epoch a.ids.files (map.get decided.holder.cells)
     decided_born f comes =
