@@ -182,7 +182,7 @@ new_alone o = record {
   servers = o.servers;
   sizes = o.sizes;
   ids = record { epoch = o.epoch; transactions = 0; joins = 0; files = 0 };
-  holder = holder_opened o;
+  holder = record (holder_opened o) { lives = λ t. None };
   fates = λ t. Undrawn;
   phases = λ j. Unseen;
   sessions = λ client. None;
