@@ -21,7 +21,7 @@ use Rattle.alp_locks.proofs.SoundLemmas.{each-more}
 use Rattle.alp_vault.specs.Contents.{Contents}
 use Rattle.alp_vault.specs.Volumes.{IsVolumeOf}
 use Rattle.alp_journal.specs.Ids.{is_drawn, same_trans}
-use Rattle.alp_journal.specs.Coordinator.{Fate, Undrawn, Committed}
+use Rattle.alp_journal.specs.Coordinator.{Fate, Undrawn, Running, Committed}
 use Rattle.alp_journal.specs.Coordinator as fate
 use Rattle.alp_journal.specs.Holder.{Life, if_ready}
 use Rattle.alp_journal.specs.Counts.{kept_locks}
