@@ -30,7 +30,7 @@ use Rattle.alp_journal.specs.State.{State, opened}
 use Rattle.alp_journal.specs.Moves.{next}
 use Rattle.alp_journal.specs.Laws.{IsLawful, IsLawfulEntry}
 use Rattle.alp_journal.specs.Answered.{IsAnswered, IsAnsweredSo, IsAnsweredEntry, FitsJournal, entries_limit}
-use Rattle.alp_journal.specs.Account.{Account, state_of, IsOwnEvent, AreOwnEvents, IsTriedCommit, Leads}
+use Rattle.alp_journal.specs.Account.{Account, state_of as account_state, IsOwnEvent, AreOwnEvents, IsTriedCommit, Leads}
 use Rattle.alp_journal.specs.Restarts.{restart_entry, restarted_at, restarted, with_decided, restarted_with}
 use Rattle.alp_journal.proofs.RestartLemmas.{restart_leads}
 use Rattle.alp_journal.proofs.RestartMade.{commit_made_leads, none_then, cells_then, kept_then}
@@ -150,16 +150,16 @@ module _ (a : Account) (server epoch : ℕ) (sizes : Sizes) (past : IsPast a ser
   kept_time = (let low : a.holder.kept ≤ a.holder.clock = past.quiet.settled.stands.order in omega (arith, low, past.clock))
 
   -- a commit was tried before the end of the clock
-  then_time : (holder_then (state_of a)).kept ≤ 2 ^ 62
+  then_time : (holder_then (account_state a)).kept ≤ 2 ^ 62
   then_time = go (tried_one a past.lone past.quiet past.plain)
     where
       before : (h : Holder) → (h.clock == clock_end) ≡ false → h.clock ≡ 2 ^ 62 → ⊥
       before h away is = let wrong : true ≡ false = sym (eq-eqb h.clock clock_end is) ∙ away in cc
 
-      go : (a.pending ≡ []) ⊎ IsTriedCommit a → (holder_then (state_of a)).kept ≤ 2 ^ 62
+      go : (a.pending ≡ []) ⊎ IsTriedCommit a → (holder_then (account_state a)).kept ≤ 2 ^ 62
       go (inl none) = subst (λ (h : Holder). h.kept ≤ 2 ^ 62) (sym (none_then a none)) kept_time
       go (inr c) =
-          let is : (holder_then (state_of a)).kept ≡ c.stamp.ts = kept_then a c in
+          let is : (holder_then (account_state a)).kept ≡ c.stamp.ts = kept_then a c in
           let time : c.stamp.ts ≡ a.holder.clock + 1 = c.time in
           let other : a.holder.clock ≡ 2 ^ 62 → ⊥ = before a.holder c.within in
           omega (arith, is, time, past.clock, other)
@@ -167,7 +167,7 @@ module _ (a : Account) (server epoch : ℕ) (sizes : Sizes) (past : IsPast a ser
   pub kept_small : a.holder.kept < 2 ^ 64
   kept_small = omega (arith, kept_time)
 
-  pub then_small : (holder_then (state_of a)).kept < 2 ^ 64
+  pub then_small : (holder_then (account_state a)).kept < 2 ^ 64
   then_small = omega (arith, then_time)
 
 -- ---- the notes are in the format
@@ -239,7 +239,7 @@ module _ {V : Type 0} (old : ServerState V) (server servers epoch : ℕ) (sizes 
 
   lost : (near : ℕ) → (near ≡ a.ids.epoch) ⊎ (near ≡ a.ids.epoch + 1) → found ≡ stored_by near a.holder → LeadsTo a (entry_again clock) held (new_kept old a.holder.server sizes clock)
   lost near by_one same =
-      let at : clock.clock ≡ a.holder.kept = found_clock server servers epoch (state_of a) found notes past.now low near a.holder by_one (kept_small a server epoch sizes past) same in
+      let at : clock.clock ≡ a.holder.kept = found_clock server servers epoch (account_state a) found notes past.now low near a.holder by_one (kept_small a server epoch sizes past) same in
       let cells : held.cells ≡ a.holder.cells = ap (λ (c : Contents). c.cells) is ∙ ap (λ (c : Contents). c.cells) same in
       let leads : Leads false a (restart_entry a a.holder.kept [] []) (restarted a) = restart_leads a [] [] past.quiet (past_noted old server epoch sizes a past some) in
       record {
@@ -248,10 +248,10 @@ module _ {V : Type 0} (old : ServerState V) (server servers epoch : ℕ) (sizes 
         kept = lost_as old server epoch sizes a past some clock held later at cells held_notes volume leads.quiet;
       }
 
-  made : (near : ℕ) → (near ≡ a.ids.epoch) ⊎ (near ≡ a.ids.epoch + 1) → found ≡ stored_by near (holder_then (state_of a)) → (a.pending ≡ []) ⊎ IsTriedCommit a → LeadsTo a (entry_again clock) held (new_kept old a.holder.server sizes clock)
+  made : (near : ℕ) → (near ≡ a.ids.epoch) ⊎ (near ≡ a.ids.epoch + 1) → found ≡ stored_by near (holder_then (account_state a)) → (a.pending ≡ []) ⊎ IsTriedCommit a → LeadsTo a (entry_again clock) held (new_kept old a.holder.server sizes clock)
   made near by_one same (inl none) = lost near by_one (same ∙ ap (stored_by near) (none_then a none))
   made near by_one same (inr c) =
-      let at : clock.clock ≡ c.stamp.ts = found_clock server servers epoch (state_of a) found notes past.now low near (holder_then (state_of a)) by_one (then_small a server epoch sizes past) same ∙ kept_then a c in
+      let at : clock.clock ≡ c.stamp.ts = found_clock server servers epoch (account_state a) found notes past.now low near (holder_then (account_state a)) by_one (then_small a server epoch sizes past) same ∙ kept_then a c in
       let cells : held.cells ≡ edits_map c.life.edits a.holder.cells = ap (λ (x : Contents). x.cells) is ∙ ap (λ (x : Contents). x.cells) same ∙ cells_then a c in
       let leads : Leads false a (restart_entry a c.stamp.ts [] []) (restarted_with a c.stamp c.life []) =
       commit_made_leads a [] [] past.quiet c (decided_noted old server epoch sizes a past some c) in
@@ -262,7 +262,7 @@ module _ {V : Type 0} (old : ServerState V) (server servers epoch : ℕ) (sizes 
       }
 
   -- whichever it is that was found
-  again : IsLeftOf (state_of a) found → LeadsTo a (entry_again clock) held (new_kept old a.holder.server sizes clock)
+  again : IsLeftOf (account_state a) found → LeadsTo a (entry_again clock) held (new_kept old a.holder.server sizes clock)
   again l = ⊎_elim (λ e. lost l.epoch l.near e) (λ e. made l.epoch l.near e (tried_one a past.lone past.quiet past.plain)) l.either
 
 -- a server that starts again keeps what its journal says
@@ -275,7 +275,7 @@ again_right G d n held clock h told low opening is kept found left notes next_is
     let o : Start = start_of G d in
     let a : Account = r.state in
     let same_start : o ≡ start_in G n = (λ i. start_by G (sym (ap (λ (k : ServerState _). k.server) kept) i) (sym opening i).vault.value) in
-    let l : IsLeftOf (state_of a) found = subst (λ (z : State). IsLeftOf z found) r.says (h.left told found left) in
+    let l : IsLeftOf (account_state a) found = subst (λ (z : State). IsLeftOf z found) r.says (h.left told found left) in
     let to : LeadsTo a (entry_again (next_clock d.epoch found)) held (new_kept n.kept a.holder.server (G.volume d.vault) (next_clock d.epoch found)) =
     again n.kept d.server (G.servers d.vault) d.epoch (G.volume d.vault) a r.past h.raised low found held (subst (λ (m : ℕ). AreNotesSoFar m (G.servers d.vault) found.notes) h.number notes) (held_is ∙ ap (with_clock found) next_is) volume l in
     let e : Entry = entry_again clock in

@@ -21,7 +21,7 @@ use Rattle.alp_locks.proofs.SoundLemmas.{each-more}
 use Rattle.alp_vault.specs.Contents.{Contents}
 use Rattle.alp_vault.specs.Volumes.{IsVolumeOf}
 use Rattle.alp_journal.specs.Ids.{is_drawn, same_trans}
-use Rattle.alp_journal.specs.Coordinator.{Fate, Undrawn, Running, Finishing, Committed, Forgotten, Ended}
+use Rattle.alp_journal.specs.Coordinator.{Fate, Undrawn, Running, Committed}
 use Rattle.alp_journal.specs.Coordinator as fate
 use Rattle.alp_journal.specs.Holder.{Life, if_ready}
 use Rattle.alp_journal.specs.Counts.{kept_locks}
@@ -37,7 +37,7 @@ use Rattle.alp_node.specs.Downs.{IsPast}
 use Rattle.alp_node.specs.ServerState.{IsAs, IsReady, IsAlike, IsToCome, SeesNoneToCome, PutNoneBeyond, AreMade, HaveBegun, ids_to, trans_to, is_beyond}
 use Rattle.alp_node.specs.Totals.{totals_of, HaveRoom}
 use Rattle.alp_node.specs.declared.server_state.ServerState.{ServerState}
-use Rattle.alp_node.proofs.DecisionLemmas.{ends_none}
+use Rattle.alp_node.proofs.DecisionLemmas.{ends_none, restarted_plain}
 use Rattle.alp_node.proofs.KeptLemmas.{earlier_more}
 use Rattle.alp_node.proofs.OneServer.{none_live_in, live_one, noted_none}
 use Rattle.alp_node.proofs.StartLemmas.{new_kept, new_room, no_lives, alike_none, no_session, volume_sized}
@@ -120,14 +120,6 @@ beyond_before server epoch n t far = farther (t.server == server && nat_lt 0 t.c
 
 -- ---- a server that starts again
 
-plain_again : (epoch : ℕ) (f : Fate) → IsPlain f → IsPlain (fate.restarted epoch f)
-plain_again epoch Undrawn p = tt
-plain_again epoch (Running client js) p = tt
-plain_again epoch (Finishing client js vs) p = tt
-plain_again epoch (Committed stamp js ds) p = p
-plain_again epoch (Forgotten stamp js) p = p
-plain_again epoch (Ended c) p = tt
-
 -- a part that did not vote is gone
 unvoted_gone : (x : Option Life) → ((l : Life) → x ≡ Some l → l.vote ≡ None) → if_ready x ≡ None
 unvoted_gone None h = refl
@@ -167,7 +159,7 @@ again_as old sizes b c held lone some same later cells notes volume begun undraw
   drawn = refl;
   begun = begun_again b.holder.server b.ids.epoch b.ids.transactions b.begun begun;
   undrawn = λ t far. ap (fate.restarted (b.ids.epoch + 1)) (undrawn t (beyond_before b.holder.server b.ids.epoch b.ids.transactions t far));
-  plain = λ t. plain_again (b.ids.epoch + 1) (b.fates t) (plain t);
+  plain = λ t. restarted_plain (b.ids.epoch + 1) (b.fates t) (plain t);
   ends = ends_none b.holder.server (b.ids.epoch + 1) [] (restarted_at b c.clock).fates;
   files = refl;
   made = made_again b.holder.server b.ids.epoch b.ids.files b.holder.made some made;

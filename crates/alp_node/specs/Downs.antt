@@ -24,7 +24,7 @@ use Rattle.alp_journal.specs.Opening.{Start}
 use Rattle.alp_journal.specs.State.{State, is_other_server}
 use Rattle.alp_journal.specs.Laws.{IsLawful}
 use Rattle.alp_journal.specs.Answered.{IsAnswered}
-use Rattle.alp_journal.specs.Account.{Account, state_of, IsQuiet, AreEarlier, AreOwnEvents}
+use Rattle.alp_journal.specs.Account.{Account, state_of as account_state, IsQuiet, AreEarlier, AreOwnEvents}
 use Rattle.alp_node.specs.Decisions.{IsPlain}
 use Rattle.alp_node.specs.DownStates.{DownState}
 use Rattle.alp_node.specs.NodeStates.{NodeState}
@@ -56,7 +56,7 @@ pub record IsLeftOf (s : State) (c : Contents) : Type 0 where
 -- did not; that no decision has joins; what was applied; and that it was quiet.
 pub record IsPast (a : Account) (server epoch : ℕ) (sizes : Sizes) : Type 0 where
   pub number : a.holder.server ≡ server
-  pub lone : (n : ℕ) → is_other_server (state_of a) n ≡ false
+  pub lone : (n : ℕ) → is_other_server (account_state a) n ≡ false
   pub volume : a.sizes ≡ sizes
   pub now : a.ids.epoch ≡ epoch
   pub clock : a.holder.clock ≤ 2 ^ 62
@@ -76,7 +76,7 @@ pub record IsPastRight {V : Type 0} (o : Start) (sizes : Sizes) (d : DownState V
   pub caused : IsAnswered o d.journal
   pub own : AreOwnEvents d.journal
   pub state : Account
-  pub says : state_of o d.journal ≡ state_of state
+  pub says : state_of o d.journal ≡ account_state state
   pub past : IsPast state d.server d.epoch sizes
 
 -- what it was started on
