@@ -257,9 +257,9 @@ module _ {V : Type 0} (a : Account) (held : Contents) (k : ServerState V) (clien
   pub undecided_is : AreNamed k.waits → undecided a client ≡ unburied a client
   undecided_is named =
       all-stay (is_decided a client) (unburied a client)
-      (all-filter (λ v. is_decided a client v ≡ false) (λ v. not (is_buried a client v)) a.waits (subst (AllByRecursion (λ v. is_decided a client v ≡ false)) (sym h.waits) (each k.waits (parts_here named))))
+      (all-filter (λ (v : Waiting). is_decided a client v ≡ false) (λ v. not (is_buried a client v)) a.waits (subst (AllByRecursion (λ (v : Waiting). is_decided a client v ≡ false)) (sym h.waits) (each k.waits (parts_here named))))
     where
-      each : (ws : List WaitingCall) → AllByRecursion IsPartHere ws → AllByRecursion (λ v. is_decided a client v ≡ false) (waiting_calls ws)
+      each : (ws : List WaitingCall) → AllByRecursion IsPartHere ws → AllByRecursion (λ (v : Waiting). is_decided a client v ≡ false) (waiting_calls ws)
       each [] p = tt
       each (v ∷ vs) p = (decided_none v p.0, each vs p.1)
 
