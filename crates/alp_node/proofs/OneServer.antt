@@ -219,7 +219,7 @@ module _ (a : Account) (lone : (n : ℕ) → is_other_server (state_of a) n ≡ 
 
     -- whichever of the calls that wait go, no join loses the one that waits for it
     pub joins_kept : (p : Waiting → Bool) (ws : List Waiting) → KeepsJoins a.phases p ws
-    joins_kept p ws j t client who is = let wrong : None ≡ Some (t, client) = sym (none_open_in j) ∙ ap open_in is in cc
+    joins_kept p ws j t client who is = absurd (let wrong : None ≡ Some (t, client) = sym (none_open_in j) ∙ ap open_in is in cc)
 
     -- and of a transaction of elsewhere it has none, or it is to be told of its end
     pub part_elsewhere : (t : TransId) (client : ℕ) → (t.server == a.holder.server) ≡ false → part_at (state_of a) client t ≡ ended_part (a.dead client t)
