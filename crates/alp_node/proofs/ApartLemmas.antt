@@ -1,9 +1,7 @@
 -- what two live parts change is apart: each has what it changes locked to write
-use Rattle.std.specs.Prelude.{Bool, true, false, Option, None, Some}
-use Rattle.std.proofs.Common.{◌≡◌, refl, sym, ◌∙◌}
 use Rattle.alp_base.specs.declared.key.Key.{Key}
-use Rattle.alp_files.specs.Holdings.{Holding, DoAgree, DoAgreeOnLeaves, IsIntended}
-use Rattle.alp_files.specs.Locks.{Reads, Writes}
+use Rattle.alp_files.specs.Holdings.{Holding, DoAgree, IsIntended}
+use Rattle.alp_files.specs.Locks.{Writes}
 use Rattle.alp_files.proofs.HeldLemmas.{apart, writes-is-reads}
 use Rattle.alp_files.proofs.HoldingLemmas.{agreement-of-leaves}
 

@@ -2,7 +2,7 @@
 use Rattle.std.specs.Prelude.{cond, Bool, true, false, ◌==◌, nat_lt, IsTrue, Option, None, Some, IfSome, zero, suc}
 use Rattle.std.specs.List.{AllByRecursion, list_all}
 use Rattle.std.proofs.lemmas.Bool.{ltb-false}
-use Rattle.std.proofs.Common.{◌≡◌, ℕ, ◌+◌, ◌*◌, ◌≤◌, List, [], ◌∷◌, ◌++◌, length, length-append, refl, sym, ◌∙◌, ap, subst, arith}
+use Rattle.std.proofs.Common.{◌≡◌, ℕ, ◌+◌, ◌*◌, ◌≤◌, List, [], ◌∷◌, length, length-append, refl, sym, ◌∙◌, ap, subst, arith}
 use Rattle.alp_base.proofs.NameLemmas.{and_left, and_right}
 use Rattle.alp_base.specs.declared.ids.FileId.{FileId}
 use Rattle.alp_base.specs.declared.ids.Run.{Run}
@@ -13,7 +13,7 @@ use Rattle.alp_base.specs.declared.key.Resource.TheVariants.{Whole, Leaf}
 use Rattle.alp_base.specs.declared.choices.Access.{Access}
 use Rattle.alp_base.specs.declared.choices.Access.TheVariants.{ReadOnly, Change}
 use Rattle.alp_modes.specs.declared.Mode.{Mode}
-use Rattle.alp_modes.specs.declared.Mode.TheVariants.{Read, Write}
+use Rattle.alp_modes.specs.declared.Mode.TheVariants.{Write}
 use Rattle.alp_files.specs.Act.{Own, open_at, is_changing}
 use Rattle.alp_files.specs.Cells.{Cells, View, props_in}
 use Rattle.alp_files.specs.Holdings.{Holding, covers_held, given_to, file_of}
@@ -24,7 +24,6 @@ use Rattle.alp_files.specs.declared.call.PropChange.{PropChange}
 use Rattle.alp_files.specs.declared.call.PropChange.TheVariants as prop
 use Rattle.alp_base.specs.declared.cell.Props.{Props}
 use Rattle.alp_files.specs.declared.open.Open.{Open}
-use Rattle.alp_files.specs.declared.refusal.Refusal.{Refusal}
 use Rattle.alp_files.specs.declared.refusal.Refusal.TheVariants as refusal
 use Rattle.alp_files.specs.declared.refusal.What.TheVariants as what
 use Rattle.alp_calls.specs.Finds.{found_on, with_props, if_allowed}

@@ -1,9 +1,9 @@
 -- calls that wait, beside a part that goes on: what they ask and where they stand is as it was
-use Rattle.std.specs.Prelude.{cond, Bool, true, false, not, ◌&&◌, ◌||◌, ◌==◌, find, filter, is_some, Option, None, Some, map as list_map}
+use Rattle.std.specs.Prelude.{cond, Bool, true, false, not, ◌&&◌, ◌||◌, ◌==◌, find, filter, is_some, Option, None, Some}
 use Rattle.std.specs.List.{AllByRecursion, list_any}
 use Rattle.std.specs.Option.{option_map}
 use Rattle.std.specs.FinMap as map
-use Rattle.std.proofs.Common.{inr, ◌≡◌, ℕ, List, [], ◌∷◌, ◌++◌, length, refl, sym, ◌∙◌, ap, subst}
+use Rattle.std.proofs.Common.{inr, ◌≡◌, ℕ, List, [], ◌∷◌, length, refl, sym, ◌∙◌, ap, subst}
 use Rattle.alp_base.specs.declared.ids.TransId.{TransId}
 use Rattle.alp_base.specs.declared.key.Resource.{Resource}
 use Rattle.alp_files.specs.declared.call.Call.{Call}
@@ -22,7 +22,7 @@ use Rattle.alp_journal.specs.Holder.{Holder, Life}
 use Rattle.alp_journal.specs.Desk.{Waiting, file_trans, part_trans, is_of, is_of_part, waiting_of, waiting_at}
 use Rattle.alp_journal.specs.Counts.{Locked, request_in, with_resources}
 use Rattle.alp_journal.specs.Answered.{is_conversion, is_conversion_of, rises_on}
-use Rattle.alp_turns.specs.Queues.{request_if, request_for, request_at, queue_of}
+use Rattle.alp_turns.specs.Queues.{request_for, request_at, queue_of}
 use Rattle.alp_turns.proofs.MoveLemmas.{AsksAlike, TurnsAlike, queue_kept}
 use Rattle.alp_node.specs.ServerState.{IsAskedAs, IsWaitingAs}
 use Rattle.alp_node.specs.Waits.{waiting, waiting_calls, has_waiting, is_at, call_at}

@@ -1,26 +1,23 @@
 -- calls that are kept waiting: for their locks, or because another call of their part waits
-use Rattle.std.specs.Prelude.{cond, Bool, true, false, not, ◌&&◌, ◌==◌, is_some, is_none, Option, None, Some, map as list_map}
+use Rattle.std.specs.Prelude.{Bool, true, false, ◌&&◌, is_some, is_none, Option, None, Some}
 use Rattle.std.specs.List.{AllByRecursion}
 use Rattle.std.specs.Option.{option_or}
 use Rattle.std.specs.FinMap as map
-use Rattle.std.proofs.Common.{inl, inr, ◌⊎◌, ◌≡◌, ℕ, ◌+◌, ◌<◌, ◌≤◌, List, [], ◌∷◌, ◌++◌, length, refl, sym, ◌∙◌, ap, subst, arith, eq-eqb}
+use Rattle.std.proofs.Common.{inl, inr, ◌⊎◌, ◌≡◌, ℕ, ◌+◌, ◌<◌, List, [], ◌∷◌, ◌++◌, length, refl, sym, ◌∙◌, ap, subst, arith, eq-eqb}
 use Rattle.alp_base.specs.declared.choices.Choice.{Choice}
 use Rattle.alp_base.specs.declared.choices.Choice.TheVariants as choice
 use Rattle.alp_base.specs.declared.ids.TransId.{TransId}
 use Rattle.alp_base.specs.declared.key.Resource.{Resource}
-use Rattle.alp_modes.specs.declared.Mode.{Mode}
-use Rattle.alp_files.specs.Holdings.{join_held, held_by}
+use Rattle.alp_files.specs.Holdings.{join_held}
 use Rattle.alp_files.specs.declared.call.Call.{Call}
 use Rattle.alp_files.specs.declared.call.Call.TheVariants as call
-use Rattle.alp_files.specs.declared.reply.Reply.{Reply}
 use Rattle.alp_files.specs.declared.reply.Reply.TheVariants as reply
-use Rattle.alp_files.specs.declared.refusal.Refusal.{Refusal}
 use Rattle.alp_files.specs.declared.refusal.Refusal.TheVariants as refusal
 use Rattle.alp_files.specs.Locks.{Need, IsFormed}
-use Rattle.alp_queue.specs.Order.{placed, waits}
+use Rattle.alp_queue.specs.Order.{placed}
 use Rattle.alp_queue.specs.declared.waiter.Waiter.{Waiter}
-use Rattle.alp_locks.specs.Tables.{Holders, Table, held_of, holding}
-use Rattle.alp_locks.specs.Asks.{blocker, waiter_of, entered, with_waiter}
+use Rattle.alp_locks.specs.Tables.{Table, held_of, holding}
+use Rattle.alp_locks.specs.Asks.{blocker, with_waiter}
 use Rattle.alp_locks.specs.Releases.{is_free}
 use Rattle.alp_locks.specs.Sound.{IsSound}
 use Rattle.alp_locks.proofs.LawLemmas.{joined-holds}
@@ -57,11 +54,11 @@ use Rattle.alp_node.specs.declared.lock_counts.LockCounts.{LockCounts}
 use Rattle.alp_node.specs.declared.server_state.ServerState.{ServerState}
 use Rattle.alp_node.specs.declared.sessions.Turn.{Turn}
 use Rattle.alp_node.specs.declared.waits.WaitingCall.{WaitingCall}
-use Rattle.alp_node.proofs.BesideLemmas.{AreNamed, AreOthers, IsBusy, busy_told, idle_told}
+use Rattle.alp_node.proofs.BesideLemmas.{AreOthers, idle_told}
 use Rattle.alp_node.proofs.ConflictLemmas.{held_elsewhere}
 use Rattle.alp_node.proofs.FinishLemmas.{turn_session, counts_as}
 use Rattle.alp_node.proofs.GrantLemmas.{asked_below}
-use Rattle.alp_node.proofs.KeptLemmas.{session_of, IsLive, live_there, same_live, stands_timely, stepped_so}
+use Rattle.alp_node.proofs.KeptLemmas.{session_of, IsLive, live_there, same_live, stepped_so}
 use Rattle.alp_node.proofs.LiveSums.{up_to_drawn}
 use Rattle.alp_node.proofs.LockCallLemmas.{lock_request, lock_choice, not_refused, asked_locks, shut_none, chosen, none_asked_free}
 use Rattle.alp_node.proofs.OneServer.{live_runs, life_works}

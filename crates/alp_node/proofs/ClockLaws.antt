@@ -1,10 +1,10 @@
 -- epochs and clocks that are read back from notes
-use Rattle.std.specs.Prelude.{Bool, true, false, ◌==◌, Option, None, Some, unwrap_or}
-use Rattle.std.proofs.Common.{◌≡◌, ℕ, ◌+◌, ◌<◌, ◌≤◌, ◌^◌, List, refl, sym, ◌∙◌, ap, subst, arith, eq-eqb}
+use Rattle.std.specs.Prelude.{true, false, ◌==◌, Some}
+use Rattle.std.proofs.Common.{◌≡◌, ℕ, ◌+◌, ◌<◌, ◌≤◌, ◌^◌, List, refl, sym, ◌∙◌, ap, arith, eq-eqb}
 use Rattle.std.proofs.lemmas.Bool.{le-leb}
 use Rattle.alp_fields.specs.Fields.{is_time}
 use Rattle.alp_fields.specs.Forms.{Form, IsForm, mapped, pair, checked, u32, u64, whole}
-use Rattle.alp_fields.specs.ClockNote.{clock_form, clock_in, no_clock}
+use Rattle.alp_fields.specs.ClockNote.{clock_form}
 use Rattle.alp_fields.specs.declared.clock_note.ClockNote.{ClockNote}
 use Rattle.alp_fields.proofs.FormLaws.{pair_law, mapped_law, checked_law, whole_back, whole_spelled}
 use Rattle.alp_fields.proofs.FieldLaws.{u32_law, u64_law}

@@ -1,9 +1,9 @@
 -- steps in which a call is collected that has its locks
-use Rattle.std.specs.Prelude.{Bool, true, false, IsTrue, Option, None, Some, Result, Ok}
+use Rattle.std.specs.Prelude.{Bool, true, false, IsTrue, Option, Some, Result, Ok}
 use Rattle.std.specs.List.{AllByRecursion}
 use Rattle.std.specs.Result.{IsErr}
 use Rattle.std.specs.FinMap as map
-use Rattle.std.proofs.Common.{◌≡◌, ℕ, ◌+◌, ◌≤◌, List, [], ◌∷◌, length, refl, sym, ◌∙◌, subst, arith, le_refl}
+use Rattle.std.proofs.Common.{◌≡◌, ℕ, ◌+◌, ◌≤◌, [], ◌∷◌, length, refl, sym, ◌∙◌, subst, arith, le_refl}
 use Rattle.alp_base.specs.Causes.{Rose}
 use Rattle.alp_base.specs.declared.allowance.Allowance.TheVariants.{Spent}
 use Rattle.alp_base.specs.declared.memory.OutOfMemory.{OutOfMemory}

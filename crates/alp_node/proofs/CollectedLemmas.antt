@@ -5,7 +5,6 @@ use Rattle.std.specs.FinMap as map
 use Rattle.std.proofs.Common.{inr, ◌≡◌, ℕ, ◌+◌, List, [], ◌∷◌, ◌++◌, length, refl, sym, ◌∙◌, ap, subst, arith}
 use Rattle.alp_base.specs.declared.ids.FileId.{FileId}
 use Rattle.alp_base.specs.declared.ids.TransId.{TransId}
-use Rattle.alp_base.specs.declared.key.Key.{Key}
 use Rattle.alp_base.specs.declared.key.Resource.{Resource}
 use Rattle.alp_base.specs.declared.key.Resource.TheVariants.{Whole, Leaf}
 use Rattle.alp_modes.specs.declared.Mode.{Mode}
@@ -33,11 +32,11 @@ use Rattle.alp_vault.specs.Contents.{Contents}
 use Rattle.alp_journal.specs.declared.event.Event.TheVariants as event
 use Rattle.alp_journal.specs.Ids.{same_trans}
 use Rattle.alp_journal.specs.Counts.{request_in, with_resources}
-use Rattle.alp_journal.specs.Desk.{Session, file_trans, without}
+use Rattle.alp_journal.specs.Desk.{Session, file_trans}
 use Rattle.alp_journal.specs.Holder.{Life, view_in, answer_in}
 use Rattle.alp_journal.specs.Moves as journal
 use Rattle.alp_journal.specs.Answers.{IsThreads, count_refusal, more_locks, unless_counts}
-use Rattle.alp_journal.specs.Account.{Account, state_of, IsQuiet, Leads}
+use Rattle.alp_journal.specs.Account.{Account, state_of, Leads}
 use Rattle.alp_journal.proofs.CallLemmas.{call_entry}
 use Rattle.alp_journal.proofs.RefusedCalls.{counted_as}
 use Rattle.alp_journal.proofs.CollectCalls.{uncollected, CollectOwes, with_collected, collect_refused_leads, collected_leads}
@@ -55,8 +54,8 @@ use Rattle.alp_node.specs.declared.server_state.ServerState.{ServerState}
 use Rattle.alp_node.specs.declared.sessions.Turn.{Turn}
 use Rattle.alp_node.specs.declared.waits.WaitingCall.{WaitingCall}
 use Rattle.alp_node.proofs.BesideLemmas.{AreNamed}
-use Rattle.alp_node.proofs.CallLemmas.{IsUnder, right_as, part_still, after_call, done_as}
-use Rattle.alp_node.proofs.CollectLemmas.{call_is, its_client, left_off, none_asks, found_here, all_named, its_asked, server_left, left_as}
+use Rattle.alp_node.proofs.CallLemmas.{right_as, part_still, done_as}
+use Rattle.alp_node.proofs.CollectLemmas.{call_is, left_off, none_asks, found_here, all_named, its_asked, server_left, left_as}
 use Rattle.alp_node.proofs.ConflictLemmas.{held_elsewhere, none_risen}
 use Rattle.alp_node.proofs.CountedLemmas.{IsCountRefusal, refused_is}
 use Rattle.alp_node.proofs.FinishLemmas.{turn_session, counts_as}

@@ -3,7 +3,7 @@ use Rattle.std.specs.Prelude.{cond, Bool, true, false, ◌==◌, ◌&&◌, max, 
 use Rattle.std.specs.List.{AllByRecursion}
 use Rattle.std.specs.FinMap.Entries.{put}
 use Rattle.std.specs.FinMap as map
-use Rattle.std.proofs.Common.{◌⊎◌, ◌≡◌, ℕ, ◌+◌, ◌-◌, ◌*◌, ◌^◌, ◌<◌, ◌≤◌, List, [], ◌∷◌, ◌++◌, length, length-append, append-nil, refl, sym, ◌∙◌, ap, subst, arith, eq-eqb}
+use Rattle.std.proofs.Common.{◌⊎◌, ◌≡◌, ℕ, ◌+◌, ◌-◌, ◌*◌, ◌^◌, ◌<◌, ◌≤◌, List, [], ◌∷◌, ◌++◌, append-nil, refl, sym, ◌∙◌, ap, subst, arith, eq-eqb}
 use Rattle.std.proofs.lemmas.Bool.{ne_eqb, ltb-true}
 use Rattle.alp_base.specs.declared.ids.Stamp.{Stamp}
 use Rattle.alp_base.specs.declared.ids.TransId.{TransId}
@@ -35,9 +35,9 @@ use Rattle.alp_journal.specs.declared.event.Event.{Event}
 use Rattle.alp_journal.specs.declared.event.Event.TheVariants as event
 use Rattle.alp_journal.specs.declared.entry.Entry.{Entry}
 use Rattle.alp_journal.specs.Along.{state_after}
-use Rattle.alp_journal.specs.Ids.{same_trans, stamp_cmp}
-use Rattle.alp_journal.specs.Deeds.{Deed, Finishes, Decides, Releases}
-use Rattle.alp_journal.specs.Holder.{Holder, Life, commits, holder_after, grants, with_life}
+use Rattle.alp_journal.specs.Ids.{stamp_cmp}
+use Rattle.alp_journal.specs.Deeds.{Deed, Finishes, Decides}
+use Rattle.alp_journal.specs.Holder.{Holder, Life, commits, holder_after, grants}
 use Rattle.alp_journal.specs.Moves.{tried, act_deeds, finishes, ends_by, grants_to, asks_for}
 use Rattle.alp_journal.specs.State.{State}
 use Rattle.alp_journal.specs.Coordinator.{Fate, Undrawn, Running}

@@ -1,18 +1,18 @@
 -- a server that fell, and its journal when it starts again
-use Rattle.std.specs.Prelude.{Bool, true, false, IsTrue, ◌==◌, Option, None, Some, is_some, unwrap_or, slice_get}
+use Rattle.std.specs.Prelude.{true, false, IsTrue, ◌==◌, Option, None, Some, is_some, unwrap_or, slice_get}
 use Rattle.std.specs.FinMap as map
 use Rattle.std.specs.FinMap.{get-insert}
 use Rattle.std.specs.Cmp.Lexicographic.{nat_list_cmp_total}
 use Rattle.std.proofs.Common.{◌≡◌, ◌⊎◌, inl, inr, ⊎_elim, ℕ, zero, suc, ◌+◌, ◌<◌, ◌≤◌, ◌^◌, List, [], ◌∷◌, ◌++◌, length, refl, sym, ◌∙◌, ap, subst, arith, eq-eqb}
 use Rattle.alp_base.proofs.NameLemmas.{and_right}
-use Rattle.alp_base.specs.Crashes.{Only, Either, NoMore}
+use Rattle.alp_base.specs.Crashes.{Only, NoMore}
 use Rattle.alp_base.specs.Notes.{Notes}
 use Rattle.alp_base.specs.declared.allowance.Allowance.TheVariants.{Free}
 use Rattle.alp_base.specs.declared.faults.Sizes.{Sizes}
 use Rattle.alp_fields.specs.Forms.{whole}
 use Rattle.alp_fields.specs.ClockNote.{clock_name, clock_form, clock_in, clock_kept, no_clock}
 use Rattle.alp_fields.specs.declared.clock_note.ClockNote.{ClockNote}
-use Rattle.alp_files.specs.Cells.{Cells, same_name}
+use Rattle.alp_files.specs.Cells.{same_name}
 use Rattle.alp_files.specs.Edits.{edits_map}
 use Rattle.alp_locks.specs.Sound.{IsSound}
 use Rattle.alp_vault.specs.Contents.{Contents}
@@ -21,15 +21,13 @@ use Rattle.alp_vault.specs.Volumes.{AreNotesSoFar, IsVolumeOf}
 use Rattle.alp_vault.specs.declared.vault.Vault.{Ghosts}
 use Rattle.alp_journal.specs.declared.entry.Entry.{Entry}
 use Rattle.alp_journal.specs.declared.event.Event.TheVariants as event
-use Rattle.alp_journal.specs.Along.{state_after, Along}
-use Rattle.alp_journal.specs.Deeds.{Deed}
-use Rattle.alp_journal.specs.Holder.{Holder, holder_after, commits}
+use Rattle.alp_journal.specs.Holder.{Holder}
 use Rattle.alp_journal.specs.Messages.{clock_end}
 use Rattle.alp_journal.specs.Opening.{Start}
 use Rattle.alp_journal.specs.State.{State, opened}
 use Rattle.alp_journal.specs.Moves.{next}
 use Rattle.alp_journal.specs.Laws.{IsLawful, IsLawfulEntry}
-use Rattle.alp_journal.specs.Answered.{IsAnswered, IsAnsweredSo, IsAnsweredEntry, FitsJournal, entries_limit}
+use Rattle.alp_journal.specs.Answered.{IsAnswered, IsAnsweredSo, IsAnsweredEntry, FitsJournal}
 use Rattle.alp_journal.specs.Account.{Account, state_of as account_state, IsOwnEvent, AreOwnEvents, IsTriedCommit, Leads}
 use Rattle.alp_journal.specs.Restarts.{restart_entry, restarted_at, restarted, with_decided, restarted_with}
 use Rattle.alp_journal.proofs.RestartLemmas.{restart_leads}
@@ -37,7 +35,7 @@ use Rattle.alp_journal.proofs.RestartMade.{commit_made_leads, none_then, cells_t
 use Rattle.alp_journal.proofs.IdLemmas.{all-append}
 use Rattle.alp_node.specs.DownStates.{DownState}
 use Rattle.alp_node.specs.NodeStates.{NodeState}
-use Rattle.alp_node.specs.Durable.{IsDurable, clock_notes, stored_by}
+use Rattle.alp_node.specs.Durable.{clock_notes, stored_by}
 use Rattle.alp_node.specs.Nodes.{IsConsistent, IsRight, state_of, start_by, start_in}
 use Rattle.alp_node.specs.Downs.{IsLeftOf, IsPast, IsPastRight, IsFallen, IsLeftOrRaised, HasRegained, IsPoweredOff, IsHandedBack, HasRaiseCause, HasBegunEpoch, HasNotBegun, HasRestarted, IsStillDown, KeepsNobody, holder_then, next_clock, with_clock, entry_again, start_of}
 use Rattle.alp_node.specs.ServerState.{IsAs, IsReady}

@@ -4,7 +4,7 @@ use Rattle.std.specs.List.{AllByRecursion}
 use Rattle.std.specs.FinMap as map
 use Rattle.std.specs.FinMap.{get-insert}
 use Rattle.std.specs.Ordering.{eq_by_cmp}
-use Rattle.std.proofs.Common.{◌≡◌, ℕ, ◌+◌, ◌-◌, ◌%◌, ◌≤◌, ◌<◌, List, [], ◌∷◌, length, refl, sym, ◌∙◌, ap, subst, arith}
+use Rattle.std.proofs.Common.{◌≡◌, ℕ, ◌+◌, ◌-◌, ◌%◌, List, [], ◌∷◌, length, refl, sym, ◌∙◌, ap, arith}
 use Rattle.alp_base.specs.declared.ids.FileId.{FileId}
 use Rattle.alp_base.specs.declared.key.Key.{Key}
 use Rattle.alp_base.specs.declared.key.Key.TheVariants.{Leader, PageOf, OwnerOf}
@@ -15,10 +15,9 @@ use Rattle.alp_files.specs.Cells.{Cells}
 use Rattle.alp_files.specs.Counts.{Blocks, used_of, block_of, blocks_of, with_block}
 use Rattle.alp_files.specs.Edits.{edits_map}
 use Rattle.alp_files.specs.Undo.{puts_of}
-use Rattle.alp_files.proofs.SameLemmas.{same_key-true, same_key-itself}
-use Rattle.alp_vault.specs.Counted.{places_with}
+use Rattle.alp_files.proofs.SameLemmas.{same_key-itself}
 use Rattle.alp_trans.specs.Counting.{has_block, is_first}
-use Rattle.alp_calls.proofs.FrameLemmas.{any_page, block_is, no_page}
+use Rattle.alp_calls.proofs.FrameLemmas.{block_is, no_page}
 use Rattle.alp_calls.proofs.NeedLemmas.{added, used_put, weight, made_in, sum_put}
 use Rattle.alp_calls.proofs.PutLemmas.{is_block, has_more}
 use Rattle.alp_node.proofs.EaseCount.{among, same, count_at}

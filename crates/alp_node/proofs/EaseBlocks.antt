@@ -1,11 +1,10 @@
 -- what edits change of files and blocks, where they stay within some places
 use Rattle.std.specs.Prelude.{cond, Bool, true, false, not, ◌&&◌, ◌||◌, is_some, Option, None, Some}
-use Rattle.std.specs.List.{AllByRecursion}
 use Rattle.std.specs.Option.{unwrap_or}
 use Rattle.std.specs.FinMap as map
-use Rattle.std.specs.FinMap.{get-insert, get-empty, contains_key-keys}
+use Rattle.std.specs.FinMap.{get-insert, get-empty}
 use Rattle.std.specs.Ordering.{eq_by_cmp}
-use Rattle.std.proofs.Common.{◌≡◌, ℕ, ◌+◌, ◌-◌, ◌%◌, ◌≤◌, ◌<◌, List, [], ◌∷◌, le_refl, refl, sym, ◌∙◌, ap, subst, arith}
+use Rattle.std.proofs.Common.{◌≡◌, ℕ, ◌+◌, ◌-◌, ◌%◌, ◌≤◌, List, [], ◌∷◌, le_refl, refl, sym, ◌∙◌, ap, subst, arith}
 use Rattle.alp_base.specs.declared.ids.FileId.{FileId}
 use Rattle.alp_base.specs.declared.key.Key.{Key}
 use Rattle.alp_base.specs.declared.key.Key.TheVariants.{Leader, PageOf, OwnerOf}
@@ -21,9 +20,9 @@ use Rattle.alp_files.specs.Needs.{Intents, no_intents, intend, intents_from, int
 use Rattle.alp_files.specs.Undo.{puts_of}
 use Rattle.alp_files.proofs.HistoryLemmas.{get-edit_map}
 use Rattle.alp_files.proofs.IntentLemmas.{files_total, puts_from, puts_alone}
-use Rattle.alp_files.proofs.SameLemmas.{same_key-true, same_key-itself}
+use Rattle.alp_files.proofs.SameLemmas.{same_key-true}
 use Rattle.alp_locks.proofs.HeldLemmas.{tied}
-use Rattle.alp_trans.specs.Counting.{has_block, is_first, left_by, with_intents}
+use Rattle.alp_trans.specs.Counting.{has_block, is_first, left_by}
 use Rattle.alp_calls.proofs.BlockLemmas.{shut, open_whole}
 use Rattle.alp_calls.proofs.CountingLemmas.{laid_alone}
 use Rattle.alp_vault.proofs.CountLemmas.{block_known}
@@ -31,8 +30,7 @@ use Rattle.alp_calls.proofs.FrameLemmas.{block_is, page_found, no_page}
 use Rattle.alp_calls.proofs.IntentCounts.{with_all}
 use Rattle.alp_calls.proofs.PutLemmas.{is_block, has_over}
 use Rattle.alp_node.specs.Eases.{new_from}
-use Rattle.alp_node.proofs.EaseAlong.{in_blocks, block_more, blocks_in}
-use Rattle.alp_node.proofs.EaseCount.{all_among}
+use Rattle.alp_node.proofs.EaseAlong.{in_blocks, block_more}
 
 -- ---- what is put
 

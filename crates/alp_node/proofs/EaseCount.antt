@@ -1,5 +1,5 @@
 -- how many of some blocks a part puts pages in, one put after the other
-use Rattle.std.specs.Prelude.{cond, Bool, true, false, not, ◌&&◌, ◌||◌, filter}
+use Rattle.std.specs.Prelude.{cond, Bool, true, false, ◌&&◌, ◌||◌, filter}
 use Rattle.std.specs.List.{AllByRecursion, list_any}
 use Rattle.std.specs.Ordering.{eq_by_cmp}
 use Rattle.std.specs.Cmp.{eq_by_cmp_equiv}

@@ -1,11 +1,10 @@
 -- a part that is committed leaves another one its counts, but for the places of the blocks that it opens and the other puts pages in
-use Rattle.std.specs.Prelude.{cond, Bool, true, false, not, ◌&&◌, ◌||◌, is_some, Option, None, Some, filter, map as list_map}
-use Rattle.std.specs.List.{AllByRecursion, list_any}
+use Rattle.std.specs.Prelude.{cond, Bool, true, false, not, ◌&&◌, ◌||◌, is_some, Option, None, Some, map as list_map}
+use Rattle.std.specs.List.{AllByRecursion}
 use Rattle.std.specs.FinMap as map
 use Rattle.std.specs.FinMap.{contains_key-keys, get-empty}
 use Rattle.std.specs.Option.{unwrap_or}
-use Rattle.std.specs.Ordering.{eq_by_cmp}
-use Rattle.std.proofs.Common.{◌≡◌, ℕ, ◌+◌, ◌-◌, ◌%◌, ◌≤◌, List, [], ◌∷◌, length, refl, sym, ◌∙◌, ap, subst, arith}
+use Rattle.std.proofs.Common.{◌≡◌, ℕ, ◌+◌, ◌-◌, ◌%◌, List, [], ◌∷◌, length, refl, sym, ◌∙◌, ap, subst, arith}
 use Rattle.alp_base.specs.declared.ids.FileId.{FileId}
 use Rattle.alp_base.specs.declared.key.Key.{Key}
 use Rattle.alp_base.specs.declared.key.Key.TheVariants.{Leader, PageOf, OwnerOf}
@@ -21,7 +20,6 @@ use Rattle.alp_base.proofs.NameLemmas.{and_left, and_right}
 use Rattle.alp_calls.proofs.BlockLemmas.{shut}
 use Rattle.alp_files.specs.Edits.{Edit, edits_map}
 use Rattle.alp_files.specs.Needs.{Intents, intents_of, first_gone, is_gone, is_leader, is_owner, missing_in}
-use Rattle.alp_files.specs.Undo.{puts_of}
 use Rattle.alp_trans.specs.Counting.{AreCountsOf, counts_by, left_by, with_intents, has_block}
 use Rattle.alp_trans.specs.declared.counts.Counts.{Counts}
 use Rattle.alp_calls.proofs.IntentCounts.{get-left, same_counts, counted_by, are_counts, left_less, none_left}

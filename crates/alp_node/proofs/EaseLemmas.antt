@@ -1,9 +1,9 @@
 -- parts that need no place for some blocks any more stand as they did besides
-use Rattle.std.specs.Prelude.{cond, Bool, true, false, ◌||◌, is_some, Option, None, Some, length}
+use Rattle.std.specs.Prelude.{cond, Bool, true, false, ◌||◌, is_some, Option, None, Some}
 use Rattle.std.specs.Option.{option_map}
 use Rattle.std.specs.List.{list_any, list_all, AllByRecursion}
 use Rattle.std.specs.FinMap as map
-use Rattle.std.proofs.Common.{◌≡◌, ℕ, ◌+◌, ◌-◌, ◌≤◌, List, [], ◌∷◌, le_refl, refl, sym, ◌∙◌, ap, subst, arith}
+use Rattle.std.proofs.Common.{◌≡◌, ℕ, ◌≤◌, List, [], ◌∷◌, le_refl, refl, sym, ◌∙◌, ap, subst, arith}
 use Rattle.alp_base.specs.declared.faults.Sizes.{Sizes}
 use Rattle.alp_base.specs.declared.ids.TransId.{TransId}
 use Rattle.alp_base.specs.declared.key.Key.{Key}
@@ -11,7 +11,7 @@ use Rattle.alp_calls.specs.Parts.{IsPart}
 use Rattle.alp_files.specs.Cells.{Cells}
 use Rattle.alp_journal.specs.Ids.{same_trans}
 use Rattle.alp_journal.proofs.IdLemmas.{same_trans-true}
-use Rattle.alp_node.specs.Eases.{shared_in, eased_live, eased_if, eased}
+use Rattle.alp_node.specs.Eases.{eased_live, eased_if, eased}
 use Rattle.alp_node.specs.Asks.{is_given}
 use Rattle.alp_node.specs.Rooms.{IsWithin}
 use Rattle.alp_node.specs.ServerState.{IsReady, IsNumbered}

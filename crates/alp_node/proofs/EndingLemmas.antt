@@ -5,7 +5,6 @@ use Rattle.std.proofs.Common.{◌≡◌, ℕ, List, [], ◌∷◌, ◌++◌, app
 use Rattle.alp_base.specs.Causes.{Rose}
 use Rattle.alp_base.specs.declared.ids.JoinNo.{JoinNo}
 use Rattle.alp_base.specs.declared.ids.TransId.{TransId}
-use Rattle.alp_files.specs.declared.call.Call.{Call}
 use Rattle.alp_files.specs.declared.call.Call.TheVariants as call
 use Rattle.alp_files.specs.declared.reply.Reply.{Reply}
 use Rattle.alp_files.specs.declared.reply.Reply.TheVariants as reply
@@ -31,8 +30,7 @@ use Rattle.alp_journal.proofs.CallLemmas.{call_entry}
 use Rattle.alp_journal.proofs.OwnEnds.{with_end, with_end_given, abort_leads, against_leads}
 use Rattle.alp_journal.proofs.TimeoutLemmas.{timeout_entry, with_timeout, with_timeout_given, late_aborts, timeout_leads}
 use Rattle.alp_journal.proofs.WaitLemmas.{without-given}
-use Rattle.alp_turns.specs.Laws.{trans_in}
-use Rattle.alp_node.specs.Dead.{dead_in, is_dead, without_part}
+use Rattle.alp_node.specs.Dead.{dead_in, without_part}
 use Rattle.alp_node.specs.Releases.{granted_if, granted_one, granted_all, granted_behind, let_go}
 use Rattle.alp_node.specs.ServerState.{IsAs, IsReady}
 use Rattle.alp_node.specs.Steps.{Stepped, IsTimely, IsTurn, entry_of, counted_in, ended, told_answer, refused_answer}

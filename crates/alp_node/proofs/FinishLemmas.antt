@@ -1,62 +1,52 @@
 -- refusals and ends, as the server keeps them
-use Rattle.std.specs.Prelude.{cond, Bool, true, false, ◌==◌, ◌&&◌, ◌||◌, not, Option, None, Some, is_some, find, nat_lt, nat_le}
+use Rattle.std.specs.Prelude.{cond, Bool, true, false, ◌==◌, ◌&&◌, ◌||◌, not, Option, None, Some, is_some, nat_lt, nat_le}
 use Rattle.std.specs.List.{AllByRecursion}
 use Rattle.std.specs.FinMap as map
-use Rattle.std.proofs.Common.{◌≡◌, ℕ, ◌<◌, List, [], ◌∷◌, ◌++◌, refl, sym, ◌∙◌, ap, subst, eq-eqb, arith}
+use Rattle.std.proofs.Common.{◌≡◌, ℕ, ◌<◌, List, [], refl, sym, ◌∙◌, ap, subst, eq-eqb, arith}
 use Rattle.std.specs.List.Sorted.{IsPermutation}
 use Rattle.std.proofs.lemmas.List.Sorted.{IsPermutation-refl}
 use Rattle.std.proofs.lemmas.Bool.{eqb-true, ne_eqb, leb-true, ltb-true}
 use Rattle.alp_base.proofs.NameLemmas.{and_right}
-use Rattle.alp_base.specs.Causes.{Rose}
 use Rattle.alp_base.specs.declared.ids.TransId.{TransId}
-use Rattle.alp_modes.specs.declared.Mode.{Mode}
 use Rattle.alp_files.specs.declared.call.Call.TheVariants as call
 use Rattle.alp_files.specs.declared.reply.Reply.{Reply}
 use Rattle.alp_files.specs.declared.reply.Reply.TheVariants as reply
 use Rattle.alp_files.specs.declared.refusal.Refusal.TheVariants as refusal
 use Rattle.alp_files.specs.declared.refusal.Cause.{Cause}
 use Rattle.alp_files.specs.declared.refusal.Cause.TheVariants as cause
-use Rattle.alp_files.specs.declared.refusal.Why.{Why}
 use Rattle.alp_vault.specs.Contents.{Contents}
-use Rattle.alp_journal.specs.declared.act.Act.TheVariants as act
 use Rattle.alp_journal.specs.declared.event.Event.{Event}
 use Rattle.alp_journal.specs.declared.event.Event.TheVariants as event
 use Rattle.alp_journal.specs.Along.{Where}
 use Rattle.alp_journal.specs.Ids.{same_trans}
-use Rattle.alp_journal.specs.Coordinator.{Fate, Undrawn, Running, Finishing, Committed, Forgotten, Ended}
-use Rattle.alp_journal.specs.Coordinator as fate
-use Rattle.alp_journal.specs.Desk.{Session, Waiting, file_trans, is_of as is_of_trans, is_of_part, waiting_of, without}
+use Rattle.alp_journal.specs.Coordinator.{Fate, Undrawn, Running}
+use Rattle.alp_journal.specs.Desk.{Session, file_trans, is_of_part, waiting_of, without}
 use Rattle.alp_journal.specs.Holder.{Life}
-use Rattle.alp_journal.specs.Counts.{lock_set}
-use Rattle.alp_journal.specs.Messages.{Mail, why_not_own, on_tick}
+use Rattle.alp_journal.specs.Messages.{Mail, on_tick}
 use Rattle.alp_journal.specs.Answers.{Part, NoPart, AtEnd, part_at, at_part, First, IsFinishAnswer, finish_reply}
 use Rattle.alp_journal.specs.Account.{Account, state_of, IsQuiet, Leads}
-use Rattle.alp_journal.proofs.IdLemmas.{same_trans-itself}
 use Rattle.alp_journal.proofs.RefusedCalls.{counted_as, without_dead, unknown_finish_leads, dead_finish_leads}
 use Rattle.alp_journal.proofs.TickLemmas.{tick_leads, force_leads}
 use Rattle.alp_journal.proofs.TimeoutLemmas.{as_it_was, idle_leads}
 use Rattle.alp_journal.proofs.QuietLemmas.{quiet_told, quiet_up, quiet_forgotten}
 use Rattle.alp_turns.proofs.MoveLemmas.{GoesIdle, queue_without}
-use Rattle.alp_node.specs.Dead.{dead_in, is_dead, without_part}
+use Rattle.alp_node.specs.Dead.{is_dead, without_part}
 use Rattle.alp_node.specs.ServerState.{IsAs, IsReady, IsWaitingAs, is_beyond}
 use Rattle.alp_node.specs.Steps.{Stepped, IsTimely, IsTurn, entry_of, counted_in, told_answer, refused_answer}
-use Rattle.alp_node.specs.Waits.{waiting, waiting_calls, has_waiting, is_of, without_calls_of}
+use Rattle.alp_node.specs.Waits.{is_of, without_calls_of}
 use Rattle.alp_node.specs.declared.waits.WaitingCall.{WaitingCall}
-use Rattle.alp_node.proofs.GoneLemmas.{part_of_file, named_each, calls_gone, each_left, idle_calls}
+use Rattle.alp_node.proofs.GoneLemmas.{named_each, calls_gone, each_left, idle_calls}
 use Rattle.alp_node.specs.declared.answer.Answer.{Answer}
-use Rattle.alp_node.specs.declared.lives.Live.{Live}
 use Rattle.alp_node.specs.declared.server_state.ServerState.{ServerState}
 use Rattle.alp_node.specs.declared.sessions.Turn.{Turn}
 use Rattle.alp_node.proofs.CountLemmas.{IsUpTo}
-use Rattle.alp_node.proofs.DeadLemmas.{part_left, dead_then}
-use Rattle.alp_node.proofs.TotalLemmas.{gone_room}
-use Rattle.alp_node.proofs.KeptLemmas.{sessions_as, session_of, session_then, stands_timely, alike_set, each_set, IsLive, live_there, none_live, stepped_so}
+use Rattle.alp_node.proofs.DeadLemmas.{part_left}
+use Rattle.alp_node.proofs.KeptLemmas.{sessions_as, session_of, session_then, stands_timely, none_live, stepped_so}
 use Rattle.alp_node.specs.Served.{IsIdleEvent}
 use Rattle.alp_node.specs.Standings.{standing_of}
-use Rattle.alp_node.specs.declared.served.Standing.{Standing}
 use Rattle.alp_node.specs.declared.served.Standing.TheVariants as standing
 use Rattle.alp_node.proofs.StandingLemmas.{part_of, EndsNone, none_running, part_is, finish_none, undrawn_elsewhere, dead_gone}
-use Rattle.alp_node.proofs.MapLemmas.{places_set, get_gone, tied_same}
+use Rattle.alp_node.proofs.MapLemmas.{places_set}
 use Rattle.alp_node.proofs.OneServer.{others_none, none_open, none_joined, gone_rests, lone_runs}
 
 -- three tests that hold

@@ -1,39 +1,36 @@
 -- what a server keeps where locks that were let go are given on: each grant is as the journal tells it
-use Rattle.std.specs.Prelude.{cond, Bool, true, false, ◌&&◌, ◌==◌, Option, None, Some, IsSome, is_some, find, map as list_map}
+use Rattle.std.specs.Prelude.{cond, Bool, true, false, Option, None, Some, find, map as list_map}
 use Rattle.std.specs.List.{AllByRecursion}
 use Rattle.std.specs.FinMap as map
-use Rattle.std.proofs.Common.{◌≡◌, ℕ, ◌+◌, List, [], ◌∷◌, ◌++◌, length, refl, sym, ◌∙◌, ap, subst}
+use Rattle.std.proofs.Common.{◌≡◌, List, [], ◌∷◌, length, refl, sym, ◌∙◌, ap, subst}
 use Rattle.alp_base.specs.declared.ids.TransId.{TransId}
 use Rattle.alp_base.specs.declared.key.Resource.{Resource}
 use Rattle.alp_base.specs.declared.faults.Sizes.{Sizes}
 use Rattle.alp_files.specs.Apart.{IsWithin as AreWithin, OpensRead}
 use Rattle.alp_files.specs.Cells.{Cells}
 use Rattle.alp_files.specs.Edits.{Edit}
-use Rattle.alp_files.specs.Holdings.{Holding, IsIntended}
+use Rattle.alp_files.specs.Holdings.{IsIntended}
 use Rattle.alp_files.specs.Locks.{Need, Reads, Writes, HoldsEach, needs_of}
 use Rattle.alp_files.specs.Needs.{intents_of}
 use Rattle.alp_files.specs.declared.call.Call.{Call}
 use Rattle.alp_files.proofs.CoverLemmas.{joined-more, granted-holds, granted-intended}
-use Rattle.alp_locks.specs.Tables.{Holders, holding}
+use Rattle.alp_locks.specs.Tables.{Holders}
 use Rattle.alp_trans.specs.Counting.{AreCountsOf}
 use Rattle.alp_trans.specs.Parts.{own_of}
 use Rattle.alp_trans.specs.declared.part.Part.{Part}
-use Rattle.alp_journal.specs.Account.{Account, with_granted, call_on, is_on_trans}
-use Rattle.alp_journal.specs.Answers.{more_locks}
+use Rattle.alp_journal.specs.Account.{Account, with_granted}
 use Rattle.alp_journal.specs.Counts.{lock_set, request_in, with_resources}
 use Rattle.alp_journal.specs.Desk.{Waiting, file_trans, grant_in, is_of as is_of_trans}
 use Rattle.alp_journal.specs.Holder.{Holder, Life, grants, held_for, view_in}
 use Rattle.alp_journal.specs.Ids.{same_trans}
-use Rattle.alp_journal.specs.Moves.{call_of}
 use Rattle.alp_journal.proofs.IdLemmas.{same_trans-itself, same_trans-true}
 use Rattle.alp_turns.specs.Queues.{AreHeldAlike}
 use Rattle.alp_turns.proofs.AskedLemmas.{asked_again}
 use Rattle.alp_node.specs.Covers.{AreHeld, AreSizedEdits}
-use Rattle.alp_node.specs.Releases.{with_locks, lock_if, granted_if, granted_one, granted_all}
-use Rattle.alp_node.specs.Rooms.{IsWithin}
-use Rattle.alp_node.specs.ServerState.{IsLife, IsAlike, IsAskedAs, IsWaitingAs}
-use Rattle.alp_node.specs.Totals.{LiveMap, HaveRoom, totals_of}
-use Rattle.alp_node.specs.Waits.{waiting, waiting_calls, locks_in, locks_of, grant_one, grant_of}
+use Rattle.alp_node.specs.Releases.{lock_if, granted_if, granted_one, granted_all}
+use Rattle.alp_node.specs.ServerState.{IsAlike, IsAskedAs, IsWaitingAs}
+use Rattle.alp_node.specs.Totals.{HaveRoom, totals_of}
+use Rattle.alp_node.specs.Waits.{waiting, waiting_calls, locks_in, grant_one, grant_of}
 use Rattle.alp_node.specs.declared.lives.Live.{Live}
 use Rattle.alp_node.specs.declared.server_state.ServerState.{ServerState}
 use Rattle.alp_node.specs.declared.waits.WaitingCall.{WaitingCall}

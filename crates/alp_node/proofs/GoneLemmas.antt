@@ -1,34 +1,33 @@
 -- a part goes, and its locks are given on: what the server keeps behind it
-use Rattle.std.specs.Prelude.{cond, Bool, true, false, not, ◌&&◌, ◌==◌, Option, None, Some, IsSome, is_some, find, filter, map as list_map}
+use Rattle.std.specs.Prelude.{cond, Bool, true, false, not, ◌&&◌, ◌==◌, Option, None, Some, IsSome, find, filter}
 use Rattle.std.specs.List.{AllByRecursion}
 use Rattle.std.specs.Ordering.{eq_by_cmp}
-use Rattle.std.specs.Cmp.{eq_by_cmp_equiv}
 use Rattle.std.specs.FinMap as map
-use Rattle.std.proofs.Common.{◌≡◌, ℕ, ◌+◌, List, [], ◌∷◌, ◌++◌, length, refl, sym, ◌∙◌, ap, subst}
+use Rattle.std.proofs.Common.{◌≡◌, ℕ, List, [], ◌∷◌, length, refl, sym, ◌∙◌, ap, subst}
 use Rattle.alp_base.specs.declared.ids.TransId.{TransId}
 use Rattle.alp_base.specs.declared.ids.Stamp.{Stamp}
 use Rattle.alp_base.specs.declared.key.Resource.{Resource}
 use Rattle.alp_base.specs.declared.faults.Sizes.{Sizes}
-use Rattle.alp_base.specs.Orders.{trans_cmp, transactions_total}
+use Rattle.alp_base.specs.Orders.{trans_cmp}
 use Rattle.alp_modes.specs.declared.Mode.{Mode}
 use Rattle.alp_files.specs.Cells.{Cells}
-use Rattle.alp_files.specs.Edits.{Edit, edits_map}
+use Rattle.alp_files.specs.Edits.{Edit}
 use Rattle.alp_files.specs.History.{Decided}
 use Rattle.alp_files.specs.Holdings.{agree_held}
-use Rattle.alp_files.specs.Locks.{Need, HoldsEach, needs_of, request_of}
+use Rattle.alp_files.specs.Locks.{HoldsEach, needs_of, request_of}
 use Rattle.alp_files.specs.declared.call.Call.{Call}
 use Rattle.alp_files.specs.declared.call.Call.TheVariants as call
 use Rattle.alp_files.specs.declared.refusal.Cause.{Cause}
 use Rattle.alp_files.proofs.HoldingLemmas.{agree-turned}
 use Rattle.alp_locks.specs.Releases.{released, walked}
-use Rattle.alp_locks.specs.Tables.{Holders, Table, holding, IsAgreeing}
+use Rattle.alp_locks.specs.Tables.{Holders, holding, IsAgreeing}
 use Rattle.alp_locks.proofs.ReleaseLemmas.{removed-holds}
 use Rattle.alp_queue.specs.Order.{without as without_of}
 use Rattle.alp_queue.specs.declared.waiter.Waiter.{Waiter}
 use Rattle.alp_trans.specs.declared.part.Part.{Part}
 use Rattle.alp_vault.specs.Contents.{Contents}
-use Rattle.alp_journal.specs.Account.{Account, AreApart, AreTwo, IsSettled, IsQuiet, with_granted, granted_calls, call_on, is_on_trans, holder_granted, waits_granted}
-use Rattle.alp_journal.specs.Answered.{in_turn, IsWalk, IsWaitingFor}
+use Rattle.alp_journal.specs.Account.{Account, AreApart, AreTwo, IsQuiet, with_granted, granted_calls, call_on, is_on_trans, holder_granted}
+use Rattle.alp_journal.specs.Answered.{in_turn, IsWalk}
 use Rattle.alp_journal.specs.Counts.{lock_set, request_in, with_resources}
 use Rattle.alp_journal.specs.Coordinator.{Fate, Undrawn}
 use Rattle.alp_journal.specs.Desk.{Session, Waiting, file_trans, part_trans, is_of as is_of_trans, is_of_part, without}

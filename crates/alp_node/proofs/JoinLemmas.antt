@@ -1,5 +1,5 @@
 -- joins, as the server keeps them
-use Rattle.std.specs.Prelude.{cond, Bool, true, false, IsTrue, ◌==◌, ◌||◌, Option, None, Some, Ok}
+use Rattle.std.specs.Prelude.{cond, Bool, false, IsTrue, ◌||◌, Option, None, Some, Ok}
 use Rattle.std.specs.FinMap as map
 use Rattle.std.proofs.Common.{◌≡◌, ℕ, List, [], le_refl, refl, sym, ◌∙◌, ap, subst, eq-eqb}
 use Rattle.alp_base.specs.declared.ids.TransId.{TransId}

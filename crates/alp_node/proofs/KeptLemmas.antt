@@ -1,6 +1,5 @@
 -- a server keeps what its journal says: what holds of each part of it
 use Rattle.std.specs.Prelude.{cond, Bool, true, false, ◌==◌, max, Option, None, Some}
-use Rattle.std.specs.FinMap as map
 use Rattle.std.proofs.Common.{◌≡◌, ℕ, ◌+◌, ◌≤◌, List, [], ◌∷◌, length, refl, sym, ◌∙◌, ap, subst, arith}
 use Rattle.alp_base.specs.declared.ids.TransId.{TransId}
 use Rattle.alp_base.specs.declared.ids.Stamp.{Stamp}
@@ -9,7 +8,7 @@ use Rattle.alp_files.specs.Cells.{Cells}
 use Rattle.alp_files.specs.History.{Decided}
 use Rattle.alp_files.specs.declared.call.Call.{Call}
 use Rattle.alp_files.specs.declared.reply.Reply.{Reply}
-use Rattle.alp_locks.specs.Tables.{Holders, Table, holding}
+use Rattle.alp_locks.specs.Tables.{Holders, holding}
 use Rattle.alp_vault.specs.Contents.{Contents}
 use Rattle.alp_journal.specs.declared.act.Act.{Act}
 use Rattle.alp_journal.specs.declared.event.Event.TheVariants as event

@@ -10,9 +10,8 @@ use Rattle.alp_base.specs.declared.ids.TransId.{TransId}
 use Rattle.alp_base.specs.declared.key.Resource.{Resource}
 use Rattle.alp_base.specs.declared.key.Resource.TheVariants.{Whole}
 use Rattle.alp_modes.specs.declared.Mode.{Mode}
-use Rattle.alp_modes.specs.declared.Mode.TheVariants.{Write}
 use Rattle.alp_base.specs.Orders.{resource_cmp}
-use Rattle.alp_files.specs.Holdings.{Holding, join_held, covers_held, held_by, DoAgree}
+use Rattle.alp_files.specs.Holdings.{Holding, join_held, held_by, DoAgree}
 use Rattle.alp_files.proofs.HoldingLemmas.{join_held-assoc, held_by-append, agree-turned}
 use Rattle.alp_files.proofs.CoverLemmas.{granted-holds, granted-intended, joined-more}
 use Rattle.alp_files.specs.declared.call.Call.{Call}
@@ -24,7 +23,7 @@ use Rattle.alp_files.specs.declared.refusal.Refusal.TheVariants as refusal
 use Rattle.alp_files.specs.Act.{Answer, id_in}
 use Rattle.alp_files.specs.Passing.{is_passing}
 use Rattle.alp_files.specs.Born.{count_after}
-use Rattle.alp_files.specs.Locks.{Need, IsMore, IsFormed, HoldsEach, needs_of, needs_made, with_made}
+use Rattle.alp_files.specs.Locks.{Need, IsFormed, HoldsEach, needs_of, needs_made, with_made}
 use Rattle.alp_queue.specs.declared.waiter.Waiter.{Waiter}
 use Rattle.alp_queue.specs.Order.{waits}
 use Rattle.alp_locks.specs.Tables.{Table, holding, held_of}
@@ -78,7 +77,7 @@ use Rattle.alp_node.proofs.TotalLemmas.{AreRoomed}
 use Rattle.alp_node.proofs.CallLemmas.{IsUnder, right_as, after_call, done_as}
 use Rattle.alp_node.proofs.ConflictLemmas.{held_elsewhere, would_hold, none_risen, not_empty}
 use Rattle.alp_node.proofs.FinishLemmas.{turn_session}
-use Rattle.alp_node.proofs.GrantLemmas.{free_given, kept_beside, made_locked, asked_below, of_given, next_told, id_given}
+use Rattle.alp_node.proofs.GrantLemmas.{free_given, kept_beside, asked_below, of_given, next_told, id_given}
 use Rattle.alp_node.proofs.KeptLemmas.{session_of, stands_timely, stepped_so}
 use Rattle.alp_node.proofs.LockLemmas.{itself, taken_own, taken_other, taken_agrees, taken_beside, taken_waiting}
 use Rattle.alp_node.proofs.BesideLemmas.{AreNamed, AreOthers, idle_told}

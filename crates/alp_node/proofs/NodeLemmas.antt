@@ -1,5 +1,5 @@
 -- a server and its journal, one step more
-use Rattle.std.specs.Prelude.{cond, Bool, IsTrue, true, false, flat_map, Option, Some, Result, Ok, Err, IfOk, OnErr, MatchResult}
+use Rattle.std.specs.Prelude.{cond, Bool, IsTrue, true, false, flat_map, Option, Some, Result, Ok, Err, IfOk, MatchResult}
 use Rattle.std.specs.FinMap as map
 use Rattle.std.proofs.lemmas.Option.{slice_get_within}
 use Rattle.std.proofs.lemmas.Grind.{flat_map-append}
@@ -21,7 +21,7 @@ use Rattle.alp_journal.specs.declared.entry.Entry.{Entry}
 use Rattle.alp_journal.specs.declared.event.Event.{Event}
 use Rattle.alp_journal.specs.declared.event.Event.TheVariants as event
 use Rattle.alp_journal.specs.Deeds.{Deed}
-use Rattle.alp_journal.specs.Holder.{Life, holder_after}
+use Rattle.alp_journal.specs.Holder.{holder_after}
 use Rattle.alp_journal.proofs.HeldLemmas.{Stands, opened_stands, journal_stands, live_sound}
 use Rattle.alp_journal.proofs.IdLemmas.{all-append}
 use Rattle.alp_journal.specs.Along.{state_after, Along}
@@ -35,7 +35,7 @@ use Rattle.alp_node.specs.declared.answer.Answer.{Answer}
 use Rattle.alp_node.specs.NodeStates.{NodeState}
 use Rattle.alp_node.specs.ServerState.{IsAs, IsReady}
 use Rattle.alp_node.specs.Durable.{IsDurable, IsSettled, Leaves, Besides, NoOther, said_of, said_by, said_then, stored_by}
-use Rattle.alp_node.specs.Nodes.{IsConsistent, IsRight, Answered, HasCause, HasNoEntry, HasRoom, state_of, start_by, start_in, sent_by, sent_in}
+use Rattle.alp_node.specs.Nodes.{IsConsistent, IsRight, Answered, HasCause, HasRoom, state_of, start_by, start_in, sent_by, sent_in}
 use Rattle.alp_node.specs.Halts.{HaveCauses}
 use Rattle.alp_node.specs.Steps.{Stepped, IsStepAs, IsEntered, entry_of}
 use Rattle.alp_node.specs.Turns.{HasTurned}

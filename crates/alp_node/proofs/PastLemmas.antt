@@ -2,19 +2,18 @@
 use Rattle.std.specs.Prelude.{cond, Bool, true, false, not, ◌==◌, ◌&&◌, ◌||◌, nat_lt, nat_le, Option, None, Some, is_some}
 use Rattle.std.specs.List.{AllByRecursion}
 use Rattle.std.specs.FinMap as map
-use Rattle.std.proofs.Common.{◌≡◌, ◌⊎◌, inl, inr, ℕ, zero, suc, ◌+◌, ◌<◌, ◌≤◌, ◌^◌, List, [], ◌∷◌, ◌++◌, append-nil, refl, sym, ◌∙◌, ap, subst, arith, eq-eqb}
-use Rattle.std.proofs.lemmas.Bool.{le-leb, lt-ltb, ltb-true, eqb-true}
+use Rattle.std.proofs.Common.{◌≡◌, ℕ, zero, suc, ◌+◌, ◌<◌, List, [], ◌∷◌, append-nil, refl, sym, ◌∙◌, ap, subst, arith, eq-eqb}
+use Rattle.std.proofs.lemmas.Bool.{lt-ltb, ltb-true, eqb-true}
 use Rattle.alp_base.proofs.NameLemmas.{and_left, and_right}
 use Rattle.alp_base.specs.declared.faults.Sizes.{Sizes}
 use Rattle.alp_base.specs.declared.ids.FileId.{FileId}
-use Rattle.alp_base.specs.declared.ids.Stamp.{Stamp}
 use Rattle.alp_base.specs.declared.ids.TransId.{TransId}
 use Rattle.alp_base.specs.declared.key.Key.TheVariants.{Leader}
 use Rattle.alp_base.specs.declared.key.Resource.{Resource}
 use Rattle.alp_fields.specs.declared.clock_note.ClockNote.{ClockNote}
 use Rattle.alp_files.specs.Apart.{AreSized}
 use Rattle.alp_files.specs.Cells.{Cells, View}
-use Rattle.alp_files.specs.Edits.{Edit, edits_at, edits_map}
+use Rattle.alp_files.specs.Edits.{edits_at, edits_map}
 use Rattle.alp_files.specs.History.{Decided}
 use Rattle.alp_files.proofs.HistoryLemmas.{get-edits_map}
 use Rattle.alp_locks.proofs.SoundLemmas.{each-more}
@@ -34,7 +33,7 @@ use Rattle.alp_journal.proofs.StampLemmas.{put-last, AreEarlier-push}
 use Rattle.alp_node.specs.Decisions.{IsPlain}
 use Rattle.alp_node.specs.Durable.{clock_notes}
 use Rattle.alp_node.specs.Downs.{IsPast}
-use Rattle.alp_node.specs.ServerState.{IsAs, IsReady, IsAlike, IsToCome, SeesNoneToCome, PutNoneBeyond, AreMade, HaveBegun, ids_to, trans_to, is_beyond}
+use Rattle.alp_node.specs.ServerState.{IsAs, IsReady, IsAlike, SeesNoneToCome, PutNoneBeyond, AreMade, HaveBegun, ids_to, trans_to, is_beyond}
 use Rattle.alp_node.specs.Totals.{totals_of, HaveRoom}
 use Rattle.alp_node.specs.declared.server_state.ServerState.{ServerState}
 use Rattle.alp_node.proofs.DecisionLemmas.{ends_none, restarted_plain}

@@ -1,7 +1,7 @@
 -- how a vault begins the next epoch, and what a crash leaves of it
 use Rattle.std.specs.Prelude.{true, false, IsTrue, Option, None, Some, is_some, unwrap_or, Result, Ok, Err, MatchResult}
 use Rattle.std.specs.FinMap as map
-use Rattle.std.proofs.Common.{◌≡◌, inl, inr, ⊎_elim, ℕ, ◌+◌, ◌<◌, ◌≤◌, ◌^◌, List, refl, sym, ◌∙◌, ap, subst, arith, le_refl}
+use Rattle.std.proofs.Common.{◌≡◌, inl, inr, ⊎_elim, ℕ, ◌+◌, ◌<◌, ◌≤◌, List, refl, sym, ◌∙◌, ap, subst, arith}
 use Rattle.alp_base.specs.Allowances.{Spends}
 use Rattle.alp_base.specs.Crashes.{NoMore, Adds}
 use Rattle.alp_base.specs.Faults.{HasFaultCause, IsCountKept, IsOfVolume}
@@ -22,7 +22,7 @@ use Rattle.alp_vault.specs.Contents.{Contents}
 use Rattle.alp_vault.specs.Vault.{IsSameVault}
 use Rattle.alp_vault.specs.Volumes.{AreNotesSoFar}
 use Rattle.alp_vault.specs.declared.vault.Vault.{Ghosts}
-use Rattle.alp_node.specs.Downs.{IsLeftOrRaised, HasRegained, IsNext, HasNextCause, HasRaiseCause, IsRecovered, IsUnrecovered, IsPoweredOff, HasBegunEpoch, HasNotBegun, next_clock, with_clock}
+use Rattle.alp_node.specs.Downs.{IsLeftOrRaised, HasRegained, IsNext, HasNextCause, HasRaiseCause, IsRecovered, IsUnrecovered, IsPoweredOff, HasBegunEpoch, HasNotBegun, next_clock}
 use Rattle.alp_node.specs.Durable.{Leaves, Besides, IsWritten}
 use Rattle.alp_node.specs.Halts.{Ends}
 use Rattle.alp_node.specs.declared.start.StartFault.{StartFault}

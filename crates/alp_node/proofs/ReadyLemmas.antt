@@ -2,13 +2,11 @@
 use Rattle.std.specs.Prelude.{cond, Bool, true, false, not, ◌==◌, IsTrue, Option, None, Some, is_some}
 use Rattle.std.specs.FinMap as map
 use Rattle.std.specs.List.{list_all, AllByRecursion}
-use Rattle.std.specs.Ordering.{eq_by_cmp}
 use Rattle.std.proofs.Common.{◌≡◌, ℕ, ◌+◌, ◌^◌, ◌<◌, ◌≤◌, List, [], ◌∷◌, ◌++◌, length, refl, sym, ◌∙◌, ap, subst, arith, le_refl}
 use Rattle.alp_base.specs.declared.ids.TransId.{TransId}
 use Rattle.alp_base.specs.declared.key.Resource.{Resource}
 use Rattle.alp_base.specs.declared.key.Resource.TheVariants.{Whole}
 use Rattle.alp_base.specs.Orders.{trans_cmp}
-use Rattle.alp_modes.specs.declared.Mode.{Mode}
 use Rattle.alp_files.specs.declared.reply.Ended.TheVariants as ended
 use Rattle.alp_files.specs.declared.reply.Reply.{Reply}
 use Rattle.alp_files.specs.declared.reply.Reply.TheVariants as reply

@@ -1,5 +1,5 @@
 -- a server stays ready where locks go and others get them
-use Rattle.std.specs.Prelude.{cond, Bool, true, false, ◌==◌, find, IsTrue, Option, None, Some, is_some}
+use Rattle.std.specs.Prelude.{cond, Bool, true, false, find, IsTrue, Option, None, Some, is_some}
 use Rattle.std.specs.FinMap as map
 use Rattle.std.specs.List.{list_all, list_any, AllByRecursion}
 use Rattle.std.proofs.Common.{◌≡◌, ℕ, ◌+◌, ◌^◌, ◌<◌, ◌≤◌, List, [], ◌∷◌, refl, sym, ◌∙◌, ap, subst, arith, le_refl}

@@ -1,7 +1,7 @@
 -- what needs come to, one after the other
 use Rattle.std.specs.Prelude.{cond, Bool, true, false, suc, Option, None, Some}
 use Rattle.std.specs.Ordering.{eq_by_cmp}
-use Rattle.std.proofs.Common.{◌≡◌, ℕ, ◌+◌, ◌<◌, List, [], ◌∷◌, length, get_or, drop, drop-cons, sym, ◌∙◌, ap, arith}
+use Rattle.std.proofs.Common.{◌≡◌, ℕ, ◌+◌, ◌<◌, List, ◌∷◌, length, get_or, drop, drop-cons, sym, ◌∙◌, ap, arith}
 use Rattle.alp_base.specs.Orders.{resource_cmp}
 use Rattle.alp_base.specs.declared.key.Resource.{Resource}
 use Rattle.alp_modes.specs.declared.Mode.{Mode}

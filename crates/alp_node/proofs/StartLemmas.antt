@@ -56,7 +56,7 @@ use Rattle.alp_node.specs.NodeStates.{NodeState}
 use Rattle.alp_journal.specs.Desk.{Session}
 use Rattle.alp_node.specs.declared.start.StartFault.{StartFault}
 use Rattle.alp_node.specs.declared.start.StartFault.TheVariants as start_fault
-use Rattle.alp_node.specs.ServerState.{IsAs, IsReady, IsAlike, IsToCome, SeesNoneToCome}
+use Rattle.alp_node.specs.ServerState.{IsAs, IsReady, IsAlike, SeesNoneToCome}
 use Rattle.alp_node.specs.Totals.{LiveMap, totals_of, HaveRoom}
 use Rattle.alp_node.proofs.DecisionLemmas.{ends_none}
 use Rattle.alp_node.proofs.TotalLemmas.{empty_totals}

@@ -1,5 +1,5 @@
 -- a step whose part ended
-use Rattle.std.specs.Prelude.{Bool, true, false, ◌||◌, IsTrue, None, Some, Ok}
+use Rattle.std.specs.Prelude.{true, false, ◌||◌, IsTrue, None, Some, Ok}
 use Rattle.std.proofs.Common.{◌≡◌, ℕ, ◌+◌, ◌≤◌, List, [], ◌∷◌, refl, sym, ◌∙◌, ap, subst, arith}
 use Rattle.alp_base.specs.Allowances.{Spends}
 use Rattle.alp_base.specs.declared.ids.TransId.{TransId}
@@ -25,12 +25,12 @@ use Rattle.alp_journal.specs.Account.{Account, state_of}
 use Rattle.alp_vault.specs.declared.vault.Vault.{Ghosts}
 use Rattle.alp_node.specs.ServerState.{IsAs, IsReady}
 use Rattle.alp_node.specs.Steps.{Stepped, IsStepAs, IsStep, IsTurn, counted_in, ended, told_answer, refused_answer, entry_of}
-use Rattle.alp_node.specs.Turns.{IsInSession, IsKeepable, HasTurned}
+use Rattle.alp_node.specs.Turns.{IsInSession, HasTurned}
 use Rattle.alp_node.specs.declared.answer.Answer.{Answer}
 use Rattle.alp_node.specs.declared.server_state.ServerState.{ServerState}
 use Rattle.alp_node.specs.declared.sessions.CallOrder.TheVariants as order
 use Rattle.alp_node.specs.declared.sessions.Turn.{Turn}
-use Rattle.alp_node.proofs.GivenLemmas.{IsCounted, counts_none, counts_down, reply_given, calm_given}
+use Rattle.alp_node.proofs.GivenLemmas.{counts_none, counts_down, reply_given, calm_given}
 use Rattle.alp_node.proofs.ReadyLemmas.{counted_ready, down_ready}
 use Rattle.alp_node.proofs.ReleaseLemmas.{ended_ready, ended_as, grants_go_on, grants_caused}
 use Rattle.alp_node.specs.Releases.{grant_acts}

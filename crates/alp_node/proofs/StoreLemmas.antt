@@ -1,22 +1,17 @@
 -- a commit with the note of the clock
 use Rattle.std.specs.Prelude.{Some, Result, Err, OnOk}
 use Rattle.std.specs.FinMap as map
-use Rattle.std.proofs.Common.{◌≡◌, refl, ℕ, ◌≤◌, List, [], ◌∷◌, sym, ◌∙◌, ap, subst, arith, inl, inr, ⊎_elim}
-use Rattle.alp_base.specs.Crashes.{Either}
+use Rattle.std.proofs.Common.{◌≡◌, ℕ, ◌≤◌, List, [], ◌∷◌, sym, ◌∙◌, ap, subst, arith}
 use Rattle.alp_base.specs.declared.bytes.NoteChange.{NoteChange}
 use Rattle.alp_base.specs.Notes.{Notes, noted, notes_after}
 use Rattle.alp_fields.specs.ClockNote.{clock_name, clock_form, clock_in, clock_kept, IsClockNote, IsClockAtMost}
 use Rattle.alp_fields.specs.declared.clock_note.ClockNote.{ClockNote}
-use Rattle.alp_base.specs.declared.change.Change.{Change}
-use Rattle.alp_files.specs.Needs.{Intents}
 use Rattle.alp_files.proofs.UndoLemmas.{on_ok}
-use Rattle.alp_trans.specs.Parts.{change_of}
-use Rattle.alp_vault.specs.Contents.{Contents, made}
+use Rattle.alp_vault.specs.Contents.{made}
 use Rattle.alp_vault.specs.Vault.{IsSameVault}
 use Rattle.alp_vault.specs.Volumes.{AreNotesSoFar, AreChangesSoFar}
 use Rattle.alp_vault.specs.declared.vault.Vault.{Ghosts}
 use Rattle.alp_vault.proofs.VolumeLemmas.{changed_notes}
-use Rattle.alp_node.specs.Durable.{Leaves, Besides, IsWritten}
 use Rattle.alp_node.specs.Halts.{Ends}
 use Rattle.alp_node.specs.declared.stored.StoreFault.{StoreFault}
 use Rattle.alp_node.specs.declared.stored.StoreFault.TheVariants as store_fault

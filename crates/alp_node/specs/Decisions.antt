@@ -1,7 +1,6 @@
 -- When transactions of an epoch were decided, by their counters.
 use Rattle.std.specs.Prelude.{◌≡◌, ℕ, ◌<◌, ◌≤◌, ◌-◌, List, [], length, Option, None, Some, slice_get, slice_set}
 use Rattle.std.specs.List.{AllByRecursion}
-use Rattle.alp_base.specs.declared.ids.Stamp.{Stamp}
 use Rattle.alp_base.specs.declared.ids.TransId.{TransId}
 use Rattle.alp_journal.specs.Coordinator.{Fate, Undrawn, Running, Finishing, Committed, Forgotten, Ended}
 

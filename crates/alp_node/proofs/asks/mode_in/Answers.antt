@@ -1,5 +1,5 @@
 use Rattle.std.specs.Prelude.{Option}
-use Rattle.std.proofs.Common.{◌≡◌, ◌+◌, drop, ◌∙◌, ap, sym}
+use Rattle.std.proofs.Common.{◌+◌, drop, ◌∙◌, ap, sym}
 use Rattle.alp_modes.specs.declared.Mode.{Mode}
 use Rattle.alp_files.specs.Holdings.{join_held, held_by}
 use Rattle.alp_node.proofs.RequestLemmas.{mode_step}

@@ -1,5 +1,5 @@
 use Rattle.std.specs.Prelude.{IsTrue}
-use Rattle.std.proofs.Common.{◌≡◌, ◌≤◌, refl, sym, ◌∙◌, ap, subst}
+use Rattle.std.proofs.Common.{◌≤◌, refl, sym, ◌∙◌, ap, subst}
 use Rattle.alp_base.specs.Crashes.{Only}
 use Rattle.alp_vault.specs.Volumes.{IsVolumeOf}
 use Rattle.alp_node.specs.DownStates.{DownState}

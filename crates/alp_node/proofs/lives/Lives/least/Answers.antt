@@ -1,7 +1,7 @@
-use Rattle.std.specs.Prelude.{length, map as list_map, slice_get, Option, Some, None}
+use Rattle.std.specs.Prelude.{length, map as list_map, slice_get, Some, None}
 use Rattle.std.specs.FinMap as map
 use Rattle.std.specs.List.Sorted.{IsStrictlySortedBy}
-use Rattle.std.proofs.Common.{◌≡◌, ℕ, List, [], ◌∷◌, refl, ap, sym, subst, ◌∙◌}
+use Rattle.std.proofs.Common.{◌≡◌, List, [], ◌∷◌, refl, ap, sym, subst, ◌∙◌}
 use Rattle.alp_base.specs.declared.ids.TransId.{TransId}
 use Rattle.alp_base.specs.Orders.{trans_cmp, transactions_total, exact_transactions}
 use Rattle.alp_base.proofs.TreeLemmas.{entries_back, tree_sorted}

@@ -1,5 +1,4 @@
-use Rattle.std.specs.FinMap as map
-use Rattle.std.proofs.Common.{◌≡◌, ap, sym, ◌∙◌, subst}
+use Rattle.std.proofs.Common.{ap, sym, ◌∙◌, subst}
 use Rattle.alp_files.specs.Cells.{Cells}
 use Rattle.alp_files.specs.Holdings.{Holding}
 use Rattle.alp_files.specs.Locks.{request_of}

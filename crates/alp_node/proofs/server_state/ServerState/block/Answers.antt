@@ -1,6 +1,6 @@
-use Rattle.std.specs.Prelude.{Option, None, Some, IsSome, is_some}
+use Rattle.std.specs.Prelude.{Option, None, Some, IsSome}
 use Rattle.std.specs.FinMap as map
-use Rattle.std.proofs.Common.{◌≡◌, ℕ, ◌+◌, List, [], ◌∷◌, ◌++◌, false, true, length, refl, sym, ap, ◌∙◌, subst}
+use Rattle.std.proofs.Common.{◌≡◌, ◌+◌, List, [], ◌∷◌, ◌++◌, false, true, length, refl, sym, ap, ◌∙◌, subst}
 use Rattle.alp_base.specs.declared.ids.TransId.{TransId}
 use Rattle.alp_files.specs.Locks.{Need}
 use Rattle.alp_files.proofs.UndoLemmas.{when_ok, when_err}

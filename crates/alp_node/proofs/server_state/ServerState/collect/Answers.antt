@@ -2,14 +2,12 @@ use Rattle.std.specs.Prelude.{Some, None, true}
 use Rattle.std.specs.Option.{option_copied}
 use Rattle.std.specs.FinMap as map
 use Rattle.std.proofs.Common.{◌≡◌, ℕ, refl, sym, ap, subst, ◌∙◌}
-use Rattle.alp_base.specs.declared.ids.TransId.{TransId}
 use Rattle.alp_files.specs.declared.call.Call.TheVariants as call
 use Rattle.alp_files.specs.declared.refusal.Cause.TheVariants as cause
 use Rattle.alp_files.specs.declared.refusal.Refusal.TheVariants as refusal
 use Rattle.alp_vault.proofs.CountLemmas.{nothing_there, something_there}
 use Rattle.alp_node.specs.Steps.{IsOf}
 use Rattle.alp_node.specs.Waits.{call_at, IsWaitingCall}
-use Rattle.alp_node.specs.declared.lives.Live.{Live}
 use Rattle.alp_node.specs.declared.waits.WaitingCall.{WaitingCall}
 use Rattle.alp_node.proofs.CollectLemmas.{call_is, its_client, its_number, collect_none_stepped, collect_dead_stepped, collect_waits_stepped}
 use Rattle.alp_node.proofs.StepLemmas.{refused_step}

@@ -1,8 +1,7 @@
-use Rattle.std.specs.Prelude.{Bool, true, false, is_some, IfSome, IsSome, Option, None, Some, Result, Ok, Err, if◌then◌else◌}
+use Rattle.std.specs.Prelude.{Bool, true, false, is_some, IfSome, IsSome, Option, Some, Ok, Err}
 use Rattle.std.specs.FinMap as map
 use Rattle.std.proofs.Common.{◌≡◌, ℕ, ◌+◌, ◌<◌, ◌≤◌, List, [], ◌∷◌, length, refl, sym, ap, ◌∙◌, subst, arith}
 use Rattle.alp_base.specs.declared.ids.TransId.{TransId}
-use Rattle.alp_base.specs.declared.memory.OutOfMemory.{OutOfMemory}
 use Rattle.alp_files.specs.Locks.{Need}
 use Rattle.alp_files.specs.declared.call.Call.TheVariants as call
 use Rattle.alp_files.specs.declared.reply.Reply.TheVariants as reply
@@ -17,13 +16,12 @@ use Rattle.alp_calls.specs.declared.fault.CallFault.TheVariants as call_fault
 use Rattle.alp_calls.proofs.PartLaws.{sees_files}
 use Rattle.alp_journal.specs.declared.act.Act.{Act}
 use Rattle.alp_journal.specs.declared.act.Act.TheVariants as act
-use Rattle.alp_journal.specs.declared.event.Event.{Event}
 use Rattle.alp_journal.specs.declared.event.Event.TheVariants as event
 use Rattle.alp_node.specs.Asks.{asks_made, makes_file, is_made, plan_if, plan_of, count_made, with_made}
 use Rattle.alp_node.specs.Calls.{next_file, Performed}
-use Rattle.alp_node.specs.Steps.{IsStep, IsOf, IsDown, counted_in, told_answer, refused_answer}
+use Rattle.alp_node.specs.Steps.{IsStep, IsOf, IsDown, counted_in, told_answer}
 use Rattle.alp_node.specs.Totals.{LiveMap}
-use Rattle.alp_node.specs.Waits.{call_at, without_calls_of, IsWaitingCall}
+use Rattle.alp_node.specs.Waits.{without_calls_of, IsWaitingCall}
 use Rattle.alp_node.specs.declared.answer.Answer.{Answer}
 use Rattle.alp_node.specs.declared.answer.Given.{Given}
 use Rattle.alp_node.specs.declared.lives.Live.{Live}

@@ -1,4 +1,3 @@
-use Rattle.std.specs.Prelude.{Some}
 use Rattle.std.specs.FinMap as map
 use Rattle.std.proofs.Common.{◌≡◌, ◌^◌, List, ◌++◌, true, false, refl, ap, ◌∙◌, arith}
 use Rattle.alp_files.specs.declared.call.Call.TheVariants as call

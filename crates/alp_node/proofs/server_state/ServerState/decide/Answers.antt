@@ -4,18 +4,16 @@ use Rattle.std.proofs.Common.{◌≡◌, ℕ, ◌+◌, ◌*◌, ◌≤◌, List,
 use Rattle.alp_files.specs.declared.call.Call.TheVariants as call
 use Rattle.alp_files.specs.declared.refusal.Refusal.TheVariants as refusal
 use Rattle.alp_journal.specs.declared.act.Act.TheVariants as act
-use Rattle.alp_base.specs.Allowances.{Spends}
 use Rattle.alp_files.specs.declared.reply.Reply.TheVariants as reply
 use Rattle.alp_journal.specs.declared.event.Event.TheVariants as event
-use Rattle.alp_node.specs.ServerState.{IsAs, IsReady}
+use Rattle.alp_node.specs.ServerState.{IsAs}
 use Rattle.alp_node.specs.Decisions.{with_time}
 use Rattle.alp_node.specs.Eases.{eased}
 use Rattle.alp_node.specs.Releases.{grant_acts, granted_behind, let_go}
-use Rattle.alp_node.specs.Steps.{IsOf, IsStep, told_answer, refused_answer, counted_in, entry_of}
+use Rattle.alp_node.specs.Steps.{IsOf, IsStep, told_answer, refused_answer, counted_in}
 use Rattle.alp_node.specs.declared.sessions.CallOrder.TheVariants as order
 use Rattle.alp_node.specs.declared.lives.Live.{Live}
 use Rattle.alp_node.specs.declared.server_state.ServerState.{ServerState}
-use Rattle.alp_node.specs.declared.sessions.Sessions.{Sessions}
 use Rattle.alp_node.specs.Turns.{HasTurned}
 use Rattle.alp_node.specs.declared.answer.Answer.{Answer}
 use Rattle.alp_node.proofs.TurnLemmas.{counts_on}
@@ -23,21 +21,17 @@ use Rattle.alp_node.proofs.GivenLemmas.{counts_none, reply_given}
 use Rattle.alp_node.proofs.ReadyLemmas.{ready_with}
 use Rattle.alp_node.proofs.ReleaseLemmas.{let_go_of, let_go_ready, committed_ready, grants_go_on, grants_caused}
 use Rattle.alp_base.specs.declared.ids.Stamp.{Stamp}
-use Rattle.alp_base.specs.declared.ids.TransId.{TransId}
 use Rattle.alp_base.specs.declared.key.Key.{Key}
 use Rattle.alp_node.proofs.EaseLemmas.{eased_ready}
 use Rattle.alp_journal.specs.declared.act.Act.{Act}
 use Rattle.alp_fields.specs.ClockNote.{clock_kept}
 use Rattle.alp_fields.specs.declared.clock_note.ClockNote.{ClockNote}
 use Rattle.alp_base.specs.declared.faults.Sizes.{Sizes}
-use Rattle.alp_vault.specs.Vault.{IsSameVault}
-use Rattle.alp_vault.specs.Volumes.{AreNotesSoFar}
 use Rattle.alp_journal.specs.Account.{Account, state_of}
 use Rattle.alp_journal.specs.Desk.{waiting_of}
 use Rattle.alp_journal.specs.Holder.{with_life}
 use Rattle.alp_journal.specs.Moves.{act_deeds}
 use Rattle.alp_journal.specs.Deeds.{Releases}
-use Rattle.alp_node.specs.Durable.{said_by, Leaves, Besides, IsWritten}
 use Rattle.alp_vault.specs.Contents.{Contents}
 use Rattle.alp_node.proofs.SeatLemmas.{same_format}
 use Rattle.alp_node.specs.Halts.{Ends}

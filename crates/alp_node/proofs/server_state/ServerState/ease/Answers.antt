@@ -1,12 +1,10 @@
-use Rattle.std.specs.Prelude.{Option, None, Some}
+use Rattle.std.specs.Prelude.{None, Some}
 use Rattle.std.specs.FinMap as map
-use Rattle.std.proofs.Common.{◌≡◌, ◌*◌, ◌-◌, ◌≤◌, ap, sym, subst, arith, ◌∙◌}
+use Rattle.std.proofs.Common.{◌≡◌, ◌-◌, ap, sym, subst, arith, ◌∙◌}
 use Rattle.alp_files.specs.Cells.{Cells}
 use Rattle.alp_node.specs.Eases.{shared_in, eased_live, eased_if}
 use Rattle.alp_node.specs.Totals.{LiveMap, totals_of, AreFewTotals}
 use Rattle.alp_node.specs.declared.lives.Live.{Live}
-use Rattle.alp_node.specs.declared.server_state.ServerState.{ServerState}
-use Rattle.alp_node.proofs.KeptLemmas.{same_live}
 use Rattle.alp_node.proofs.MapLemmas.{put_there, put_twice}
 use Rattle.alp_node.proofs.TotalLemmas.{blank_few}
 use Rattle.alp_node.proofs.server_state.ServerState.ease.Goals as goal

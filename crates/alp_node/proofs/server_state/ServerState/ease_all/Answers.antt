@@ -1,6 +1,6 @@
-use Rattle.std.specs.Prelude.{Option, None, Some, suc}
+use Rattle.std.specs.Prelude.{suc}
 use Rattle.std.specs.FinMap as map
-use Rattle.std.proofs.Common.{◌≡◌, ℕ, ◌+◌, ◌<◌, ◌≤◌, List, [], ◌∷◌, length, drop, drop-cons, slice_index_or, refl, ap, sym, subst, arith, ◌∙◌}
+use Rattle.std.proofs.Common.{◌≡◌, ℕ, ◌+◌, List, ◌∷◌, drop, drop-cons, slice_index_or, refl, ap, sym, arith, ◌∙◌}
 use Rattle.alp_base.specs.declared.ids.TransId.{TransId}
 use Rattle.alp_base.specs.declared.key.Key.{Key}
 use Rattle.alp_calls.specs.Parts.{IsPart}

@@ -1,7 +1,6 @@
 use Rattle.std.specs.Prelude.{is_some, true, false}
 use Rattle.std.specs.FinMap as map
 use Rattle.std.proofs.Common.{◌≡◌, sym, ◌∙◌}
-use Rattle.alp_node.specs.Endings.{is_begun}
 use Rattle.alp_node.proofs.OutcomeLemmas.{given_id, live_told, tells_none, tells_older, tells_running, tells_aborted, tells_committed}
 use Rattle.alp_node.proofs.server_state.ServerState.ending.Goals as goal
 

@@ -1,6 +1,5 @@
-use Rattle.std.specs.Prelude.{None}
 use Rattle.std.specs.FinMap as map
-use Rattle.std.proofs.Common.{◌≡◌, ℕ, List, [], ◌∷◌, ◌++◌, sym, ap, ◌∙◌}
+use Rattle.std.proofs.Common.{◌≡◌, sym, ap, ◌∙◌}
 use Rattle.alp_files.proofs.UndoLemmas.{when_ok, when_err}
 use Rattle.alp_node.specs.Totals.{LiveMap}
 use Rattle.alp_node.proofs.MapLemmas.{put_gone}

@@ -1,6 +1,5 @@
-use Rattle.std.specs.Prelude.{Some}
 use Rattle.std.specs.FinMap as map
-use Rattle.std.proofs.Common.{◌≡◌, ℕ, ◌+◌, ◌≤◌, List, ◌∷◌, ◌++◌, drop, length, vec_capacity, ap, sym, subst, arith, ◌∙◌}
+use Rattle.std.proofs.Common.{◌≡◌, ◌+◌, ◌≤◌, List, ◌∷◌, ◌++◌, drop, length, vec_capacity, ap, sym, arith, ◌∙◌}
 use Rattle.alp_base.specs.declared.ids.TransId.{TransId}
 use Rattle.alp_calls.specs.Parts.{IsPart}
 use Rattle.alp_locks.specs.Tables.{Table}

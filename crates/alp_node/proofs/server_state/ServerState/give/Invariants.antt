@@ -1,5 +1,5 @@
 use Rattle.std.specs.FinMap as map
-use Rattle.std.proofs.Common.{◌≡◌, ℕ, ◌+◌, ◌≤◌, ◌++◌, length, vec_capacity}
+use Rattle.std.proofs.Common.{◌≡◌, ◌+◌, ◌≤◌, ◌++◌, length, vec_capacity}
 use Rattle.std.specs.Prelude.{Some}
 use Rattle.alp_base.specs.declared.ids.TransId.{TransId}
 use Rattle.alp_calls.specs.Parts.{IsPart}

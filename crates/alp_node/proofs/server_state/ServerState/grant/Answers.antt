@@ -5,7 +5,6 @@ use Rattle.alp_node.specs.Releases.{lock_if, granted_if}
 use Rattle.alp_node.specs.Waits.{grant_of}
 use Rattle.alp_node.specs.Totals.{LiveMap, totals_of, AreFewTotals}
 use Rattle.alp_node.specs.declared.lives.Live.{Live}
-use Rattle.alp_node.specs.declared.server_state.ServerState.{ServerState}
 use Rattle.alp_node.proofs.MapLemmas.{put_there, put_twice}
 use Rattle.alp_node.proofs.TotalLemmas.{blank_few}
 use Rattle.alp_node.proofs.server_state.ServerState.grant.Goals as goal

@@ -1,4 +1,4 @@
-use Rattle.std.specs.Prelude.{false, Some, None, Ok}
+use Rattle.std.specs.Prelude.{false, Some, Ok}
 use Rattle.std.proofs.Common.{◌≡◌, [], refl, sym, ◌∙◌, ap, subst}
 use Rattle.alp_files.specs.declared.call.Call.TheVariants as call
 use Rattle.alp_files.specs.declared.refusal.Refusal.TheVariants as refusal

@@ -1,4 +1,4 @@
-use Rattle.std.proofs.Common.{◌≡◌, true, slice_set, ap, sym, ◌∙◌}
+use Rattle.std.proofs.Common.{true, slice_set, ap, sym, ◌∙◌}
 use Rattle.alp_journal.specs.Ids.{same_trans}
 use Rattle.alp_node.specs.declared.waits.WaitingCall.{WaitingCall}
 use Rattle.alp_node.proofs.WaitLemmas.{marked_step, passed_step}
