@@ -171,3 +171,11 @@ decided_plain stamp (Finishing client joins votes) h = refl
 decided_plain stamp (Committed s joins done) h = h
 decided_plain stamp (Forgotten s joins) h = h
 decided_plain stamp (Ended d) h = h
+
+pub restarted_plain : (epoch : ℕ) (f : Fate) → IsPlain f → IsPlain (fate.restarted epoch f)
+restarted_plain epoch Undrawn h = tt
+restarted_plain epoch (Running client joins) h = tt
+restarted_plain epoch (Finishing client joins votes) h = tt
+restarted_plain epoch (Committed stamp joins done) h = h
+restarted_plain epoch (Forgotten stamp joins) h = h
+restarted_plain epoch (Ended c) h = tt

@@ -287,9 +287,6 @@ module _ {V : Type 0} (a : Account) (held : Contents) (k : ServerState V) (h : I
   lone_works t l client live mine =
       part_works a h.lone h.quiet.settled.stands t l client (own_here a h.quiet.settled.stands t l live (no_join a h.lone h.quiet.settled.stands t l live)) live mine
 
-  pub no_asking : (j : JoinNo) (t : TransId) (client : ℕ) (who : List ℕ) → a.phases j ≡ Joining t client who → ⊥
-  no_asking j t client who is = let wrong : Some (t, client) ≡ None = ap live_in (sym is) ∙ none_live_in a h.lone h.quiet.settled.stands j in cc
-
   -- what is to be told of was not decided
   pub told_undecided : (client : ℕ) (t : TransId) → IsSome (a.dead client t) → decision_in (a.fates t) ≡ None
   told_undecided client t some = by (a.dead client t) refl some
