@@ -1,5 +1,5 @@
 -- when transactions were decided, and what became of them, as they begin, commit and end
-use Rattle.std.specs.Prelude.{cond, Bool, true, false, ◌&&◌, nat_lt, slice_get, slice_set, Some}
+use Rattle.std.specs.Prelude.{cond, Bool, true, false, ◌==◌, ◌&&◌, nat_lt, slice_get, slice_set, Option, None, Some}
 use Rattle.std.specs.List.{AllByRecursion}
 use Rattle.std.proofs.Common.{◌≡◌, ℕ, zero, suc, ◌+◌, ◌-◌, ◌<◌, ◌≤◌, List, [], ◌∷◌, ◌++◌, length, length-append, le_refl, refl, sym, ◌∙◌, ap, subst, arith, eq-eqb}
 use Rattle.std.proofs.lemmas.Bool.{ltb-true, ltb-false}
@@ -173,9 +173,9 @@ decided_plain stamp (Forgotten s joins) h = h
 decided_plain stamp (Ended d) h = h
 
 pub restarted_plain : (epoch : ℕ) (f : Fate) → IsPlain f → IsPlain (fate.restarted epoch f)
-restarted_plain epoch Undrawn h = h
+restarted_plain epoch Undrawn h = tt
 restarted_plain epoch (Running client joins) h = tt
 restarted_plain epoch (Finishing client joins votes) h = tt
 restarted_plain epoch (Committed stamp joins done) h = h
 restarted_plain epoch (Forgotten stamp joins) h = h
-restarted_plain epoch (Ended d) h = h
+restarted_plain epoch (Ended c) h = tt

@@ -34,3 +34,6 @@ returns-clause-other g c told none servers own =
 
 pub returns-clause-notes : goal.returns-clause-notes
 returns-clause-notes g c given servers = c.are_server_notes.ensures.good c.if-not-are_server_notes.false c.args.server servers
+
+pub returns-then-not-are_server_notes-clause-other : goal.returns-then-not-are_server_notes-clause-other
+returns-then-not-are_server_notes-clause-other g c told it servers own = c.are_server_notes.ensures.bad c.if-not-are_server_notes.true c.args.server servers own.notes
