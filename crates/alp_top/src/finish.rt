@@ -18,7 +18,7 @@ use alp_base::OutOfMemory;
 use alp_cluster::{Cluster, RunFault, Server, ranks};
 use alp_journal::{Item, Journal, RunLog, ServerLog};
 use alp_node::{Node, Opened};
-use alp_report::{Summary, put_summary};
+use alp_report::{Held, Summary, put_summary};
 use alp_script::NumberedLine;
 use alp_vault::Vault;
 use std::alloc::Global;
@@ -65,16 +65,19 @@ fn put_ending<V: Vault>(
     ensures gone { HasGone V.Vault (Unit {0}) vault.old vault.new result }
     ensures looked { HasLooked V.Vault vault.old vault.new result }
     ensures printed { OnOk result ((more : List ℕ) × (text.new.items ≡ text.old.items ++ more) × IsSummaryOf ending more) }
-    ensures text { IsTrue (V.tells vault.old) → OnOk result (text.new.items ≡ text.old.items ++ summary_text ending.server ending.epoch ending.clock (V.held vault.old).cells ending.committed ending.aborted) }
+    ensures text { IsTrue (V.tells vault.old) → OnOk result (text.new.items ≡ text.old.items ++ summary_text (holding_of ending (V.held vault.old).cells ∷ []) ending.committed ending.aborted) }
 {
     let owners = owner_records(alloc, vault)?;
     vault.knows();
-    let summary = Summary {
+    let held = [Held {
         server: ending.server,
         epoch: ending.epoch,
         clock: ending.clock,
         files: vault.file_count(),
-        owners: &owners,
+        owners,
+    }];
+    let summary = Summary {
+        servers: &held,
         committed: ending.committed,
         aborted: ending.aborted,
     };

@@ -16,7 +16,9 @@ use crate::write_all::write_all;
 use alp_base::{Sink, Source};
 use alp_bay::Bay;
 use alp_disk::{Disk, Fuse};
-use alp_script::{SCRIPT_LINES_MOST, ScriptFault, accepted_lines, read_script};
+use alp_script::{
+    NumberedLine, SCRIPT_LINES_MOST, ScriptFault, accepted_lines, read_script, servers_of,
+};
 use alp_store::Store;
 use alp_vault::Vault;
 use alp_words::{Command, WordsFault, read_command};
@@ -43,6 +45,19 @@ fn hand_over<D: Disk, K: Sink>(ended: &Ended<Store<Fuse<D>>>, out: &mut K) -> St
     match write_all(out, &ended.text) {
         Ok(()) => Status::Done { log },
         Err(_) => Status::WriteFault { log },
+    }
+}
+
+// The line that declares more servers than one, if it does: such a script is not played yet.
+fn unplayable(lines: &[NumberedLine]) -> Option<u32>
+    ensures { result ≡ unplayable_said lines.now }
+{
+    if servers_of(lines) == 1 {
+        return None;
+    }
+    match lines {
+        [first, ..] => Some(first.number),
+        [] => None,
     }
 }
 
@@ -104,6 +119,9 @@ pub fn run_alpine<S: Source, K: Sink, B: Bay>(
         Err(ScriptFault::OutOfMemory) => return Status::OutOfMemory,
     };
     accepted_lines();
+    if let Some(line) = unplayable(&lines) {
+        return Status::BadScript { line };
+    }
     match run_bay(alloc, &lines, folder_of(&command), bay) {
         Ok(ended) => hand_over(&ended, out),
         Err(fault) => ended_by(fault),
