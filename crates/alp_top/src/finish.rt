@@ -1,11 +1,11 @@
 //! The end of a run: its log and its report.
-ghost use Rattle.std.specs.Prelude.{◌≡◌, ◌++◌, ℕ, List, IsTrue, IfOk, OnOk, false};
+ghost use Rattle.std.specs.Prelude.{◌≡◌, [], ◌∷◌, ◌++◌, ℕ, List, IsTrue, IfOk, OnOk, false};
 ghost use Rattle.alp_base.specs.declared.allowance.Allowance.TheVariants.{Free};
 ghost use Rattle.alp_files.specs.Sound.{AreSound};
 ghost use Rattle.alp_report.specs.Reports.{summary_text};
-ghost use Rattle.alp_script.specs.Accepted.{IsAccepted};
+ghost use Rattle.alp_script.specs.Accepted.{IsAccepted, servers_said};
 ghost use Rattle.alp_top.specs.Anywhere.{IsPlayedThrough};
-ghost use Rattle.alp_top.specs.Endings.{IsEnding, IsServerLog, IsSummaryOf, IsReported, IsEnded, IsVaultOf, IsVaultAt};
+ghost use Rattle.alp_top.specs.Endings.{holding_of, IsEnding, IsServerLog, IsSummaryOf, IsReported, IsEnded, IsVaultOf, IsVaultAt};
 ghost use Rattle.alp_cluster.specs.Fills.{OnEnd};
 ghost use Rattle.alp_cluster.specs.Runs.{HasEndedEarly, StopNone};
 ghost use Rattle.alp_cluster.specs.Servers.{IsOn, IsIdle, HasGone};
@@ -161,6 +161,7 @@ pub fn run_node<V: Vault>(
     node: Node<V>,
 ) -> (V, Result<Ended<V>, RunFault>)
     requires accepted { IsAccepted lines.now }
+    requires single { servers_said lines.now ≡ 1 }
     requires on { IsOn V.Vault node }
     requires idle { IsIdle V.Vault node }
     ensures gone { HasGone V.Vault (StopNone lines.now) node.kept.vault result.0 result.1 }
