@@ -9,7 +9,6 @@ use Rattle.alp_files.specs.declared.call.Call.{Call}
 use Rattle.alp_files.specs.declared.refusal.Cause.{Cause}
 use Rattle.alp_files.specs.declared.refusal.Cause.TheVariants as cause
 use Rattle.alp_files.specs.declared.reply.Reply.{Reply}
-use Rattle.alp_journal.specs.Account.{IsPaired}
 use Rattle.alp_journal.specs.Along.{state_after}
 use Rattle.alp_journal.specs.Coordinator.{Fate, Undrawn, Running, Finishing, Committed, Forgotten, Ended, registered, finishing, heard, decided, ended, acknowledged, forgotten, restarted, has_all, fate_after, is_running, client_of}
 use Rattle.alp_journal.specs.Deeds.{Deed, Begins, Registers, Finishes, Hears, Decides, Ends, Acknowledges, Forgets, Restarts, Quits}
@@ -27,6 +26,7 @@ use Rattle.alp_journal.proofs.IdLemmas.{same_trans-itself}
 use Rattle.alp_node.specs.Nodes as node
 use Rattle.alp_node.specs.Nodes.{start_in}
 use Rattle.alp_node.specs.NodeStates.{NodeState}
+use Rattle.alp_node.proofs.OneServer.{IsOne, one_pair}
 use Rattle.alp_vault.specs.declared.vault.Vault.{Ghosts}
 use Rattle.alp_cluster.specs.Rests.{IsGone}
 use Rattle.alp_cluster.specs.Servers.{IsOn, state_of, HasStepped}
@@ -238,11 +238,11 @@ tick_still s r acts u goes h =
 -- ---- at a server
 
 -- what does not run is not live, and what is not live does not run
-not_live : (l : Option Life) (f : Fate) → IsPaired l f → is_running f ≡ false → l ≡ None
+not_live : (l : Option Life) (f : Fate) → IsOne l f → is_running f ≡ false → l ≡ None
 not_live None f paired h = refl
 not_live (Some l) f paired h = let wrong : true ≡ false = sym (ap is_running paired.0) ∙ h in cc
 
-not_run : (f : Fate) → IsPaired None f → is_running f ≡ false
+not_run : (f : Fate) → IsOne None f → is_running f ≡ false
 not_run Undrawn paired = refl
 not_run (Running client joins) paired = absurd paired
 not_run (Finishing client joins votes) paired = absurd paired
@@ -251,16 +251,16 @@ not_run (Forgotten stamp joins) paired = refl
 not_run (Ended c) paired = refl
 
 module _ {V : Type 0} (G : Ghosts V) where
-  paired_at : (n : NodeState V) → IsOn G n → IsTrue (G.tells n.kept.vault) → (t : TransId) → IsPaired ((state_of G n).holder.lives t) ((state_of G n).fates t)
+  paired_at : (n : NodeState V) → IsOn G n → IsTrue (G.tells n.kept.vault) → (t : TransId) → IsOne ((state_of G n).holder.lives t) ((state_of G n).fates t)
   paired_at n on told t =
       let right : node.IsRight (start_in G n) (G.held n.kept.vault) n = on.kept.right told in
-      subst (λ (s : State). IsPaired (s.holder.lives t) (s.fates t)) (sym right.says) (right.kept.quiet.settled.paired t)
+      subst (λ (s : State). IsOne (s.holder.lives t) (s.fates t)) (sym right.says) (one_pair right.state (G.held n.kept.vault) n.kept right.kept t)
 
   gone_at : (n : NodeState V) → IsOn G n → IsTrue (G.tells n.kept.vault) → (t : TransId) → is_running ((state_of G n).fates t) ≡ false → IsGone G n t
   gone_at n on told t h = not_live ((state_of G n).holder.lives t) ((state_of G n).fates t) (paired_at n on told t) h
 
   idle_at : (n : NodeState V) → IsOn G n → IsTrue (G.tells n.kept.vault) → (t : TransId) → IsGone G n t → is_running ((state_of G n).fates t) ≡ false
-  idle_at n on told t gone = not_run ((state_of G n).fates t) (subst (λ (l : Option Life). IsPaired l ((state_of G n).fates t)) gone (paired_at n on told t))
+  idle_at n on told t gone = not_run ((state_of G n).fates t) (subst (λ (l : Option Life). IsOne l ((state_of G n).fates t)) gone (paired_at n on told t))
 
   -- the state that one step leaves
   stepped_state : (n m : NodeState V) (e : Event) (r : Option Reply) (h : HasStepped G n m e r) → state_of G m ≡ next (state_of G n) (record { event = e; reply = r; acts = h.acts })

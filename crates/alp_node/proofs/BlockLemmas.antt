@@ -31,6 +31,7 @@ use Rattle.alp_calls.specs.Parts.{seen}
 use Rattle.alp_vault.specs.Contents.{Contents}
 use Rattle.alp_journal.specs.declared.event.Event.TheVariants as event
 use Rattle.alp_journal.specs.Ids.{same_trans}
+use Rattle.alp_journal.specs.Coordinator.{Running}
 use Rattle.alp_journal.specs.Counts.{request_in}
 use Rattle.alp_journal.specs.Desk.{Session, Waiting, file_trans, waiting_of}
 use Rattle.alp_journal.specs.Holder.{Life}
@@ -40,7 +41,7 @@ use Rattle.alp_journal.specs.Answered.{IsWaitingFor}
 use Rattle.alp_journal.specs.Account.{Account, state_of, Leads}
 use Rattle.alp_journal.proofs.RefusedCalls.{counted_as}
 use Rattle.alp_journal.proofs.CallLemmas.{call_entry}
-use Rattle.alp_journal.proofs.WaitingCalls.{waits_leads, with_wait, busy_leads, busy_finish_leads}
+use Rattle.alp_journal.proofs.WaitingCalls.{idle_part, waits_leads, with_wait, busy_leads, busy_finish_leads}
 use Rattle.alp_turns.specs.Queues.{AreHeldAlike, request_if, request_for, request_at, queue_of}
 use Rattle.alp_turns.proofs.RequestLemmas.{request, free_there}
 use Rattle.alp_turns.proofs.MoveLemmas.{queue_with}
@@ -63,6 +64,7 @@ use Rattle.alp_node.proofs.GrantLemmas.{asked_below}
 use Rattle.alp_node.proofs.KeptLemmas.{session_of, IsLive, live_there, same_live, stands_timely, stepped_so}
 use Rattle.alp_node.proofs.LiveSums.{up_to_drawn}
 use Rattle.alp_node.proofs.LockCallLemmas.{lock_request, lock_choice, not_refused, asked_locks, shut_none, chosen, none_asked_free}
+use Rattle.alp_node.proofs.OneServer.{live_runs, life_works}
 use Rattle.alp_node.proofs.ReadyLemmas.{counted_ready, numbered, turned}
 use Rattle.alp_node.proofs.ShapeLemmas.{IsShut, shape_cases, may_lock}
 use Rattle.alp_node.proofs.WaitLemmas.{named_all, asks_none, idle_in, pushed_each, pushed_apart, pushed_asks, asks_last}
@@ -92,13 +94,15 @@ module _ {V : Type 0} (a : Account) (before now : ℕ) (held : Contents) (k : Se
   pub busy_stepped : (c : Call) → file_trans c ≡ Some t → Stepped a before now held kept_back (event.Call turn.client k.epoch turn.number c) x
   busy_stepped c named =
       stepped_so a before now held held k kept_back turn.client turn.number (session_of turn is) c false (reply.Refused refusal.NotYet) [] (counted_as a turn.client turn.number (session_of turn is) (reply.Refused refusal.NotYet)) x so h
-      (busy_leads a turn.client turn.number (session_of turn is) t mine.life c v h.quiet (h.down ∙ up) (turn_session a held k turn h is) is.number (up_to_drawn a held k h t l there).here mine.is (mine.alike.client ∙ own) named busy)
+      (busy_leads a turn.client turn.number (session_of turn is) t mine.life c v h.quiet (h.down ∙ up) (turn_session a held k turn h is) is.number
+      (idle_part a turn.client turn.number (session_of turn is) t mine.life (Some v) busy (life_works a h.lone h.quiet.settled.stands t mine.life turn.client mine.is (mine.alike.client ∙ own))) named busy)
       (counts_as a held k turn (reply.Refused refusal.NotYet) h is up) (λ e. cc) (omega (arith, h.clock))
 
   pub busy_finish_stepped : Stepped a before now held kept_back (event.Call turn.client k.epoch turn.number (call.Finish t true)) x
   busy_finish_stepped =
       stepped_so a before now held held k kept_back turn.client turn.number (session_of turn is) (call.Finish t true) false (reply.Refused refusal.NotYet) [] (counted_as a turn.client turn.number (session_of turn is) (reply.Refused refusal.NotYet)) x so h
-      (busy_finish_leads a turn.client turn.number (session_of turn is) t mine.life v h.quiet (h.down ∙ up) (turn_session a held k turn h is) is.number (up_to_drawn a held k h t l there).here mine.is (mine.alike.client ∙ own) busy)
+      (busy_finish_leads a turn.client turn.number (session_of turn is) t mine.life v h.quiet (h.down ∙ up) (turn_session a held k turn h is) is.number (up_to_drawn a held k h t l there).here
+      (live_runs a h.lone h.quiet.settled.stands t mine.life mine.is ∙ ap (λ (d : ℕ). Running d []) (mine.alike.client ∙ own)) busy)
       (counts_as a held k turn (reply.Refused refusal.NotYet) h is up) (λ e. cc) (omega (arith, h.clock))
 
 -- ---- the call waits for its locks
@@ -251,7 +255,8 @@ module _ {V : Type 0} (k : ServerState V) (turn : Turn) (t : TransId) (l : Live)
     as_then = counts_as a held k turn (reply.Refused refusal.NotYet) h is up
 
     leads : Leads false a (call_entry a turn.client turn.number w c (reply.Refused refusal.NotYet) []) (with_wait a turn.client turn.number w t life c)
-    leads = waits_leads a turn.client turn.number w t life c h.quiet (h.down ∙ up) (turn_session a held k turn h is) is.number (up_to_drawn a held k h t l there).here there_live.is (alike.client ∙ own) named
+    leads = waits_leads a turn.client turn.number w t life c h.quiet (h.down ∙ up) (turn_session a held k turn h is) is.number
+        (life_works a h.lone h.quiet.settled.stands t life turn.client there_live.is (alike.client ∙ own)) there_live.is (alike.client ∙ own) named
         (idle_told a turn.client t k.waits h.waits (named_all k.server k.epoch k.given k.drawn k.sizes k.lives k.waits ready.waits.calls) away) passed waits_for taken
 
     waits_as : IsAs (with_wait a turn.client turn.number w t life c) held blocked_kept
@@ -273,6 +278,7 @@ module _ {V : Type 0} (k : ServerState V) (turn : Turn) (t : TransId) (l : Live)
       drawn = h.drawn;
       begun = h.begun;
       undrawn = h.undrawn;
+      plain = h.plain;
       ends = h.ends;
       lone = h.lone;
       files = h.files;

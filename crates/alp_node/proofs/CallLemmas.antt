@@ -146,6 +146,7 @@ module _ {V : Type 0} (a : Account) (held : Contents) (k : ServerState V) where
         drawn = h.drawn;
         begun = h.begun;
         undrawn = h.undrawn;
+        plain = h.plain;
         ends = h.ends;
         lone = h.lone;
         files = h.files;
@@ -323,6 +324,7 @@ module _ {V : Type 0} (a : Account) (held : Contents) (k : ServerState V) (turn 
           drawn = h.drawn;
           begun = h.begun;
           undrawn = h.undrawn;
+          plain = h.plain;
           ends = h.ends;
           lone = h.lone;
           files = ap (λ (m : ℕ). m + length (option_to_list (id_in r))) h.files ∙ files_now k.given r;

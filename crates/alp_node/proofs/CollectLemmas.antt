@@ -30,7 +30,7 @@ use Rattle.alp_journal.proofs.RefusedCalls.{counted_as}
 use Rattle.alp_journal.proofs.HaltedCalls.{with_halt, collect_halt_leads}
 use Rattle.alp_journal.proofs.CallLemmas.{call_entry}
 use Rattle.alp_journal.proofs.IdLemmas.{same_trans-itself}
-use Rattle.alp_journal.proofs.QuietLemmas.{quiet_without}
+use Rattle.alp_journal.proofs.QuietLemmas.{none_tried, quiet_without}
 use Rattle.alp_journal.proofs.WaitLemmas.{IsOnly, each-only, found-is}
 use Rattle.alp_turns.specs.Queues.{request_if, request_for, request_at, queue_of}
 use Rattle.alp_turns.proofs.MoveLemmas.{GoesIdle, queue_without}
@@ -46,6 +46,7 @@ use Rattle.alp_node.specs.declared.waits.WaitingCall.{WaitingCall}
 use Rattle.alp_node.proofs.CommitLemmas.{halted_as}
 use Rattle.alp_node.proofs.FinishLemmas.{turn_session, counts_as}
 use Rattle.alp_node.proofs.KeptLemmas.{session_of, stands_timely, stepped_so, none_live, IsLive, live_there}
+use Rattle.alp_node.proofs.OneServer.{joins_kept}
 use Rattle.alp_node.proofs.ReadyLemmas.{turned}
 use Rattle.alp_node.proofs.BesideLemmas.{AreNamed, AreOthers, at_told, filter_told}
 use Rattle.alp_node.proofs.WaitLemmas.{find_each, named_all}
@@ -150,7 +151,7 @@ module _ {V : Type 0} (a : Account) (held : Contents) (k : ServerState V) (clien
 
       part : IsPartOf w.client (a.holder.lives w.trans) (a.dead w.client w.trans)
       part = subst (IsOfPart a.holder.lives a.dead (waiting w)) (call_is k client n w m on ready found).named
-          (found-is (λ (u : Waiting). IsOfPart a.holder.lives a.dead u (file_trans u.call)) (λ (u : Waiting). u.client == client && u.number == n) a.waits (waiting w) found_here h.quiet.settled.parts).1
+          (found-is (λ (u : Waiting). IsOfPart a.holder.lives a.dead u (file_trans u.call)) (λ (u : Waiting). u.client == client && u.number == n) a.waits (waiting w) found_here h.quiet.settled.tells.parts).1
 
       why : IsSome (a.dead client w.trans)
       why = subst (λ (d : ℕ). IsSome (a.dead d w.trans)) (its_client k client n w m on ready found) (subst (λ (x : Option Life). IsPartOf w.client x (a.dead w.client w.trans)) gone part)
@@ -163,7 +164,8 @@ module _ {V : Type 0} (a : Account) (held : Contents) (k : ServerState V) (clien
   pub none_ended : (l : Live) → map.get k.lives w.trans ≡ Some l → a.dead client w.trans ≡ None
   none_ended l there =
       let y : IsLive a.holder.cells k.locks.held (a.locked w.trans) w.trans l (a.holder.lives w.trans) = live_there a.holder.cells k.locks.held (a.locked w.trans) w.trans (map.get k.lives w.trans) (a.holder.lives w.trans) l there (h.lives w.trans) in
-      none_dead a w.trans y.life h.quiet.settled y.is client
+      let mine : y.life.client ≡ client = y.alike.client ∙ sym ((call_is k client n w m on ready found).limits l there).its ∙ its_client k client n w m on ready found in
+      none_dead a w.trans y.life h.quiet.settled y.is client mine
 
   -- ---- it is the only one of its number
 
@@ -174,7 +176,7 @@ module _ {V : Type 0} (a : Account) (held : Contents) (k : ServerState V) (clien
   all_named = named_all k.server k.epoch k.given k.drawn k.sizes k.lives k.waits ready.waits.calls
 
   pub number_only : AllByRecursion (λ (u : WaitingCall). is_at client n u ≡ true → u ≡ w) k.waits
-  number_only = each k.waits all_named (trans_only k client n w m on ready found) (subst (AllByRecursion (IsOnly a.waits)) h.waits (each-only a.holder.lives a.dead a.waits h.quiet.settled.parts h.quiet.settled.apart))
+  number_only = each k.waits all_named (trans_only k client n w m on ready found) (subst (AllByRecursion (IsOnly a.waits)) h.waits (each-only a.waits h.quiet.settled.tells.apart))
     where
       one : (u : WaitingCall) → file_trans u.call ≡ Some u.trans → (same_trans u.trans w.trans ≡ true → u ≡ w) → IsOnly a.waits (waiting u) → is_at client n u ≡ true → u ≡ w
       one u named only it e =
@@ -237,8 +239,8 @@ module _ {V : Type 0} (a : Account) (held : Contents) (k : ServerState V) (clien
   abbrev pub server_left : ServerState V
   server_left = record k { waits = without_calls_of client w.trans k.waits }
 
-  pub left_as : w.is_granted ≡ true → IsAs (record a { waits = without is_it a.waits }) held server_left
-  left_as granted = record {
+  pub left_as : k.is_down ≡ false → w.is_granted ≡ true → IsAs (record a { waits = without is_it a.waits }) held server_left
+  left_as up granted = record {
     server = h.server;
     sizes = h.sizes;
     epoch = h.epoch;
@@ -259,13 +261,14 @@ module _ {V : Type 0} (a : Account) (held : Contents) (k : ServerState V) (clien
     drawn = h.drawn;
     begun = h.begun;
     undrawn = h.undrawn;
+    plain = h.plain;
     ends = h.ends;
     lone = h.lone;
     files = h.files;
     made = h.made;
     born = h.born;
     earlier = h.earlier;
-    quiet = quiet_without is_it a h.quiet;
+    quiet = quiet_without is_it a (joins_kept a h.lone h.quiet.settled.stands is_it a.waits) (none_tried a h.quiet (h.down ∙ up)) h.quiet;
     down = h.down;
   }
 
@@ -327,5 +330,5 @@ module _ {V : Type 0} (a : Account) (before now : ℕ) (held : Contents) (k : Se
         (record (counted_as a turn.client turn.number s r) { waits = uncollected a turn.client turn.number s n }) x so h
         (collect_refused_leads a turn.client turn.number s n (waiting w) w.trans y.life true refusal.ReadFault h.quiet (h.down ∙ up) (turn_session a held k turn h is) is.number (found_here a held k turn.client n w m on ready found h)
         (call_is k turn.client n w m on ready found).named granted y.is refl refl (inl (refl, refl)))
-        (counts_as (record a { waits = uncollected a turn.client turn.number s n }) held (server_left a held k turn.client n w m on ready found h) turn r (left_as a held k turn.client n w m on ready found h granted) is up) (λ e. rose)
+        (counts_as (record a { waits = uncollected a turn.client turn.number s n }) held (server_left a held k turn.client n w m on ready found h) turn r (left_as a held k turn.client n w m on ready found h up granted) is up) (λ e. rose)
         (stands_timely a.holder.clock 0 k.clock h.clock)

@@ -224,7 +224,7 @@ module _ {V : Type 0} (a : Account) (before now : ℕ) (held : Contents) (k : Se
     state_left = record a { waits = uncollected a turn.client turn.number told n }
 
     left_is : IsAs state_left held (server_left a held k turn.client n w m on ready found h)
-    left_is = left_as a held k turn.client n w m on ready found h granted
+    left_is = left_as a held k turn.client n w m on ready found h up granted
 
     -- ---- the counts refuse it
 

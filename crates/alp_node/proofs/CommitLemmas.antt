@@ -43,10 +43,11 @@ use Rattle.alp_journal.specs.State.{State}
 use Rattle.alp_journal.specs.Coordinator.{Fate, Undrawn, Running}
 use Rattle.alp_journal.specs.Coordinator as fate
 use Rattle.alp_journal.specs.Desk.{Session, Waiting, file_trans, waiting_of}
-use Rattle.alp_journal.specs.Messages.{why_not_own, first_why, full_or, no_room, clock_end, part_cells}
+use Rattle.alp_journal.specs.Messages.{why_not_own, first_why, full_or, no_room, clock_end, part_cells, weights, applying}
+use Rattle.alp_journal.specs.Counts.{ready_sum}
 use Rattle.alp_journal.specs.Answers.{at_part, part_at, part_refusal}
 use Rattle.alp_journal.specs.Answered.{IsWalk, in_turn}
-use Rattle.alp_journal.specs.Account.{Account, state_of, AreEarlier, IsPaired, IsQuiet, with_granted, granted_calls, holder_granted, grant_acts}
+use Rattle.alp_journal.specs.Account.{Account, state_of, AreEarlier, IsQuiet, Leads, with_granted, granted_calls, holder_granted, grant_acts}
 use Rattle.alp_journal.proofs.StampLemmas.{put-last, AreEarlier-push}
 use Rattle.alp_journal.proofs.CallLemmas.{call_entry, call_tried}
 use Rattle.alp_journal.proofs.CommitCalls.{with_commit, with_commit_given, commit_leads}
@@ -73,7 +74,7 @@ use Rattle.alp_node.specs.Sessions.{session_at}
 use Rattle.alp_node.specs.declared.waits.WaitingCall.{WaitingCall}
 use Rattle.alp_node.proofs.BesideLemmas.{idle_told}
 use Rattle.alp_node.proofs.CountLemmas.{IsUpTo}
-use Rattle.alp_node.proofs.DecisionLemmas.{ends_decided}
+use Rattle.alp_node.proofs.DecisionLemmas.{ends_decided, plain_moved, decided_plain}
 use Rattle.alp_node.proofs.EaseLemmas.{eased_room}
 use Rattle.alp_node.proofs.GiveOnLemmas.{IsAlikeApart}
 use Rattle.alp_node.proofs.GoneLemmas.{HasLetGo, has_let_go, state_gone, gone_of, granted_rest, holder_rest, lives_then}
@@ -82,6 +83,7 @@ use Rattle.alp_node.proofs.FinishLemmas.{still_undrawn, turn_session, drawn_live
 use Rattle.alp_node.proofs.KeptLemmas.{sessions_as, session_of, session_then, stands_timely, IsLive, live_there, earlier_more, stepped_so}
 use Rattle.alp_node.proofs.MapLemmas.{places_set}
 use Rattle.alp_node.proofs.NoteLemmas.{put_again}
+use Rattle.alp_node.proofs.OneServer.{none_ready_here, lone_runs}
 use Rattle.alp_node.proofs.SeatLemmas.{leaves_as}
 use Rattle.alp_node.proofs.StandingLemmas.{part_of, part_is}
 use Rattle.alp_node.proofs.WaitLemmas.{named_all, none_waiting}
@@ -117,11 +119,17 @@ module _ {V : Type 0} (a : Account) (held : Contents) (k : ServerState V) (t : T
   early_clock : IsAs a held k → k.clock < 2 ^ 62 → (a.holder.clock == clock_end) ≡ false
   early_clock h early = ne_eqb a.holder.clock clock_end (λ e. absurd (omega (arith, e, h.clock, early)))
 
+  -- no part is ready
+  own_why : IsAs a held k → why_not_own false (state_of a) t ≡ first_why false false (a.holder.clock == clock_end) (no_room a.sizes.area (24 + 0 + 0) (24 + 0 + (4 * part_cells (a.holder.lives t) + 4)))
+  own_why h =
+      ap (λ (ts : List TransId). first_why false false (a.holder.clock == clock_end) (no_room a.sizes.area (ready_sum (weights (state_of a) ts) 0) (ready_sum (weights (state_of a) ts) (applying (state_of a) t))))
+      (none_ready_here a h.lone h.quiet.settled.stands)
+
   pub votes_for : IsAs a held k → k.clock < 2 ^ 62 → map.get k.lives t ≡ Some l → IsWithin k.sizes l → why_not_own false (state_of a) t ≡ None
-  votes_for h early live room = (λ i. first_why false false (early_clock h early i) (no_room a.sizes.area (24 + 0 + 0) (24 + 0 + (4 * part_cells (a.holder.lives t) + 4)))) ∙ ap (full_or false) (room_then h live room)
+  votes_for h early live room = own_why h ∙ (λ i. first_why false false (early_clock h early i) (no_room a.sizes.area (24 + 0 + 0) (24 + 0 + (4 * part_cells (a.holder.lives t) + 4)))) ∙ ap (full_or false) (room_then h live room)
 
   pub votes_at_end : IsAs a held k → k.clock ≡ 2 ^ 62 → why_not_own false (state_of a) t ≡ Some why.ClockEnd
-  votes_at_end h last = ap (λ (b : Bool). first_why false false b (no_room a.sizes.area (24 + 0 + 0) (24 + 0 + (4 * part_cells (a.holder.lives t) + 4)))) (eq-eqb a.holder.clock clock_end (h.clock ∙ last))
+  votes_at_end h last = own_why h ∙ ap (λ (b : Bool). first_why false false b (no_room a.sizes.area (24 + 0 + 0) (24 + 0 + (4 * part_cells (a.holder.lives t) + 4)))) (eq-eqb a.holder.clock clock_end (h.clock ∙ last))
 
 -- ---- a commit
 
@@ -142,8 +150,7 @@ module _ {V : Type 0} (a : Account) (held : Contents) (k : ServerState V) (turn 
         → tried (state_of a) (finish_entry acts) ≡ Finishes t ∷ Decides stamp [] ∷ ds
     write_tried stamp acts ds brings =
         let y : IsLive a.holder.cells k.locks.held (a.locked t) t l (a.holder.lives t) = live_there a.holder.cells k.locks.held (a.locked t) t (map.get k.lives t) (a.holder.lives t) l live (h.lives t) in
-        let pair : IsPaired (Some y.life) (a.fates t) = subst (λ (x : Option Life). IsPaired x (a.fates t)) y.is (h.quiet.settled.paired t) in
-        let runs : a.fates t ≡ Running turn.client [] = pair.0 ∙ ap (λ (n : ℕ). Running n []) (y.alike.client ∙ own) in
+        let runs : a.fates t ≡ Running turn.client [] = lone_runs a held k h t y.life y.is ∙ ap (λ (n : ℕ). Running n []) (y.alike.client ∙ own) in
         call_tried a turn.client turn.number (session_of turn is) (call.Finish t true) r acts (turn_session a held k turn h is) is.number
         ∙ ap (λ (ws : List Deed). finishes (state_of a).desk turn.client t true r (a.fates t) ++ ws ++ []) brings
         ∙ ap (λ (f : Fate). finishes (state_of a).desk turn.client t true r f ++ (Decides stamp [] ∷ ds) ++ []) runs
@@ -311,7 +318,7 @@ module _ {V : Type 0} (a : Account) (before now : ℕ) (held then : Contents) (k
       same_stamp = λ i. record { ts = sym h.clock i + 1; trans = t }
 
       before_now : AreEarlier a.holder.clock a.holder.applied
-      before_now = earlier_more a.holder.kept a.holder.clock a.holder.applied h.quiet.settled.order h.earlier
+      before_now = earlier_more a.holder.kept a.holder.clock a.holder.applied h.quiet.settled.stands.order h.earlier
 
       last : applied_now ≡ a.holder.applied ++ (stamp, record { stamp = stamp; who = y.life.who; calls = y.life.calls }) ∷ []
       last = put-last a.holder.applied stamp (record { stamp = stamp; who = y.life.who; calls = y.life.calls }) a.holder.clock before_now (omega arith)
@@ -323,9 +330,7 @@ module _ {V : Type 0} (a : Account) (before now : ℕ) (held then : Contents) (k
       began = drawn_live a held k t y.life h y.is
 
       runs : a.fates t ≡ Running turn.client []
-      runs =
-          let pair : IsPaired (Some y.life) (a.fates t) = subst (λ (x : Option Life). IsPaired x (a.fates t)) y.is (h.quiet.settled.paired t) in
-          pair.0 ∙ ap (λ (n : ℕ). Running n []) (y.alike.client ∙ own)
+      runs = lone_runs a held k h t y.life y.is ∙ ap (λ (n : ℕ). Running n []) (y.alike.client ∙ own)
 
       commit_as : then.cells ≡ cells_now → then.notes ≡ map.insert held.notes clock_name (clock_form.spell (record { epoch = k.epoch; clock = k.clock + 1 }))
           → IsQuiet (with_commit_given a turn.client turn.number w t y.life (granted_behind k t))
@@ -355,6 +360,7 @@ module _ {V : Type 0} (a : Account) (before now : ℕ) (held then : Contents) (k
             drawn = h.drawn;
             begun = h.begun;
             undrawn = still_undrawn a.holder.server a.ids.epoch k.drawn a.fates t (λ f. fate.decided stamp [] (fate.finishing f)) refl h.undrawn;
+            plain = plain_moved a.fates t (λ f. fate.decided stamp [] (fate.finishing f)) (decided_plain stamp) h.plain;
             ends = subst (λ (n : ℕ). HaveEnds a.holder.server a.ids.epoch k.drawn (with_time k.decisions t.counter (n + 1)) told.fates) h.clock
                 (ends_decided a.holder.server a.ids.epoch k.drawn k.decisions a.fates t turn.client (a.holder.clock + 1) began.here began.now began.some (omega (arith, began.low, ready.decisions.all)) (omega arith) runs h.ends);
             lone = h.lone;
@@ -376,9 +382,12 @@ module _ {V : Type 0} (a : Account) (before now : ℕ) (held then : Contents) (k
       where
         go : Commit → Stepped a before now then (committed_kept blocks) (event.Call turn.client k.epoch turn.number (call.Finish t true)) x
         go g =
-            let leads = commit_leads a turn.client turn.number w t y.life h.quiet (h.down ∙ up) (turn_session a held k turn h is) is.number (here ∙ sym h.server) (drawn_live a held k t y.life h y.is).now y.is (y.alike.client ∙ own) idle
+            let sent = commit_leads a turn.client turn.number w t y.life h.quiet (h.down ∙ up) (turn_session a held k turn h is) is.number y.is (lone_runs a held k h t y.life y.is ∙ ap (λ (n : ℕ). Running n []) (y.alike.client ∙ own)) idle
             (votes_for a held k t l h early live fits) (granted_behind k t)
             (subst (λ (ts : List TransId). IsWalk (with_commit a turn.client turn.number w t y.life).holder (in_turn (with_commit a turn.client turn.number w t y.life).holder a.waits) ts) (sym g.woken) g.walk) in
+            let leads : Leads false a (call_entry a turn.client turn.number w (call.Finish t true) (reply.Committed stamp) (act.Decided stamp [] ∷ act.Released t ∷ grant_acts (granted_behind k t))) (with_commit_given a turn.client turn.number w t y.life (granted_behind k t)) =
+            subst (λ (acts : List Act). Leads false a (call_entry a turn.client turn.number w (call.Finish t true) (reply.Committed stamp) acts) (with_commit_given a turn.client turn.number w t y.life (granted_behind k t)))
+            (append-nil (act.Decided stamp [] ∷ act.Released t ∷ grant_acts (granted_behind k t))) sent in
             let same : then.cells ≡ cells_now = cells ∙ same_change held.cells l.part es y.alike.intents ∙ ap (edits_map es) (h.cells up) in
             let same_blocks : blocks ≡ blocks_then a held k h t l live y.life y.is y.alike = opened ∙ ap (λ (i : Intents). new_blocks held.cells i.puts) y.alike.intents ∙ ap (λ (m : Cells). new_blocks m (intents_of es).puts) (h.cells up) in
             let kept_is : committed_kept blocks ≡ kept_with g (server_commit g).lives (server_commit g).waits (blocks_then a held k h t l live y.life y.is y.alike) =
@@ -424,6 +433,7 @@ halted_as a m held then k v ds is quiet h =
       drawn = h.drawn;
       begun = h.begun;
       undrawn = h.undrawn;
+      plain = h.plain;
       ends = h.ends;
       lone = h.lone;
       files = h.files;
@@ -460,7 +470,7 @@ module _ {V : Type 0} (a : Account) (before now : ℕ) (held then : Contents) (k
       let y : IsLive a.holder.cells k.locks.held (a.locked t) t l (a.holder.lives t) = live_there a.holder.cells k.locks.held (a.locked t) t (map.get k.lives t) (a.holder.lives t) l live (h.lives t) in
       let acts : List Act = act.Decided (record { ts = a.holder.clock + 1; trans = t }) [] ∷ z ∷ [] in
       let e : Entry = call_entry a turn.client turn.number w (call.Finish t true) (reply.Refused refusal.Down) acts in
-      let leads = commit_halt_leads a turn.client turn.number w t y.life z stop h.quiet (h.down ∙ up) (turn_session a held k turn h is) is.number (here ∙ sym h.server) (drawn_live a held k t y.life h y.is).now y.is (y.alike.client ∙ own) idle
+      let leads = commit_halt_leads a turn.client turn.number w t y.life z stop h.quiet (h.down ∙ up) (turn_session a held k turn h is) is.number y.is (lone_runs a held k h t y.life y.is ∙ ap (λ (n : ℕ). Running n []) (y.alike.client ∙ own)) idle
       (votes_for a held k t l h early live room) in
       stepped_so a before now held then k (record k { is_down = true; vault = v }) turn.client turn.number w (call.Finish t true) false (reply.Refused refusal.Down) acts (with_halt a turn.client turn.number w e) x
       (so ∙ ap (λ (n : ℕ). refused_answer refusal.Down (act.Decided (record { ts = n + 1; trans = t }) [] ∷ z ∷ [])) (sym h.clock)) h

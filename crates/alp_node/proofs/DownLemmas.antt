@@ -30,9 +30,10 @@ use Rattle.alp_journal.specs.State.{State, opened}
 use Rattle.alp_journal.specs.Moves.{next}
 use Rattle.alp_journal.specs.Laws.{IsLawful, IsLawfulEntry}
 use Rattle.alp_journal.specs.Answered.{IsAnswered, IsAnsweredSo, IsAnsweredEntry, FitsJournal, entries_limit}
-use Rattle.alp_journal.specs.Account.{Account, state_of, IsOwnEvent, AreOwnEvents, IsTriedCommit, HasTried, Leads}
+use Rattle.alp_journal.specs.Account.{Account, state_of as account_state, IsOwnEvent, AreOwnEvents, IsTriedCommit, Leads}
 use Rattle.alp_journal.specs.Restarts.{restart_entry, restarted_at, restarted, with_decided, restarted_with}
-use Rattle.alp_journal.proofs.RestartLemmas.{restart_leads, restart_made_leads, none_then, cells_then, kept_then}
+use Rattle.alp_journal.proofs.RestartLemmas.{restart_leads}
+use Rattle.alp_journal.proofs.RestartMade.{commit_made_leads, none_then, cells_then, kept_then}
 use Rattle.alp_journal.proofs.IdLemmas.{all-append}
 use Rattle.alp_node.specs.DownStates.{DownState}
 use Rattle.alp_node.specs.NodeStates.{NodeState}
@@ -46,7 +47,8 @@ use Rattle.alp_node.specs.declared.start.StartFault.TheVariants as start_fault
 use Rattle.alp_node.proofs.ClockLaws.{spelled_clock, time_fits}
 use Rattle.alp_node.proofs.NodeLemmas.{state_after-push, Along-push, sent_pushed, up_durable}
 use Rattle.alp_node.proofs.NoteLemmas.{noted_alone, put_first}
-use Rattle.alp_node.proofs.PastLemmas.{past_of, lost_as, made_as}
+use Rattle.alp_node.proofs.OneServer.{tried_one}
+use Rattle.alp_node.proofs.PastLemmas.{past_of, past_noted, decided_noted, lost_as, made_as}
 use Rattle.alp_node.proofs.StartLemmas.{new_kept, new_ready}
 
 -- ---- a server falls
@@ -145,19 +147,19 @@ module _ (server servers last : ℕ) (s : State) (found : Contents) (notes : Are
 
 module _ (a : Account) (server epoch : ℕ) (sizes : Sizes) (past : IsPast a server epoch sizes) where
   kept_time : a.holder.kept ≤ 2 ^ 62
-  kept_time = (let low : a.holder.kept ≤ a.holder.clock = past.quiet.settled.order in omega (arith, low, past.clock))
+  kept_time = (let low : a.holder.kept ≤ a.holder.clock = past.quiet.settled.stands.order in omega (arith, low, past.clock))
 
   -- a commit was tried before the end of the clock
-  then_time : (holder_then (state_of a)).kept ≤ 2 ^ 62
-  then_time = go past.quiet.tried
+  then_time : (holder_then (account_state a)).kept ≤ 2 ^ 62
+  then_time = go (tried_one a past.lone past.quiet past.plain)
     where
       before : (h : Holder) → (h.clock == clock_end) ≡ false → h.clock ≡ 2 ^ 62 → ⊥
       before h away is = let wrong : true ≡ false = sym (eq-eqb h.clock clock_end is) ∙ away in cc
 
-      go : HasTried a.holder a.ids.epoch a.is_down a.pending → (holder_then (state_of a)).kept ≤ 2 ^ 62
+      go : (a.pending ≡ []) ⊎ IsTriedCommit a → (holder_then (account_state a)).kept ≤ 2 ^ 62
       go (inl none) = subst (λ (h : Holder). h.kept ≤ 2 ^ 62) (sym (none_then a none)) kept_time
       go (inr c) =
-          let is : (holder_then (state_of a)).kept ≡ c.stamp.ts = kept_then a c in
+          let is : (holder_then (account_state a)).kept ≡ c.stamp.ts = kept_then a c in
           let time : c.stamp.ts ≡ a.holder.clock + 1 = c.time in
           let other : a.holder.clock ≡ 2 ^ 62 → ⊥ = before a.holder c.within in
           omega (arith, is, time, past.clock, other)
@@ -165,7 +167,7 @@ module _ (a : Account) (server epoch : ℕ) (sizes : Sizes) (past : IsPast a ser
   pub kept_small : a.holder.kept < 2 ^ 64
   kept_small = omega (arith, kept_time)
 
-  pub then_small : (holder_then (state_of a)).kept < 2 ^ 64
+  pub then_small : (holder_then (account_state a)).kept < 2 ^ 64
   then_small = omega (arith, then_time)
 
 -- ---- the notes are in the format
@@ -232,35 +234,36 @@ module _ {V : Type 0} (old : ServerState V) (server servers epoch : ℕ) (sizes 
   later : a.ids.epoch + 1 ≡ clock.epoch
   later = ap (λ (n : ℕ). n + 1) past.now
 
-  entry_is : (t : ℕ) → clock.clock ≡ t → restart_entry a t ≡ entry_again clock
+  entry_is : (t : ℕ) → clock.clock ≡ t → restart_entry a t [] [] ≡ entry_again clock
   entry_is t at = λ i. entry_again (record { epoch = later i; clock = sym at i })
 
   lost : (near : ℕ) → (near ≡ a.ids.epoch) ⊎ (near ≡ a.ids.epoch + 1) → found ≡ stored_by near a.holder → LeadsTo a (entry_again clock) held (new_kept old a.holder.server sizes clock)
   lost near by_one same =
-      let at : clock.clock ≡ a.holder.kept = found_clock server servers epoch (state_of a) found notes past.now low near a.holder by_one (kept_small a server epoch sizes past) same in
+      let at : clock.clock ≡ a.holder.kept = found_clock server servers epoch (account_state a) found notes past.now low near a.holder by_one (kept_small a server epoch sizes past) same in
       let cells : held.cells ≡ a.holder.cells = ap (λ (c : Contents). c.cells) is ∙ ap (λ (c : Contents). c.cells) same in
-      let leads : Leads false a (restart_entry a a.holder.kept) (restarted a) = restart_leads a past.quiet in
+      let leads : Leads false a (restart_entry a a.holder.kept [] []) (restarted a) = restart_leads a [] [] past.quiet (past_noted old server epoch sizes a past some) in
       record {
         next = restarted_at a clock.clock;
         leads = subst (λ (n : ℕ). Leads false a (entry_again clock) (restarted_at a n)) (sym at) (subst (λ (e : Entry). Leads false a e (restarted a)) (entry_is a.holder.kept at) leads);
         kept = lost_as old server epoch sizes a past some clock held later at cells held_notes volume leads.quiet;
       }
 
-  made : (near : ℕ) → (near ≡ a.ids.epoch) ⊎ (near ≡ a.ids.epoch + 1) → found ≡ stored_by near (holder_then (state_of a)) → HasTried a.holder a.ids.epoch a.is_down a.pending → LeadsTo a (entry_again clock) held (new_kept old a.holder.server sizes clock)
+  made : (near : ℕ) → (near ≡ a.ids.epoch) ⊎ (near ≡ a.ids.epoch + 1) → found ≡ stored_by near (holder_then (account_state a)) → (a.pending ≡ []) ⊎ IsTriedCommit a → LeadsTo a (entry_again clock) held (new_kept old a.holder.server sizes clock)
   made near by_one same (inl none) = lost near by_one (same ∙ ap (stored_by near) (none_then a none))
   made near by_one same (inr c) =
-      let at : clock.clock ≡ c.stamp.ts = found_clock server servers epoch (state_of a) found notes past.now low near (holder_then (state_of a)) by_one (then_small a server epoch sizes past) same ∙ kept_then a c in
+      let at : clock.clock ≡ c.stamp.ts = found_clock server servers epoch (account_state a) found notes past.now low near (holder_then (account_state a)) by_one (then_small a server epoch sizes past) same ∙ kept_then a c in
       let cells : held.cells ≡ edits_map c.life.edits a.holder.cells = ap (λ (x : Contents). x.cells) is ∙ ap (λ (x : Contents). x.cells) same ∙ cells_then a c in
-      let leads : Leads false a (restart_entry a c.stamp.ts) (restarted_with a c.stamp c.life) = restart_made_leads a c past.quiet in
+      let leads : Leads false a (restart_entry a c.stamp.ts [] []) (restarted_with a c.stamp c.life []) =
+      commit_made_leads a [] [] past.quiet c (decided_noted old server epoch sizes a past some c) in
       record {
-        next = restarted_at (with_decided a c.stamp c.life) clock.clock;
-        leads = subst (λ (n : ℕ). Leads false a (entry_again clock) (restarted_at (with_decided a c.stamp c.life) n)) (sym at) (subst (λ (e : Entry). Leads false a e (restarted_with a c.stamp c.life)) (entry_is c.stamp.ts at) leads);
+        next = restarted_at (with_decided a c.stamp c.life []) clock.clock;
+        leads = subst (λ (n : ℕ). Leads false a (entry_again clock) (restarted_at (with_decided a c.stamp c.life []) n)) (sym at) (subst (λ (e : Entry). Leads false a e (restarted_with a c.stamp c.life [])) (entry_is c.stamp.ts at) leads);
         kept = made_as old server epoch sizes a past some c clock held later at cells held_notes volume leads.quiet;
       }
 
   -- whichever it is that was found
-  again : IsLeftOf (state_of a) found → LeadsTo a (entry_again clock) held (new_kept old a.holder.server sizes clock)
-  again l = ⊎_elim (λ e. lost l.epoch l.near e) (λ e. made l.epoch l.near e past.quiet.tried) l.either
+  again : IsLeftOf (account_state a) found → LeadsTo a (entry_again clock) held (new_kept old a.holder.server sizes clock)
+  again l = ⊎_elim (λ e. lost l.epoch l.near e) (λ e. made l.epoch l.near e (tried_one a past.lone past.quiet past.plain)) l.either
 
 -- a server that starts again keeps what its journal says
 pub again_right : {V : Type 0} (G : Ghosts V) (d : DownState V) (n : NodeState V) (held : Contents) (clock : ClockNote) → IsFallen G d → IsTrue (G.tells d.vault) → d.epoch < 4294967295
@@ -272,7 +275,7 @@ again_right G d n held clock h told low opening is kept found left notes next_is
     let o : Start = start_of G d in
     let a : Account = r.state in
     let same_start : o ≡ start_in G n = (λ i. start_by G (sym (ap (λ (k : ServerState _). k.server) kept) i) (sym opening i).vault.value) in
-    let l : IsLeftOf (state_of a) found = subst (λ (z : State). IsLeftOf z found) r.says (h.left told found left) in
+    let l : IsLeftOf (account_state a) found = subst (λ (z : State). IsLeftOf z found) r.says (h.left told found left) in
     let to : LeadsTo a (entry_again (next_clock d.epoch found)) held (new_kept n.kept a.holder.server (G.volume d.vault) (next_clock d.epoch found)) =
     again n.kept d.server (G.servers d.vault) d.epoch (G.volume d.vault) a r.past h.raised low found held (subst (λ (m : ℕ). AreNotesSoFar m (G.servers d.vault) found.notes) h.number notes) (held_is ∙ ap (with_clock found) next_is) volume l in
     let e : Entry = entry_again clock in

@@ -4,6 +4,7 @@ use Rattle.std.specs.List.{AllByRecursion}
 use Rattle.std.specs.FinMap as map
 use Rattle.std.proofs.Common.{◌≡◌, ℕ, suc, ◌+◌, ◌<◌, ◌≤◌, List, [], ◌∷◌, ◌++◌, length, append_assoc, refl, sym, ◌∙◌, ap, subst, arith, eq-eqb}
 use Rattle.std.proofs.lemmas.Bool.{le-leb, leb-true, ltb-true, eqb-true}
+use Rattle.alp_base.specs.declared.ids.JoinNo.{JoinNo}
 use Rattle.alp_base.specs.declared.ids.Stamp.{Stamp}
 use Rattle.alp_base.specs.declared.ids.TransId.{TransId}
 use Rattle.alp_base.specs.declared.key.Key.TheVariants.{Leader}
@@ -32,15 +33,18 @@ use Rattle.alp_vault.specs.Contents.{Contents}
 use Rattle.alp_journal.specs.declared.act.Act.TheVariants as act
 use Rattle.alp_journal.specs.declared.event.Event.TheVariants as event
 use Rattle.alp_journal.specs.Ids.{same_trans}
-use Rattle.alp_journal.specs.Coordinator.{Fate, Undrawn, Running, Finishing, Committed, Forgotten, Ended}
+use Rattle.alp_journal.specs.Coordinator.{Fate, Undrawn, Running, Finishing, Committed, Forgotten, Ended, decision_in}
+use Rattle.alp_journal.specs.Participant.{live_in}
 use Rattle.alp_journal.specs.Coordinator as fate
 use Rattle.alp_journal.specs.Holder.{Life, new_life}
 use Rattle.alp_journal.specs.Counts.{lock_set}
 use Rattle.alp_journal.specs.Moves.{next_trans}
 use Rattle.alp_journal.specs.Answers.{too_many, is_counted, count_of_transactions, if_over}
-use Rattle.alp_journal.specs.Account.{Account, state_of, IsQuiet, IsPaired, IsPartOf, IsOfPart, Leads}
-use Rattle.alp_journal.proofs.IdLemmas.{same_trans-true}
-use Rattle.alp_journal.proofs.BeginCalls.{hello_entry, with_hello, hello_leads, with_begun, begin_leads, is_buried, unburied, with_buried_as, with_buried, begin_refused_leads}
+use Rattle.alp_journal.specs.Account.{Account, state_of, IsQuiet, IsPartOf, IsOfPart, Leads}
+use Rattle.alp_journal.proofs.IdLemmas.{same_trans-true, all-filter}
+use Rattle.alp_journal.proofs.StandLemmas.{live_undecided}
+use Rattle.alp_journal.proofs.WaitLemmas.{all-stay}
+use Rattle.alp_journal.proofs.BeginCalls.{hello_entry, with_hello, hello_leads, with_begun, begin_leads, is_buried, unburied, is_decided, undecided, with_buried_as, buried_quiet, with_buried, begin_refused_leads}
 use Rattle.alp_journal.proofs.CollectCalls.{none_dead}
 use Rattle.alp_node.specs.Dead.{dead_in, without_client}
 use Rattle.alp_node.specs.Decisions.{HaveEnds}
@@ -60,9 +64,10 @@ use Rattle.alp_node.proofs.LiveSums.{up_to_drawn, begun_now, not_reached}
 use Rattle.alp_node.proofs.TotalLemmas.{added_room}
 use Rattle.alp_calls.proofs.CountLaws.{counts_begin}
 use Rattle.alp_node.proofs.DeadLemmas.{none_left, others_left}
-use Rattle.alp_node.proofs.DecisionLemmas.{ends_begin}
+use Rattle.alp_node.proofs.DecisionLemmas.{ends_begin, plain_moved, begun_plain}
 use Rattle.alp_node.proofs.KeptLemmas.{sessions_as, stands_timely, alike_set, each_set, each_set_at, none_held, stepped_so}
 use Rattle.alp_node.proofs.MapLemmas.{places_set, get_put}
+use Rattle.alp_node.proofs.OneServer.{IsOne, one_pair, none_join_counts, told_undecided}
 
 -- the ids up to a counter, and the next
 one_more : (server epoch n : ℕ) → trans_to server epoch n ++ (record { server = server; epoch = epoch; counter = n + 1 }) ∷ [] ≡ trans_to server epoch (n + 1)
@@ -104,6 +109,7 @@ hello_stepped a before now held k client name x h le up first is =
         drawn = h.drawn;
         begun = h.begun;
         undrawn = h.undrawn;
+        plain = h.plain;
         ends = h.ends;
         lone = h.lone;
         files = h.files;
@@ -122,7 +128,7 @@ hello_stepped a before now held k client name x h le up first is =
 -- ---- a transaction begins
 
 -- just live transactions are counted
-counted_live : (l : Option Life) (f : Fate) → IsPaired l f → is_counted f ≡ is_some l
+counted_live : (l : Option Life) (f : Fate) → IsOne l f → is_counted f ≡ is_some l
 counted_live (Some l) f h = ap is_counted h.0
 counted_live None Undrawn h = refl
 counted_live None (Running client joins) h = absurd h
@@ -142,10 +148,11 @@ kept_live cells locks rs t (Some l) None h = absurd h
 pub count_live : {V : Type 0} (a : Account) (held : Contents) (k : ServerState V) → IsAs a held k → count_of_transactions (state_of a) ≡ map.len k.lives
 count_live a held k h =
     let count : length (filter (λ t. is_counted (a.fates t)) a.begun) ≡ map.len k.lives =
-    ap (λ (ts : List TransId). length ts) (begun_now a held k h (λ t. is_counted (a.fates t)) (λ t gone. counted_live (a.holder.lives t) (a.fates t) (h.quiet.settled.paired t) ∙ ap (λ (x : Option Life). is_some x) gone))
+    ap (λ (ts : List TransId). length ts) (begun_now a held k h (λ t. is_counted (a.fates t)) (λ t gone. counted_live (a.holder.lives t) (a.fates t) (one_pair a held k h t) ∙ ap (λ (x : Option Life). is_some x) gone))
     ∙ count_pass (λ t. is_counted (a.fates t)) a.holder.server a.ids.epoch k.drawn k.lives (up_to_drawn a held k h)
-    (λ t. counted_live (a.holder.lives t) (a.fates t) (h.quiet.settled.paired t) ∙ kept_live a.holder.cells k.locks.held (a.locked t) t (map.get k.lives t) (a.holder.lives t) (h.lives t)) in
-    omega (arith, count)
+    (λ t. counted_live (a.holder.lives t) (a.fates t) (one_pair a held k h t) ∙ kept_live a.holder.cells k.locks.held (a.locked t) t (map.get k.lives t) (a.holder.lives t) (h.lives t)) in
+    let joins : length (filter (λ j. is_some (live_in (a.phases j))) a.joined) ≡ 0 = ap (λ (js : List JoinNo). length js) (none_join_counts a h.lone h.quiet.settled.stands) in
+    omega (arith, count, joins)
 
 -- fewer than 64 are live
 few_live : {V : Type 0} (a : Account) (held : Contents) (k : ServerState V) → IsAs a held k → map.len k.lives < 64 → too_many (state_of a) ≡ None
@@ -165,7 +172,7 @@ module _ {V : Type 0} (a : Account) (held : Contents) (k : ServerState V) (clien
   IsPartHere v = (file_trans v.call ≡ Some v.trans) × IsPartOf v.client (a.holder.lives v.trans) (a.dead v.client v.trans)
 
   parts_here : AreNamed k.waits → AllByRecursion IsPartHere k.waits
-  parts_here named = each k.waits named (subst (AllByRecursion (λ (v : Waiting). IsOfPart a.holder.lives a.dead v (file_trans v.call))) h.waits h.quiet.settled.parts)
+  parts_here named = each k.waits named (subst (AllByRecursion (λ (v : Waiting). IsOfPart a.holder.lives a.dead v (file_trans v.call))) h.waits h.quiet.settled.tells.parts)
     where
       each : (ws : List WaitingCall) → AreNamed ws → AllByRecursion (λ (v : Waiting). IsOfPart a.holder.lives a.dead v (file_trans v.call)) (waiting_calls ws) → AllByRecursion IsPartHere ws
       each [] n p = tt
@@ -183,7 +190,7 @@ module _ {V : Type 0} (a : Account) (held : Contents) (k : ServerState V) (clien
       dead_some (Some c) e = refl
 
       go : (x : Option Life) → a.holder.lives v.trans ≡ x → IsPartOf v.client x (a.dead v.client v.trans) → not (is_some (a.dead client v.trans)) ≡ is_some x
-      go (Some life) e p = ap (λ (y : Option Cause). not (is_some y)) (none_dead a v.trans life h.quiet.settled e client)
+      go (Some life) e p = ap (λ (y : Option Cause). not (is_some y)) (none_dead a v.trans life h.quiet.settled e client (sym p ∙ own))
       go None e p = ap (λ (n : ℕ). not (is_some (a.dead n v.trans))) (sym own) ∙ dead_some (a.dead v.client v.trans) p
 
   -- the same calls go
@@ -212,9 +219,19 @@ module _ {V : Type 0} (a : Account) (held : Contents) (k : ServerState V) (clien
       is_dead_there : is_some (a.dead client v.trans) ≡ true
       is_dead_there = sym (ap (is_on (λ t. is_some (a.dead client t))) (part_named v.call v.trans here.0)) ∙ right (v.client == client) (is_on (λ t. is_some (a.dead client t)) (part_trans v.call)) gone
 
+      left : (b c : Bool) → (b && c) ≡ true → b ≡ true
+      left true c e = refl
+      left false c e = let wrong : false ≡ true = e in cc
+
+      own : v.client ≡ client
+      own = eqb-true v.client client (left (v.client == client) (is_on (λ t. is_some (a.dead client t)) (part_trans v.call)) gone)
+
       none : (x : Option Life) → a.holder.lives v.trans ≡ x → x ≡ None
       none None e = refl
-      none (Some life) e = let wrong : false ≡ true = sym (ap (λ (y : Option Cause). is_some y) (none_dead a v.trans life h.quiet.settled e client)) ∙ is_dead_there in cc
+      none (Some life) e =
+          let its : v.client ≡ life.client = subst (λ (y : Option Life). IsPartOf v.client y (a.dead v.client v.trans)) e here.1 in
+          let wrong : false ≡ true = sym (ap (λ (y : Option Cause). is_some y) (none_dead a v.trans life h.quiet.settled e client (sym its ∙ own))) ∙ is_dead_there in
+          cc
 
   pub queue_left : AreNamed k.waits → queue_of a.holder k.locks.held (unburied a client) ≡ queue_of a.holder k.locks.held a.waits
   queue_left named = queue_without a.holder k.locks.held (is_buried a client) a.waits (subst (AllByRecursion (GoesIdle a.holder k.locks.held (is_buried a client))) (sym h.waits) (each k.waits (parts_here named)))
@@ -222,6 +239,29 @@ module _ {V : Type 0} (a : Account) (held : Contents) (k : ServerState V) (clien
       each : (ws : List WaitingCall) → AllByRecursion IsPartHere ws → AllByRecursion (GoesIdle a.holder k.locks.held (is_buried a client)) (waiting_calls ws)
       each [] p = tt
       each (v ∷ vs) p = (goes_idle v p.0, each vs p.1)
+
+  -- and no call is of a transaction that was decided
+  decided_none : (v : WaitingCall) → IsPartHere v → is_decided a client (waiting v) ≡ false
+  decided_none v here =
+      ap (λ (x : Option TransId). v.client == client && is_on (λ t. is_some (decision_in (a.fates t))) x) (part_named v.call v.trans here.0)
+      ∙ ap (λ (x : Option (Stamp × List JoinNo)). v.client == client && is_some x) (go (a.holder.lives v.trans) refl here.1) ∙ neither (v.client == client)
+    where
+      neither : (b : Bool) → (b && false) ≡ false
+      neither true = refl
+      neither false = refl
+
+      go : (x : Option Life) → a.holder.lives v.trans ≡ x → IsPartOf v.client x (a.dead v.client v.trans) → decision_in (a.fates v.trans) ≡ None
+      go (Some life) e p = live_undecided a h.quiet.settled.stands v.trans life e
+      go None e p = told_undecided a held k h v.client v.trans p
+
+  pub undecided_is : AreNamed k.waits → undecided a client ≡ unburied a client
+  undecided_is named =
+      all-stay (is_decided a client) (unburied a client)
+      (all-filter (λ (v : Waiting). is_decided a client v ≡ false) (λ v. not (is_buried a client v)) a.waits (subst (AllByRecursion (λ (v : Waiting). is_decided a client v ≡ false)) (sym h.waits) (each k.waits (parts_here named))))
+    where
+      each : (ws : List WaitingCall) → AllByRecursion IsPartHere ws → AllByRecursion (λ (v : Waiting). is_decided a client v ≡ false) (waiting_calls ws)
+      each [] p = tt
+      each (v ∷ vs) p = (decided_none v p.0, each vs p.1)
 
 -- nobody's dead part of the client is left
 dead_buried : (client : ℕ) (ds : List DeadPart) (d : ℕ) (u : TransId) → cond {A = Option Cause} (d == client) None (dead_in ds d u) ≡ dead_in (without_client client ds) d u
@@ -255,6 +295,7 @@ module _ {V : Type 0} (a : Account) (held : Contents) (k : ServerState V) (clien
     drawn = h.drawn;
     begun = h.begun;
     undrawn = h.undrawn;
+    plain = h.plain;
     ends = h.ends;
     lone = h.lone;
     files = h.files;
@@ -277,7 +318,8 @@ module _ {V : Type 0} (a : Account) (held : Contents) (k : ServerState V) (clien
       let f : Refusal = refusal.TooMany what.Transactions 64 in
       let leads = begin_refused_leads a client number w seen f h.quiet (h.down ∙ up) (h.sessions client ∙ there) turn (many_live a held k h many) in
       stepped_so a before now held held k (buried_kept a held k client number w (reply.Refused f)) client number w (call.Begin seen) false (reply.Refused f) [] (with_buried a client number w f) x is h leads
-      (buried_as a held k client number w (reply.Refused f) h le up named leads.quiet) (λ e. cc) (omega (arith, h.clock))
+      (subst (λ (ws : List Waiting). IsAs (record (with_buried_as a client number w (reply.Refused f)) { waits = ws }) held (buried_kept a held k client number w (reply.Refused f))) (sym (undecided_is a held k client h named))
+      (buried_as a held k client number w (reply.Refused f) h le up named (buried_quiet a client number w (reply.Refused f) h.quiet (h.sessions client ∙ there) turn))) (λ e. cc) (omega (arith, h.clock))
 
 module _ {V : Type 0} (a : Account) (held : Contents) (k : ServerState V) (client number : ℕ) (w : Session) (seen : Stamp) (p : Part) where
   abbrev pub begun_trans : TransId
@@ -374,15 +416,15 @@ module _ {V : Type 0} (a : Account) (held : Contents) (k : ServerState V) (clien
       same : (x : WaitingCall) → same_trans x.trans begun_trans ≡ false → map.get k.lives x.trans ≡ map.get (map.insert k.lives begun_trans begun_live) x.trans
       same x apart = sym (get_put k.lives begun_trans begun_live x.trans ∙ ap (λ (b : Bool). cond {A = Option Live} b (Some begun_live) (map.get k.lives x.trans)) apart)
 
-  pub begin_stepped : (before now : ℕ) (x : Answer) (locks : Table) → IsAs a held k → client ≤ 16 → k.is_down ≡ false → session_at k.sessions client ≡ Some w → number ≡ w.last + 1 → map.len k.lives < 64 → map.get k.lives begun_trans ≡ None
+  pub begin_stepped : (before now : ℕ) (x : Answer) (locks : Table) → IsAs a held k → client ≤ 16 → k.is_down ≡ false → session_at k.sessions client ≡ Some w → number ≡ w.last + 1 → 0 < k.epoch → map.len k.lives < 64 → map.get k.lives begun_trans ≡ None
       → ((u : TransId) (r : Resource) → holding locks.held u r ≡ holding k.locks.held u r) → own_of p ≡ no_opens → p.intents ≡ no_intents → p.counts ≡ no_counts
       → length k.decisions ≡ k.drawn → AreNamed k.waits → AreOthers begun_trans k.waits → locks.waiting ≡ k.locks.waiting → ((u : TransId) → held_of locks.held u ≡ held_of k.locks.held u)
       → x ≡ told_answer (Some (reply.Begun begun_trans)) (act.Drawn begun_trans ∷ [])
       → Stepped a before now held (with_begun_kept locks) (event.Call client k.epoch number (call.Begin seen)) x
-  begin_stepped before now x locks h le up there turn few new same opens none idle long named away waiting beside is =
+  begin_stepped before now x locks h le up there turn raised few new same opens none idle long named away waiting beside is =
       let next : next_trans (state_of a) ≡ begun_trans = trans_same h in
       let undrawn : a.fates (next_trans (state_of a)) ≡ Undrawn = h.undrawn (next_trans (state_of a)) (subst (λ (n : ℕ). is_beyond a.holder.server a.ids.epoch n (next_trans (state_of a)) ≡ true) h.drawn (beyond_next a.holder.server a.ids.epoch a.ids.transactions)) in
-      let leads = begin_leads a client number w seen h.quiet (h.down ∙ up) (h.sessions client ∙ there) turn undrawn (few_live a held k h few) in
+      let leads = begin_leads a client number w seen (subst (λ (n : ℕ). 0 < n) (sym h.epoch) raised) h.quiet (h.down ∙ up) (h.sessions client ∙ there) turn (few_live a held k h few) in
       let m : Account = with_begun a client number w seen in
       let away_next : AreOthers (next_trans (state_of a)) k.waits = subst (λ (t : TransId). AreOthers t k.waits) (sym next) away in
       let counted : Session = record w { last = number; reply = reply.Begun begun_trans } in
@@ -415,6 +457,7 @@ module _ {V : Type 0} (a : Account) (held : Contents) (k : ServerState V) (clien
         undrawn = subst (λ (n : ℕ). (t : TransId) → is_beyond a.holder.server a.ids.epoch (n + 1) t ≡ true
             → cond {A = Fate} (same_trans (next_trans (state_of a)) t) (fate.begun client (a.fates t)) (a.fates t) ≡ Undrawn) h.drawn
             (undrawn_then a.holder.server a.ids.epoch a.ids.transactions a.fates (subst (λ (n : ℕ). (t : TransId) → is_beyond a.holder.server a.ids.epoch n t ≡ true → a.fates t ≡ Undrawn) (sym h.drawn) h.undrawn));
+        plain = plain_moved a.fates (next_trans (state_of a)) (fate.begun client) (λ f p. begun_plain client f p) h.plain;
         ends = subst (λ (n : ℕ). HaveEnds a.holder.server a.ids.epoch (n + 1) (k.decisions ++ 0 ∷ []) m.fates) h.drawn
             (ends_begin a.holder.server a.ids.epoch a.ids.transactions k.decisions a.fates client (long ∙ sym h.drawn) undrawn (subst (λ (n : ℕ). HaveEnds a.holder.server a.ids.epoch n k.decisions a.fates) (sym h.drawn) h.ends));
         lone = h.lone;
@@ -422,11 +465,12 @@ module _ {V : Type 0} (a : Account) (held : Contents) (k : ServerState V) (clien
         made = h.made;
         born = h.born;
         earlier = h.earlier;
-        waits = waits_left a held k client h named ∙ ap waiting_calls (stays_alike k.waits away);
+        waits = undecided_is a held k client h named ∙ waits_left a held k client h named ∙ ap waiting_calls (stays_alike k.waits away);
         queue = waiting ∙ h.queue ∙ sym (queue_left a held k client h named)
             ∙ sym (queue_beside a.holder m.holder k.locks.held locks.held (next_trans (state_of a)) refl (λ u apart. ap (λ (b : Bool). cond {A = Option Life} b (Some (new_life None client w.who)) (a.holder.lives u)) apart) (λ u apart. beside u) (unburied a client)
             (each-filter (λ (v : Waiting). is_of (next_trans (state_of a)) (file_trans v.call) ≡ false) (λ v. not (is_buried a client v)) a.waits
-            (subst (AllByRecursion (λ (v : Waiting). is_of (next_trans (state_of a)) (file_trans v.call) ≡ false)) (sym h.waits) (others_told (next_trans (state_of a)) k.waits named away_next))));
+            (subst (AllByRecursion (λ (v : Waiting). is_of (next_trans (state_of a)) (file_trans v.call) ≡ false)) (sym h.waits) (others_told (next_trans (state_of a)) k.waits named away_next))))
+            ∙ ap (λ (ws : List Waiting). queue_of m.holder locks.held ws) (sym (undecided_is a held k client h named));
         asked = asked_beside a.holder m.holder k.locks.held locks.held (next_trans (state_of a)) refl (λ u apart. ap (λ (b : Bool). cond {A = Option Life} b (Some (new_life None client w.who)) (a.holder.lives u)) apart) (λ u apart. beside u)
             a.locked (lock_set a.locked (next_trans (state_of a)) []) (λ u apart. ap (λ (b : Bool). cond {A = List Resource} b [] (a.locked u)) apart) (live_calls client (map.insert k.lives begun_trans begun_live) k.waits)
             (each-filter (λ (v : WaitingCall). same_trans v.trans (next_trans (state_of a)) ≡ false) (stays client (map.insert k.lives begun_trans begun_live)) k.waits away_next)

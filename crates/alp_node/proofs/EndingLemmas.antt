@@ -1,8 +1,9 @@
 -- a live part ends without effect, as its client asks, by this server's vote or as time runs out, and others get its locks
 use Rattle.std.specs.Prelude.{cond, Bool, true, false, ◌==◌, ◌&&◌, Option, None, Some}
 use Rattle.std.specs.FinMap as map
-use Rattle.std.proofs.Common.{◌≡◌, ℕ, List, [], ◌∷◌, ◌++◌, refl, sym, ◌∙◌, ap, subst}
+use Rattle.std.proofs.Common.{◌≡◌, ℕ, List, [], ◌∷◌, ◌++◌, append-nil, refl, sym, ◌∙◌, ap, subst}
 use Rattle.alp_base.specs.Causes.{Rose}
+use Rattle.alp_base.specs.declared.ids.JoinNo.{JoinNo}
 use Rattle.alp_base.specs.declared.ids.TransId.{TransId}
 use Rattle.alp_files.specs.declared.call.Call.{Call}
 use Rattle.alp_files.specs.declared.call.Call.TheVariants as call
@@ -14,18 +15,21 @@ use Rattle.alp_files.specs.declared.refusal.Cause.TheVariants as cause
 use Rattle.alp_files.specs.declared.refusal.Why.{Why}
 use Rattle.alp_locks.specs.Releases.{released}
 use Rattle.alp_vault.specs.Contents.{Contents}
+use Rattle.alp_journal.specs.declared.act.Act.{Act}
 use Rattle.alp_journal.specs.declared.act.Act.TheVariants as act
 use Rattle.alp_journal.specs.declared.event.Event.TheVariants as event
-use Rattle.alp_journal.specs.Account.{Account, state_of, IsPaired, IsQuiet, Leads, with_granted, granted_calls, grant_acts}
+use Rattle.alp_journal.specs.declared.message.Message.TheVariants as msg
+use Rattle.alp_journal.specs.Account.{Account, state_of, IsQuiet, sent_acts, Leads, with_granted, granted_calls, grant_acts}
 use Rattle.alp_journal.specs.Answered.{in_turn, IsWalk}
-use Rattle.alp_journal.specs.Coordinator.{Fate}
+use Rattle.alp_journal.specs.Coordinator.{Fate, Running, joins_of}
 use Rattle.alp_journal.specs.Coordinator as fate
 use Rattle.alp_journal.specs.Desk.{Session, is_of_part, waiting_of}
 use Rattle.alp_journal.specs.Holder.{Life}
 use Rattle.alp_journal.specs.Ids.{same_trans}
-use Rattle.alp_journal.specs.Messages.{why_not_own}
+use Rattle.alp_journal.specs.Messages.{Mail, to_each, why_not_own}
+use Rattle.alp_journal.proofs.CallLemmas.{call_entry}
 use Rattle.alp_journal.proofs.OwnEnds.{with_end, with_end_given, abort_leads, against_leads}
-use Rattle.alp_journal.proofs.TimeoutLemmas.{timeout_entry, with_timeout, with_timeout_given, timeout_leads}
+use Rattle.alp_journal.proofs.TimeoutLemmas.{timeout_entry, with_timeout, with_timeout_given, late_aborts, timeout_leads}
 use Rattle.alp_journal.proofs.WaitLemmas.{without-given}
 use Rattle.alp_turns.specs.Laws.{trans_in}
 use Rattle.alp_node.specs.Dead.{dead_in, is_dead, without_part}
@@ -39,11 +43,12 @@ use Rattle.alp_node.specs.declared.lives.Live.{Live}
 use Rattle.alp_node.specs.declared.server_state.ServerState.{ServerState}
 use Rattle.alp_node.specs.declared.sessions.Turn.{Turn}
 use Rattle.alp_node.proofs.DeadLemmas.{part_left, dead_then}
-use Rattle.alp_node.proofs.DecisionLemmas.{ends_moved, ended_still}
+use Rattle.alp_node.proofs.DecisionLemmas.{ends_moved, ended_still, plain_moved, ended_plain}
 use Rattle.alp_node.proofs.FinishLemmas.{still_undrawn, turn_session}
 use Rattle.alp_node.proofs.GoneLemmas.{Gone, gone, state_then, server_then, state_told, server_told, let_go_is, gone_as, waits_left, calls_left, waits_as, asked_left, queue_left}
 use Rattle.alp_node.proofs.KeptLemmas.{sessions_as, session_of, session_then, stands_timely, IsLive, live_there, stepped_so}
 use Rattle.alp_node.proofs.MapLemmas.{places_set}
+use Rattle.alp_node.proofs.OneServer.{no_join, lone_runs}
 
 module _ {V : Type 0} (a : Account) (before now : ℕ) (held : Contents) (k : ServerState V) (turn : Turn) (t : TransId) (l : Live) (m : ℕ) (on : Bool) (h : IsAs a held k) (ready : IsReady m on k) where
   -- who is granted, and the calls that wait on them
@@ -88,6 +93,7 @@ module _ {V : Type 0} (a : Account) (before now : ℕ) (held : Contents) (k : Se
         (subst (λ (x : Account). IsAs x held (server_told a held k t m on h ready g fates told_sessions told_dead (waits_left a held k t m on h ready g turn.client) (counted_in k.sessions turn told) (without_part turn.client t k.dead) (calls_left a held k t m on h ready g turn.client))) state_is
         (gone_as a held k t m on h ready g fates told_sessions told_dead (waits_left a held k t m on h ready g turn.client) (counted_in k.sessions turn told) (without_part turn.client t k.dead) (calls_left a held k t m on h ready g turn.client) up
         (still_undrawn a.holder.server a.ids.epoch k.drawn a.fates t (fate.ended c) refl h.undrawn)
+        (plain_moved a.fates t (fate.ended c) (ended_plain c) h.plain)
         (ends_moved a.holder.server a.ids.epoch k.drawn k.decisions a.fates t (fate.ended c) (ended_still c) h.ends)
         (places_set k.sessions turn.client (session_then turn told) h.places)
         (sessions_as a.sessions k.sessions turn.client (session_then turn told) h.sessions h.places is.client)
@@ -99,14 +105,20 @@ module _ {V : Type 0} (a : Account) (before now : ℕ) (held : Contents) (k : Se
     y : IsLive a.holder.cells k.locks.held (a.locked t) t l (a.holder.lives t)
     y = live_there a.holder.cells k.locks.held (a.locked t) t (map.get k.lives t) (a.holder.lives t) l live (h.lives t)
 
+    runs : a.fates t ≡ Running turn.client []
+    runs = lone_runs a held k h t y.life y.is ∙ ap (λ (n : ℕ). Running n []) (y.alike.client ∙ own)
+
     pub abort_stepped : (x : Answer) → x ≡ refused_answer (refusal.Aborted cause.Asked) (act.Released t ∷ grant_acts (granted_behind k t))
         → Stepped a before now held (ended k turn t (reply.Refused (refusal.Aborted cause.Asked))) (event.Call turn.client k.epoch turn.number (call.Finish t false)) x
     abort_stepped x so = go (gone a held k t m on h ready)
       where
         go : Gone a held k t → Stepped a before now held (ended k turn t (reply.Refused (refusal.Aborted cause.Asked))) (event.Call turn.client k.epoch turn.number (call.Finish t false)) x
         go g =
-            let leads = abort_leads a turn.client turn.number (session_of turn is) t y.life cause.Asked refl h.quiet (h.down ∙ up) (turn_session a held k turn h is) is.number (here ∙ sym h.server) y.is (y.alike.client ∙ own) (granted_behind k t)
+            let sent = abort_leads a turn.client turn.number (session_of turn is) t y.life cause.Asked refl h.quiet (h.down ∙ up) (turn_session a held k turn h is) is.number y.is [] runs (granted_behind k t)
             (subst (λ (ts : List TransId). IsWalk (with_end a turn.client turn.number (session_of turn is) t y.life cause.Asked).holder (in_turn (with_end a turn.client turn.number (session_of turn is) t y.life cause.Asked).holder a.waits) ts) (sym g.woken) g.walk) in
+            let leads : Leads false a (call_entry a turn.client turn.number (session_of turn is) (call.Finish t false) (reply.Refused (refusal.Aborted cause.Asked)) (act.Released t ∷ grant_acts (granted_behind k t))) (with_end_given a turn.client turn.number (session_of turn is) t y.life cause.Asked (granted_behind k t)) =
+            subst (λ (acts : List Act). Leads false a (call_entry a turn.client turn.number (session_of turn is) (call.Finish t false) (reply.Refused (refusal.Aborted cause.Asked)) acts) (with_end_given a turn.client turn.number (session_of turn is) t y.life cause.Asked (granted_behind k t)))
+            (append-nil (act.Released t ∷ grant_acts (granted_behind k t))) sent in
             stepped_so a before now held held k (ended k turn t (reply.Refused (refusal.Aborted cause.Asked))) turn.client turn.number (session_of turn is) (call.Finish t false) false (reply.Refused (refusal.Aborted cause.Asked)) (act.Released t ∷ grant_acts (granted_behind k t))
             (with_end_given a turn.client turn.number (session_of turn is) t y.life cause.Asked (granted_behind k t)) x so h leads
             (ended_as is y.life cause.Asked g up leads.quiet) (λ e. cc)
@@ -122,9 +134,12 @@ module _ {V : Type 0} (a : Account) (before now : ℕ) (held : Contents) (k : Se
 
         go : Gone a held k t → Stepped a before now held (ended k turn t (reply.Refused (refusal.Aborted c))) (event.Call turn.client k.epoch turn.number (call.Finish t true)) x
         go g =
-            let leads = against_leads a turn.client turn.number (session_of turn is) t y.life c failed why (ap (λ (n : ℕ). cause.Voted n why) (sym h.server)) h.quiet (h.down ∙ up) (turn_session a held k turn h is) is.number (here ∙ sym h.server) y.is
-            (y.alike.client ∙ own) idle not (granted_behind k t)
+            let sent = against_leads a turn.client turn.number (session_of turn is) t y.life c failed why (ap (λ (n : ℕ). cause.Voted n why) (sym h.server)) h.quiet (h.down ∙ up) (turn_session a held k turn h is) is.number y.is
+            runs idle not (granted_behind k t)
             (subst (λ (ts : List TransId). IsWalk (with_end a turn.client turn.number (session_of turn is) t y.life c).holder (in_turn (with_end a turn.client turn.number (session_of turn is) t y.life c).holder a.waits) ts) (sym g.woken) g.walk) in
+            let leads : Leads failed a (call_entry a turn.client turn.number (session_of turn is) (call.Finish t true) (reply.Refused (refusal.Aborted c)) (act.Released t ∷ grant_acts (granted_behind k t))) (with_end_given a turn.client turn.number (session_of turn is) t y.life c (granted_behind k t)) =
+            subst (λ (acts : List Act). Leads failed a (call_entry a turn.client turn.number (session_of turn is) (call.Finish t true) (reply.Refused (refusal.Aborted c)) acts) (with_end_given a turn.client turn.number (session_of turn is) t y.life c (granted_behind k t)))
+            (append-nil (act.Released t ∷ grant_acts (granted_behind k t))) sent in
             stepped_so a before now held held k (ended k turn t (reply.Refused (refusal.Aborted c))) turn.client turn.number (session_of turn is) (call.Finish t true) failed (reply.Refused (refusal.Aborted c)) (act.Released t ∷ grant_acts (granted_behind k t))
             (with_end_given a turn.client turn.number (session_of turn is) t y.life c (granted_behind k t)) x so h leads
             (ended_as is y.life c g up leads.quiet) rose
@@ -151,6 +166,7 @@ module _ {V : Type 0} (a : Account) (before now : ℕ) (held : Contents) (k : Se
         (subst (λ (x : Account). IsAs x held (server_told a held k t m on h ready g late_fates a.sessions late_dead (state_then a held k t m on h ready g).waits k.sessions (k.dead ++ (record { client = l.client; trans = t }) ∷ []) (server_then a held k t m on h ready g).waits)) late_state
         (gone_as a held k t m on h ready g late_fates a.sessions late_dead (state_then a held k t m on h ready g).waits k.sessions (k.dead ++ (record { client = l.client; trans = t }) ∷ []) (server_then a held k t m on h ready g).waits up
         (still_undrawn a.holder.server a.ids.epoch k.drawn a.fates t (fate.ended cause.TimedOut) refl h.undrawn)
+        (plain_moved a.fates t (fate.ended cause.TimedOut) (ended_plain cause.TimedOut) h.plain)
         (ends_moved a.holder.server a.ids.epoch k.drawn k.decisions a.fates t (fate.ended cause.TimedOut) (ended_still cause.TimedOut) h.ends) h.places h.sessions
         (λ d u. ap (cond {A = Option Cause} (d == life.client && same_trans u t) (Some cause.TimedOut)) (h.dead d u)
         ∙ ap (λ (n : ℕ). cond {A = Option Cause} (d == n && same_trans u t) (Some cause.TimedOut) (dead_in k.dead d u)) its ∙ dead_then k.dead l.client t d u)
@@ -165,8 +181,12 @@ module _ {V : Type 0} (a : Account) (before now : ℕ) (held : Contents) (k : Se
 
       go : Gone a held k t → Stepped a before now held (record (let_go k t) { dead = k.dead ++ (record { client = l.client; trans = t }) ∷ [] }) (event.Timeout t) x
       go g =
-          let leads = timeout_leads a t y.life h.quiet (h.down ∙ up) y.is (granted_behind k t)
+          let sent = timeout_leads a t y.life h.quiet (h.down ∙ up) y.is (no_join a h.lone h.quiet.settled.stands t y.life y.is) (granted_behind k t)
           (subst (λ (ts : List TransId). IsWalk (with_timeout a t y.life).holder (in_turn (with_timeout a t y.life).holder a.waits) ts) (sym g.woken) g.walk) in
+          let front : List Act = act.Released t ∷ grant_acts (granted_behind k t) in
+          let silent : late_aborts a t y.life ≡ [] = ap (λ (f : Fate). to_each (λ (j : JoinNo). msg.Abort t j cause.TimedOut) (joins_of f)) (lone_runs a held k h t y.life y.is) in
+          let leads : Leads false a (timeout_entry a t front) (with_timeout_given a t y.life (granted_behind k t)) =
+          subst (λ (acts : List Act). Leads false a (timeout_entry a t acts) (with_timeout_given a t y.life (granted_behind k t))) (ap (λ (ms : List Mail). front ++ sent_acts ms) silent ∙ append-nil front) sent in
           record {
             failed = false;
             next = with_timeout_given a t y.life (granted_behind k t);

@@ -3,6 +3,8 @@ use Rattle.std.specs.Prelude.{cond, Bool, true, false, ◌==◌, ◌&&◌, ◌||
 use Rattle.std.specs.List.{AllByRecursion}
 use Rattle.std.specs.FinMap as map
 use Rattle.std.proofs.Common.{◌≡◌, ℕ, ◌<◌, List, [], ◌∷◌, ◌++◌, refl, sym, ◌∙◌, ap, subst, eq-eqb, arith}
+use Rattle.std.specs.List.Sorted.{IsPermutation}
+use Rattle.std.proofs.lemmas.List.Sorted.{IsPermutation-refl}
 use Rattle.std.proofs.lemmas.Bool.{eqb-true, ne_eqb, leb-true, ltb-true}
 use Rattle.alp_base.proofs.NameLemmas.{and_right}
 use Rattle.alp_base.specs.Causes.{Rose}
@@ -26,9 +28,9 @@ use Rattle.alp_journal.specs.Coordinator as fate
 use Rattle.alp_journal.specs.Desk.{Session, Waiting, file_trans, is_of as is_of_trans, is_of_part, waiting_of, without}
 use Rattle.alp_journal.specs.Holder.{Life}
 use Rattle.alp_journal.specs.Counts.{lock_set}
-use Rattle.alp_journal.specs.Messages.{why_not_own}
+use Rattle.alp_journal.specs.Messages.{Mail, why_not_own, on_tick}
 use Rattle.alp_journal.specs.Answers.{Part, NoPart, AtEnd, part_at, at_part, First, IsFinishAnswer, finish_reply}
-use Rattle.alp_journal.specs.Account.{Account, state_of, IsPaired, IsQuiet, Leads}
+use Rattle.alp_journal.specs.Account.{Account, state_of, IsQuiet, Leads}
 use Rattle.alp_journal.proofs.IdLemmas.{same_trans-itself}
 use Rattle.alp_journal.proofs.RefusedCalls.{counted_as, without_dead, unknown_finish_leads, dead_finish_leads}
 use Rattle.alp_journal.proofs.TickLemmas.{tick_leads, force_leads}
@@ -55,6 +57,7 @@ use Rattle.alp_node.specs.declared.served.Standing.{Standing}
 use Rattle.alp_node.specs.declared.served.Standing.TheVariants as standing
 use Rattle.alp_node.proofs.StandingLemmas.{part_of, EndsNone, none_running, part_is, finish_none, undrawn_elsewhere, dead_gone}
 use Rattle.alp_node.proofs.MapLemmas.{places_set, get_gone, tied_same}
+use Rattle.alp_node.proofs.OneServer.{others_none, none_open, none_joined, gone_rests, lone_runs}
 
 -- three tests that hold
 record AllTrue (w x y : Bool) : Type 0 where
@@ -106,6 +109,7 @@ module _ {V : Type 0} (a : Account) (held : Contents) (k : ServerState V) where
     drawn = h.drawn;
     begun = h.begun;
     undrawn = h.undrawn;
+    plain = h.plain;
     ends = h.ends;
     lone = h.lone;
     files = h.files;
@@ -139,8 +143,7 @@ module _ {V : Type 0} (a : Account) (held : Contents) (k : ServerState V) where
 
       go : (b : Bool) → is_beyond a.holder.server a.ids.epoch k.drawn t ≡ b → IsUpTo a.holder.server a.ids.epoch k.drawn t
       go true e =
-          let pair : IsPaired (Some life) (a.fates t) = subst (λ (x : Option Life). IsPaired x (a.fates t)) live (h.quiet.settled.paired t) in
-          let wrong : Undrawn ≡ Running life.client [] = sym (h.undrawn t e) ∙ pair.0 in
+          let wrong : Undrawn ≡ Running life.client [] = sym (h.undrawn t e) ∙ lone_runs a held k h t life live in
           cc
       go false e =
           let is = parts (t.server == a.holder.server) (nat_lt 0 t.counter) (nat_lt t.epoch a.ids.epoch) (t.epoch == a.ids.epoch && nat_le t.counter k.drawn) e not_older in
@@ -233,13 +236,14 @@ module _ {V : Type 0} (a : Account) (before now : ℕ) (held : Contents) (k : Se
         drawn = h.drawn;
         begun = h.begun;
         undrawn = h.undrawn;
+        plain = h.plain;
         ends = h.ends;
         lone = h.lone;
         files = h.files;
         made = h.made;
         born = h.born;
         earlier = h.earlier;
-        quiet = quiet_forgotten turn.client t (counted_as a turn.client turn.number w r) now_as.quiet;
+        quiet = quiet_forgotten turn.client t (counted_as a turn.client turn.number w r) (none_joined a h.lone h.quiet.settled.stands turn.client t) refl now_as.quiet;
         down = sym up;
       })
       (λ e. cc) (stands_timely a.holder.clock 0 k.clock h.clock)
@@ -252,7 +256,7 @@ module _ {V : Type 0} (a : Account) (before now : ℕ) (held : Contents) (k : Se
     failed = false;
     next = as_it_was a t;
     leads = subst (λ (z : Answer). Leads false a (entry_of (event.Timeout t) z) (as_it_was a t)) (sym so)
-        (idle_leads a t h.quiet (h.down ∙ up) (none_live a.holder.cells k.locks.held (a.locked t) t (map.get k.lives t) (a.holder.lives t) none (h.lives t)));
+        (idle_leads a t h.quiet (h.down ∙ up) (gone_rests a h.lone h.quiet.settled.stands t (none_live a.holder.cells k.locks.held (a.locked t) t (map.get k.lives t) (a.holder.lives t) none (h.lives t))) (none_open a h.lone h.quiet.settled.stands t));
     rose = λ e. cc;
     kept = record {
       server = h.server;
@@ -275,6 +279,7 @@ module _ {V : Type 0} (a : Account) (before now : ℕ) (held : Contents) (k : Se
       drawn = h.drawn;
       begun = h.begun;
       undrawn = h.undrawn;
+      plain = h.plain;
       ends = h.ends;
       lone = h.lone;
       files = h.files;
@@ -305,6 +310,6 @@ bare_stepped {V} a faults held k e x h up idle so = go e idle
     }
 
     go : (e : Event) → IsIdleEvent e → Stepped a faults faults held k e x
-    go event.Tick is = step event.Tick (tick_leads a h.quiet (h.down ∙ up)) (stands_timely a.holder.clock 0 k.clock h.clock)
+    go event.Tick is = step event.Tick (tick_leads a h.quiet (h.down ∙ up) [] (subst (λ (ms : List Mail). IsPermutation ms []) (sym (others_none a h.lone (on_tick (state_of a)))) (IsPermutation-refl [])) refl refl tt) (stands_timely a.holder.clock 0 k.clock h.clock)
     go event.Force is = step event.Force (force_leads a h.quiet (h.down ∙ up)) (stands_timely a.holder.clock 0 k.clock h.clock)
     go e is = absurd is

@@ -41,7 +41,7 @@ use Rattle.alp_turns.specs.Queues.{AreHeldAlike, AreCallsApart, IsOnOther, reque
 use Rattle.alp_turns.proofs.MoveLemmas.{GoesIdle, IsGone, StandsStill, queue_gone, queue_without}
 use Rattle.alp_turns.proofs.QueueLemmas.{gives_on}
 use Rattle.alp_turns.proofs.RequestLemmas.{tied_same}
-use Rattle.alp_node.specs.Decisions.{HaveEnds}
+use Rattle.alp_node.specs.Decisions.{IsPlain, HaveEnds}
 use Rattle.alp_node.specs.Dead.{dead_in}
 use Rattle.alp_node.specs.Releases.{granted_if, granted_one, granted_all, granted_behind, let_go}
 use Rattle.alp_node.specs.Sessions.{session_at}
@@ -277,7 +277,7 @@ module _ {V : Type 0} (a : Account) (held : Contents) (k : ServerState V) (t : T
     queue_then = ap (λ (qs : List Waiter). without_of qs t) h.queue ∙ sym (queue_gone a.holder holder_gone k.locks.held t a.waits is_gone (stays_still a.waits))
 
     walks : GivesOnAlike holder_gone a.waits (walked (record { held = table_gone; waiting = []; woken = [] }) (queue_of holder_gone table_gone a.waits))
-    walks = gives_on holder_gone table_gone a.waits held_gone (remove_agrees k.locks.held t ready.sound.agreeing) (calls_apart a.waits h.quiet.settled.apart)
+    walks = gives_on holder_gone table_gone a.waits held_gone (remove_agrees k.locks.held t ready.sound.agreeing) (calls_apart a.waits h.quiet.settled.tells.apart)
 
     released_is : walked (record { held = table_gone; waiting = []; woken = [] }) (queue_of holder_gone table_gone a.waits) ≡ released k.locks t
     released_is = (λ i. walked (record { held = table_gone; waiting = []; woken = sym ready.taken i }) (sym queue_then i))
@@ -396,11 +396,11 @@ module _ {V : Type 0} (a : Account) (held : Contents) (k : ServerState V) (t : T
         abbrev pub server_told : ServerState V
         server_told = record k { lives = server_then.lives; locks = record (released k.locks t) { woken = [] }; sessions = kept_sessions; dead = kept_dead; waits = kept_waits }
 
-        pub gone_as : k.is_down ≡ false → ((u : TransId) → is_beyond a.holder.server a.ids.epoch k.drawn u ≡ true → fates u ≡ Undrawn) → HaveEnds a.holder.server a.ids.epoch k.drawn k.decisions fates
+        pub gone_as : k.is_down ≡ false → ((u : TransId) → is_beyond a.holder.server a.ids.epoch k.drawn u ≡ true → fates u ≡ Undrawn) → ((u : TransId) → IsPlain (fates u)) → HaveEnds a.holder.server a.ids.epoch k.drawn k.decisions fates
             → length kept_sessions.places ≡ 17 → ((client : ℕ) → sessions client ≡ session_at kept_sessions client) → ((client : ℕ) (u : TransId) → dead client u ≡ dead_in kept_dead client u)
             → waits ≡ waiting_calls kept_waits → AllByRecursion (IsWaitingAs state_then.holder state_then.locked) kept_waits → (released k.locks t).waiting ≡ queue_of state_then.holder (released k.locks t).held waits
             → IsQuiet state_told → IsAs state_told held server_told
-        gone_as up undrawn ends places same_sessions same_dead same_waits asked queue quiet = subst (λ (x : Holder). IsAs (record state_told { holder = x }) held server_told) (sym rest) (record {
+        gone_as up undrawn plain ends places same_sessions same_dead same_waits asked queue quiet = subst (λ (x : Holder). IsAs (record state_told { holder = x }) held server_told) (sym rest) (record {
           server = h.server;
           sizes = h.sizes;
           epoch = h.epoch;
@@ -422,6 +422,7 @@ module _ {V : Type 0} (a : Account) (held : Contents) (k : ServerState V) (t : T
           drawn = h.drawn;
           begun = h.begun;
           undrawn = undrawn;
+          plain = plain;
           ends = ends;
           lone = h.lone;
           files = h.files;

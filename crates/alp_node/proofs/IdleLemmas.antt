@@ -133,7 +133,7 @@ module _ (a : Account) (client epoch number : ℕ) (c : Call) (r : Option Reply)
           drawn = o.drawn;
           sessions = o.keeps;
           deeds = subst (Along state_deed (IsLawfulDeed asked) s) (sym o.tries) tt;
-          agree = subst (λ (x : State). DoLivesAgree x.holder.lives) (sym leaves) q.settled.agree;
+          agree = subst (λ (x : State). DoLivesAgree x.holder.lives) (sym leaves) q.settled.stands.agree;
           released = ((ap (flat_map (ended_by s)) (sym o.tries), ap (flat_map grants_of) (sym o.tries)), subst WaitsInTurn (sym leaves) (quiet_up a q).turns);
           sent = refl;
           said = tt;
@@ -216,6 +216,7 @@ idle_stepped a before now held k client epoch number c x h up idle so =
         drawn = h.drawn;
         begun = h.begun;
         undrawn = h.undrawn;
+        plain = h.plain;
         ends = h.ends;
         lone = h.lone;
         files = h.files;

@@ -13,13 +13,14 @@ use Rattle.alp_locks.specs.Tables.{Holders}
 use Rattle.alp_vault.specs.Contents.{Contents}
 use Rattle.alp_vault.specs.declared.vault.Vault.{Ghosts}
 use Rattle.alp_journal.specs.declared.event.Event.TheVariants as event
+use Rattle.alp_journal.specs.Answers.{AtWork, part_at}
 use Rattle.alp_journal.specs.Answered.{is_fault_reply}
 use Rattle.alp_journal.specs.Desk.{Session, Waiting, waiting_of}
 use Rattle.alp_journal.specs.Holder.{Life}
 use Rattle.alp_journal.specs.Account.{Account, state_of}
 use Rattle.alp_journal.proofs.BeginCalls.{with_buried_as}
 use Rattle.alp_journal.proofs.RefusedCalls.{counted_as}
-use Rattle.alp_journal.proofs.KnownJoins.{HasNoLife, JoinOwes, join_unknown_leads, join_busy_leads, join_leads}
+use Rattle.alp_journal.proofs.KnownJoins.{HasNoLife, join_unknown_leads, join_busy_leads, join_leads}
 use Rattle.alp_node.specs.Dead.{is_dead}
 use Rattle.alp_node.specs.Halts.{says_shut}
 use Rattle.alp_node.specs.Releases.{buried}
@@ -35,8 +36,9 @@ use Rattle.alp_node.specs.declared.served.Standing.TheVariants as standing
 use Rattle.alp_node.specs.declared.sessions.Turn.{Turn}
 use Rattle.alp_node.proofs.BesideLemmas.{AreNamed}
 use Rattle.alp_node.proofs.EndLemmas.{buried_kept, buried_as}
-use Rattle.alp_node.proofs.FinishLemmas.{turn_session, counts_as, drawn_live}
+use Rattle.alp_node.proofs.FinishLemmas.{turn_session, counts_as}
 use Rattle.alp_node.proofs.KeptLemmas.{session_of, stands_timely, IsLive, live_there, stepped_so}
+use Rattle.alp_node.proofs.OneServer.{life_works}
 use Rattle.alp_node.proofs.ReadyLemmas.{refused_ready}
 use Rattle.alp_node.proofs.StepLemmas.{plain_step}
 use Rattle.alp_node.proofs.TurnLemmas.{counts_on}
@@ -70,16 +72,8 @@ module _ {V : Type 0} (a : Account) (before now : ℕ) (held : Contents) (k : Se
     y : IsLive a.holder.cells k.locks.held (a.locked t) t l (a.holder.lives t)
     y = live_there a.holder.cells k.locks.held (a.locked t) t (map.get k.lives t) (a.holder.lives t) l live (h.lives t)
 
-    owes : JoinOwes a turn.client turn.number (session_of turn is) t y.life
-    owes = record {
-      quiet = h.quiet;
-      up = h.down ∙ up;
-      there = turn_session a held k turn h is;
-      turn = is.number;
-      here = (drawn_live a held k t y.life h y.is).here;
-      live = y.is;
-      own = y.alike.client ∙ own;
-    }
+    works : part_at (state_of a) turn.client t ≡ AtWork
+    works = life_works a h.lone h.quiet.settled.stands t y.life turn.client y.is (y.alike.client ∙ own)
 
     -- a call of it waits, or is to be collected
     pub join_busy_stepped : (v : Waiting) (x : Answer) → waiting_of (state_of a).desk turn.client t ≡ Some v → x ≡ refused_answer refusal.NotYet []
@@ -87,7 +81,7 @@ module _ {V : Type 0} (a : Account) (before now : ℕ) (held : Contents) (k : Se
     join_busy_stepped v x busy so =
         let w : Session = session_of turn is in
         let r : Reply = reply.Refused refusal.NotYet in
-        let leads = join_busy_leads a turn.client turn.number w t y.life v owes busy in
+        let leads = join_busy_leads a turn.client turn.number w t v h.quiet (h.down ∙ up) (turn_session a held k turn h is) is.number works busy in
         stepped_so a before now held held k (buried_kept a held k turn.client turn.number w r) turn.client turn.number w (call.Join t) false r [] (with_buried_as a turn.client turn.number w r) x so h leads
         (buried_as a held k turn.client turn.number w r h is.client up named leads.quiet) (λ e. cc) (stands_timely a.holder.clock 0 k.clock h.clock)
 
@@ -96,7 +90,7 @@ module _ {V : Type 0} (a : Account) (before now : ℕ) (held : Contents) (k : Se
     join_stepped x idle so =
         let w : Session = session_of turn is in
         let r : Reply = reply.Joined in
-        let leads = join_leads a turn.client turn.number w t y.life owes idle in
+        let leads = join_leads a turn.client turn.number w t h.quiet (h.down ∙ up) (turn_session a held k turn h is) is.number works idle in
         stepped_so a before now held held k (buried_kept a held k turn.client turn.number w r) turn.client turn.number w (call.Join t) false r [] (with_buried_as a turn.client turn.number w r) x so h leads
         (buried_as a held k turn.client turn.number w r h is.client up named leads.quiet) (λ e. cc) (stands_timely a.holder.clock 0 k.clock h.clock)
 

@@ -143,6 +143,7 @@ as_with a held then k v same h = subst (λ (x : Contents). IsAs a x (record k { 
   drawn = h.drawn;
   begun = h.begun;
   undrawn = h.undrawn;
+  plain = h.plain;
   ends = h.ends;
   lone = h.lone;
   files = h.files;

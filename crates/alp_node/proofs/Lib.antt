@@ -1,3 +1,4 @@
+pub mod OneServer
 pub mod BlockSets
 pub mod MapLemmas
 pub mod ClockLaws

@@ -13,7 +13,7 @@ use Rattle.alp_journal.specs.Coordinator.{Fate, Undrawn, Running, Finishing, Com
 use Rattle.alp_journal.specs.Holder.{Life}
 use Rattle.alp_journal.specs.State.{State}
 use Rattle.alp_journal.specs.Answers.{need_at, needs_of_all, all_live, made_at, made_by_all}
-use Rattle.alp_journal.specs.Account.{Account, state_of, IsPaired}
+use Rattle.alp_journal.specs.Account.{Account, state_of}
 use Rattle.alp_node.specs.ServerState.{IsAs, IsAlike, trans_to}
 use Rattle.alp_node.specs.Totals.{totals_of}
 use Rattle.alp_node.specs.declared.lives.Live.{Live}
@@ -21,6 +21,7 @@ use Rattle.alp_node.specs.declared.server_state.ServerState.{ServerState}
 use Rattle.alp_node.proofs.CountLemmas.{IsUpTo, weigh, all_in, sum_list, sum_append, sum_there}
 use Rattle.alp_node.proofs.FinishLemmas.{drawn_live}
 use Rattle.alp_node.proofs.KeptLemmas.{IsLive, live_there}
+use Rattle.alp_node.proofs.OneServer.{IsOne, one_pair, none_join_live}
 
 pub not_reached : (m n : ℕ) → n < m → nat_le m n ≡ false
 not_reached m n less = go (nat_le m n) refl
@@ -38,7 +39,7 @@ made_list p s [] = refl
 made_list p s (t ∷ ts) = ap (λ (n : ℕ). made_at p s (s.holder.lives t) + n) (made_list p s ts)
 
 -- who is not live does not run
-gone_still : (l : Option Life) (f : Fate) → l ≡ None → IsPaired l f → is_running f ≡ false
+gone_still : (l : Option Life) (f : Fate) → l ≡ None → IsOne l f → is_running f ≡ false
 gone_still (Some l) f e h = cc
 gone_still None Undrawn e h = refl
 gone_still None (Running client joins) e h = absurd h
@@ -48,7 +49,7 @@ gone_still None (Forgotten stamp joins) e h = absurd h
 gone_still None (Ended c) e h = refl
 
 -- who does not run is not live
-not_live : (l : Option Life) (f : Fate) → IsPaired l f → is_running f ≡ false → l ≡ None
+not_live : (l : Option Life) (f : Fate) → IsOne l f → is_running f ≡ false → l ≡ None
 not_live None f h e = refl
 not_live (Some l) f h e = let wrong : true ≡ false = sym (ap is_running h.0) ∙ e in cc
 
@@ -83,12 +84,13 @@ module _ {V : Type 0} (a : Account) (held : Contents) (k : ServerState V) (h : I
   all_sum g f none same =
       let at : TransId → ℕ = λ t. f (a.holder.lives t) in
       let runs : TransId → Bool = λ t. is_running (a.fates t) in
+      let split : sum_list at (all_live (state_of a)) ≡ sum_list at (filter runs a.begun ++ []) = ap (λ (ts : List TransId). sum_list at (filter runs a.begun ++ ts)) (none_join_live a h.lone h.quiet.settled.stands) in
       let last : sum_list at (filter runs a.begun ++ []) ≡ sum_list at (filter runs a.begun) + 0 = sum_append at (filter runs a.begun) [] in
       let all : sum_list at (filter runs a.begun) ≡ all_in g k.lives =
-      ap (λ (ts : List TransId). sum_list at ts) (begun_now runs (λ t gone. gone_still (a.holder.lives t) (a.fates t) gone (h.quiet.settled.paired t)))
-      ∙ sum_there g at runs a.holder.server a.ids.epoch k.drawn k.lives up_to_drawn (λ t off. ap f (not_live (a.holder.lives t) (a.fates t) (h.quiet.settled.paired t) off) ∙ none)
+      ap (λ (ts : List TransId). sum_list at ts) (begun_now runs (λ t gone. gone_still (a.holder.lives t) (a.fates t) gone (one_pair a held k h t)))
+      ∙ sum_there g at runs a.holder.server a.ids.epoch k.drawn k.lives up_to_drawn (λ t off. ap f (not_live (a.holder.lives t) (a.fates t) (one_pair a held k h t) off) ∙ none)
       (λ t. same t (map.get k.lives t) (a.holder.lives t) (h.lives t)) in
-      omega (arith, last, all)
+      omega (arith, split, last, all)
 
   need_same : (t : TransId) (o : Option Live) (x : Option Life) → IsAlike a.holder.cells k.locks.held (a.locked t) t o x → need_at (state_of a) x ≡ weigh (λ (l : Live). l.part.counts.places) o
   need_same t None None x = refl

@@ -59,6 +59,7 @@ use Rattle.alp_node.proofs.LockLemmas.{taken_other, taken_beside, taken_waiting}
 use Rattle.alp_node.proofs.LockCallLemmas.{locked_then}
 use Rattle.alp_node.proofs.LockDoneLemmas.{locks_now, asked, lock_left, first_held, lock_free, lock_why, grants_none, grants_some, under_held, still_locked, known_then, count_then, lock_performed}
 use Rattle.alp_journal.proofs.RefusedGrants.{with_locks, refused_granted_leads}
+use Rattle.alp_node.proofs.OneServer.{life_works}
 use Rattle.alp_node.proofs.BesideLemmas.{AreNamed, AreOthers, others_told, idle_told, queue_beside, asked_beside}
 use Rattle.alp_node.proofs.WaitLemmas.{named_all}
 use Rattle.alp_node.proofs.MapLemmas.{get_put}
@@ -171,6 +172,7 @@ module _ {V : Type 0} (a : Account) (before now : ℕ) (held : Contents) (k : Se
       drawn = h.drawn;
       begun = h.begun;
       undrawn = h.undrawn;
+      plain = h.plain;
       ends = h.ends;
       lone = h.lone;
       files = h.files;
@@ -226,6 +228,7 @@ module _ {V : Type 0} (a : Account) (before now : ℕ) (held : Contents) (k : Se
           drawn = h.drawn;
           begun = h.begun;
           undrawn = h.undrawn;
+          plain = h.plain;
           ends = h.ends;
           lone = h.lone;
           files = h.files;
@@ -245,7 +248,7 @@ module _ {V : Type 0} (a : Account) (before now : ℕ) (held : Contents) (k : Se
         → x ≡ refused_answer f (act.Granted t ∷ []) → Stepped a before now then (left (reply.Refused f)) (event.Call turn.client k.epoch turn.number c) x
     granted_refused x then same of_trans n others some so =
         let leads : Leads false a (call_entry a turn.client turn.number w c (reply.Refused f) (act.Granted t ∷ [])) (with_locks a turn.client turn.number w t life c f) =
-        refused_granted_leads a turn.client turn.number w t life c f false h.quiet (h.down ∙ up) (turn_session a held k turn h is) is.number live (mine.client ∙ own) of_trans (idle_told a turn.client t k.waits h.waits named away) counted.passes counted.now
+        refused_granted_leads a turn.client turn.number w t life c f false h.quiet (h.down ∙ up) (turn_session a held k turn h is) is.number (life_works a h.lone h.quiet.settled.stands t life turn.client live (mine.client ∙ own)) live (mine.client ∙ own) of_trans (idle_told a turn.client t k.waits h.waits named away) counted.passes counted.now
         (lock_free a before now held k turn t l p c ns room r v m on ready life h up is there own live mine served files from given of shape few free away) why
         (subst (λ (y : Reply). GrantsFor false (state_of a) turn.client c y (t ∷ []) (Some t)) as_refused (grants_some a before now held k turn t l p c ns room r v m on ready life h up is there own live mine served files from given of shape few free away n others some)) in
         stepped_so a before now held then k (left (reply.Refused f)) turn.client turn.number w c false (reply.Refused f) (act.Granted t ∷ []) (with_locks a turn.client turn.number w t life c f) x so h leads (granted_as then same leads.quiet) (λ e. cc)

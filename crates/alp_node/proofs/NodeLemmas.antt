@@ -30,7 +30,7 @@ use Rattle.alp_journal.specs.State.{State, state_deed, opened}
 use Rattle.alp_journal.specs.Moves.{next, tried, told, halted, stops}
 use Rattle.alp_journal.specs.Laws.{IsLawful, IsLawfulEntry}
 use Rattle.alp_journal.specs.Answered.{IsAnswered, IsAnsweredSo, IsAnsweredEntry, FitsJournal, entries_limit}
-use Rattle.alp_journal.specs.Account.{Account, state_of, IsPaired, IsOwnEvent, AreOwnEvents}
+use Rattle.alp_journal.specs.Account.{Account, state_of as account_state, IsOwnEvent, AreOwnEvents}
 use Rattle.alp_node.specs.declared.answer.Answer.{Answer}
 use Rattle.alp_node.specs.NodeStates.{NodeState}
 use Rattle.alp_node.specs.ServerState.{IsAs, IsReady}
@@ -43,6 +43,7 @@ use Rattle.alp_node.specs.Served.{IsServed, AreLivesSound}
 use Rattle.alp_node.specs.declared.server_state.ServerState.{ServerState}
 use Rattle.alp_node.specs.declared.sessions.CallOrder.{CallOrder}
 use Rattle.alp_node.proofs.KeptLemmas.{IsLive, live_there}
+use Rattle.alp_node.proofs.OneServer.{IsOne, live_one}
 
 pub state_after-push : {S E : Type 0} (step : S → E → S) (s : S) (es : List E) (e : E) → state_after step s (es ++ e ∷ []) ≡ step (state_after step s es) e
 state_after-push step s [] e = refl
@@ -101,13 +102,13 @@ right_sound G n held r up t l there =
     let a : Account = r.state in
     let k = n.kept in
     let first : Stands AreSound (opened (start_in G n)) = opened_stands (start_in G n) r.opening.ready r.opening.files r.opening.sizes in
-    let now : Stands AreSound (state_of a) = subst (Stands AreSound) r.says (journal_stands AreSound (opened (start_in G n)) n.journal r.own r.lawful first) in
+    let now : Stands AreSound (account_state a) = subst (Stands AreSound) r.says (journal_stands AreSound (opened (start_in G n)) n.journal r.own r.lawful first) in
     let y : IsLive a.holder.cells k.locks.held (a.locked t) t l (a.holder.lives t) = live_there a.holder.cells k.locks.held (a.locked t) t (map.get k.lives t) (a.holder.lives t) l there (r.kept.lives t) in
-    let pair : IsPaired (Some y.life) (a.fates t) = subst (λ (x : Option Life). IsPaired x (a.fates t)) y.is (r.kept.quiet.settled.paired t) in
+    let pair : IsOne (Some y.life) (a.fates t) = live_one a r.kept.lone r.kept.quiet.settled.stands t y.life y.is in
     let es : List Edit = y.life.edits in
     let same : edits_map (edits_of (change_of l.part.intents)) held.cells ≡ edits_map es a.holder.cells =
     same_change held.cells l.part es y.alike.intents ∙ ap (edits_map es) (r.kept.cells up) in
-    subst AreSound (sym same) (live_sound (state_of a) now t y.life y.is pair.1)
+    subst AreSound (sym same) (live_sound (account_state a) now t y.life y.is pair.1)
 
 pub counted_pushed : (es fs : List Entry) (e : Entry) → fs ≡ es ++ e ∷ [] → length fs ≡ length es + 1
 counted_pushed es fs e is = ap length is ∙ length-append es (e ∷ [])
@@ -156,7 +157,7 @@ halt_said s e stop = ap (λ (b : Bool). said_of (cond {A = State} b (halted s e)
 -- while it is up the vault holds what the journal says
 pub right_said : {V : Type 0} (o : Start) (held : Contents) (n : NodeState V) → IsRight o held n → n.kept.is_down ≡ false → held ≡ said_of (state_of o n.journal)
 right_said o held n r up =
-    let same : held ≡ said_of (state_of r.state) = (λ i. record { cells = r.kept.cells up i; notes = r.kept.notes up i }) in
+    let same : held ≡ said_of (account_state r.state) = (λ i. record { cells = r.kept.cells up i; notes = r.kept.notes up i }) in
     same ∙ ap said_of (sym r.says)
 
 -- and a crash leaves just that
@@ -169,14 +170,14 @@ up_durable o held n leaves r up only = record {
 module _ {V : Type 0} (G : Ghosts V) (o : Start) (old new : NodeState V) (e : Event) (x : Answer) (r : IsRight o (G.held old.kept.vault) old)
     (s : Stepped r.state (G.faults old.kept.vault) (G.faults new.kept.vault) (G.held new.kept.vault) new.kept e x) (is : new.journal ≡ old.journal ++ entry_of e x ∷ []) (epoch : new.kept.epoch ≡ old.kept.epoch)
     (up : old.kept.is_down ≡ false) (only : Only (G.held old.kept.vault) (G.may_leave old.kept.vault))
-    (leaves : Leaves G old.kept.vault new.kept.vault (Besides G old.kept.vault (λ c. c ≡ said_by (state_of r.state) (entry_of e x)))) where
-  after_step : state_of o new.journal ≡ next (state_of r.state) (entry_of e x)
+    (leaves : Leaves G old.kept.vault new.kept.vault (Besides G old.kept.vault (λ c. c ≡ said_by (account_state r.state) (entry_of e x)))) where
+  after_step : state_of o new.journal ≡ next (account_state r.state) (entry_of e x)
   after_step = ap (state_of o) is ∙ state_after-push next (opened o) old.journal (entry_of e x) ∙ ap (λ (z : State). next z (entry_of e x)) r.says
 
-  said_so : said_by (state_of r.state) (entry_of e x) ≡ said_then (state_of o new.journal)
-  said_so = tried_said (state_of r.state) (entry_of e x) (ap (λ (m : State). m.ids.epoch) s.leads.leaves ∙ s.kept.epoch ∙ epoch ∙ sym r.kept.epoch) ∙ ap said_then (sym after_step)
+  said_so : said_by (account_state r.state) (entry_of e x) ≡ said_then (state_of o new.journal)
+  said_so = tried_said (account_state r.state) (entry_of e x) (ap (λ (m : State). m.ids.epoch) s.leads.leaves ∙ s.kept.epoch ∙ epoch ∙ sym r.kept.epoch) ∙ ap said_then (sym after_step)
 
-  either_of : (c : Contents) → Besides G old.kept.vault (λ z. z ≡ said_by (state_of r.state) (entry_of e x)) c → Either (G.held old.kept.vault) (said_then (state_of o new.journal)) c
+  either_of : (c : Contents) → Besides G old.kept.vault (λ z. z ≡ said_by (account_state r.state) (entry_of e x)) c → Either (G.held old.kept.vault) (said_then (state_of o new.journal)) c
   either_of c (inl before) = inl (only c before)
   either_of c (inr (inl same)) = inl same
   either_of c (inr (inr said)) = inr (said ∙ said_so)
@@ -198,7 +199,7 @@ module _ {V : Type 0} (G : Ghosts V) (o : Start) (old new : NodeState V) (e : Ev
   }
     where
       same : G.held old.kept.vault ≡ said_of (state_of o new.journal)
-      same = right_said o (G.held old.kept.vault) old r up ∙ ap said_of r.says ∙ sym (halt_said (state_of r.state) (entry_of e x) stop) ∙ ap said_of (sym after_step)
+      same = right_said o (G.held old.kept.vault) old r up ∙ ap said_of r.says ∙ sym (halt_said (account_state r.state) (entry_of e x) stop) ∙ ap said_of (sym after_step)
 
       go : (c : Contents) → Either (G.held old.kept.vault) (said_then (state_of o new.journal)) c → Either (said_of (state_of o new.journal)) (said_then (state_of o new.journal)) c
       go c (inl held) = inl (held ∙ same)

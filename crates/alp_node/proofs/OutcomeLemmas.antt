@@ -26,7 +26,7 @@ use Rattle.alp_journal.specs.Holder.{Life}
 use Rattle.alp_journal.specs.Ids.{is_drawn}
 use Rattle.alp_journal.specs.Laws.{ending_of}
 use Rattle.alp_journal.specs.State.{is_trans_drawn}
-use Rattle.alp_journal.specs.Account.{Account, state_of, IsPaired}
+use Rattle.alp_journal.specs.Account.{Account, state_of}
 use Rattle.alp_journal.proofs.RefusedCalls.{counted_as}
 use Rattle.alp_journal.proofs.OutcomeCalls.{outcome_unknown_leads, outcome_leads}
 use Rattle.alp_node.specs.Decisions.{time_at, IsEnd}
@@ -41,6 +41,7 @@ use Rattle.alp_node.specs.declared.sessions.Turn.{Turn}
 use Rattle.alp_node.proofs.DecisionLemmas.{time_low}
 use Rattle.alp_node.proofs.FinishLemmas.{turn_session, counts_as}
 use Rattle.alp_node.proofs.KeptLemmas.{session_of, stands_timely, stepped_so}
+use Rattle.alp_node.proofs.OneServer.{IsOne, one_pair}
 use Rattle.alp_node.proofs.ReadyLemmas.{counted_ready}
 use Rattle.alp_node.proofs.StepLemmas.{plain_step}
 use Rattle.alp_node.proofs.TurnLemmas.{counts_on}
@@ -86,7 +87,7 @@ module _ {V : Type 0} (a : Account) (held : Contents) (k : ServerState V) (t : T
   drawn_is = λ i. is_drawn (h.server i) (h.epoch i) (h.drawn i) t.server t.epoch t.counter
 
   -- of what does not run nothing is known where it is of another epoch
-  of_other : (f : Fate) → IsPaired None f → (t.epoch == a.ids.epoch) ≡ false → ending_of (state_of a) t f ≡ ending.Unknown
+  of_other : (f : Fate) → IsOne None f → (t.epoch == a.ids.epoch) ≡ false → ending_of (state_of a) t f ≡ ending.Unknown
   of_other Undrawn h away = refl
   of_other (Running c js) h away = absurd h
   of_other (Finishing c js vs) h away = absurd h
@@ -95,7 +96,7 @@ module _ {V : Type 0} (a : Account) (held : Contents) (k : ServerState V) (t : T
   of_other (Ended c) h away = ap (λ (b : Bool). cond {A = Ending} b ending.Aborted ending.Unknown) away
 
   -- and in this epoch it is as its time says
-  of_this : (time : ℕ) (f : Fate) → IsPaired None f → IsEnd time t f → (t.epoch == a.ids.epoch) ≡ true → ending_of (state_of a) t f ≡ ending_by t time
+  of_this : (time : ℕ) (f : Fate) → IsOne None f → IsEnd time t f → (t.epoch == a.ids.epoch) ≡ true → ending_of (state_of a) t f ≡ ending_by t time
   of_this time Undrawn h is now = absurd is
   of_this time (Running c js) h is now = absurd h
   of_this time (Finishing c js vs) h is now = absurd h
@@ -108,7 +109,7 @@ module _ {V : Type 0} (a : Account) (held : Contents) (k : ServerState V) (t : T
       ap (λ (b : Bool). cond {A = Ending} b ending.Aborted ending.Unknown) now ∙ sym (ap (λ (b : Bool). cond {A = Ending} b ending.Aborted (ending.Committed (record { ts = time; trans = t }))) (eq-eqb time 0 is))
 
   -- it runs just while it is kept
-  of_kept : (locked : List Resource) (o : Option Live) (x : Option Life) (f : Fate) (time : ℕ) → IsAlike a.holder.cells k.locks.held locked t o x → IsPaired x f → IsEnd time t f → (t.epoch == a.ids.epoch) ≡ true
+  of_kept : (locked : List Resource) (o : Option Live) (x : Option Life) (f : Fate) (time : ℕ) → IsAlike a.holder.cells k.locks.held locked t o x → IsOne x f → IsEnd time t f → (t.epoch == a.ids.epoch) ≡ true
       → ending_of (state_of a) t f ≡ cond {A = Ending} (is_some o) ending.Running (ending_by t time)
   of_kept locked None None f time alike pair is now = of_this time f pair is now
   of_kept locked (Some l) (Some life) f time alike pair is now = ap (ending_of (state_of a) t) pair.0
@@ -128,12 +129,12 @@ module _ {V : Type 0} (a : Account) (held : Contents) (k : ServerState V) (t : T
       go : (b : Bool) → (t.epoch == k.epoch) ≡ b → ending_of (state_of a) t (a.fates t) ≡ cond {A = Ending} b (ending_now k t) ending.Unknown
       go true e =
           let now : t.epoch ≡ k.epoch = eqb-true t.epoch k.epoch e in
-          of_kept (a.locked t) (map.get k.lives t) (a.holder.lives t) (a.fates t) (time_at k.decisions t.counter) (h.lives t) (h.quiet.settled.paired t)
+          of_kept (a.locked t) (map.get k.lives t) (a.holder.lives t) (a.fates t) (time_at k.decisions t.counter) (h.lives t) (one_pair a held k h t)
           (h.ends t (id.here ∙ sym h.server) (now ∙ sym h.epoch) id.some (id.low now)) (eq-eqb t.epoch a.ids.epoch (now ∙ sym h.epoch))
       go false e =
           let away : t.epoch ≡ a.ids.epoch → ⊥ = λ same. (let wrong : true ≡ false = sym (eq-eqb t.epoch k.epoch (same ∙ h.epoch)) ∙ e in cc) in
           let gone : a.holder.lives t ≡ None = none_live away (a.holder.lives t) refl in
-          of_other (a.fates t) (subst (λ (x : Option Life). IsPaired x (a.fates t)) gone (h.quiet.settled.paired t)) (ne_eqb t.epoch a.ids.epoch away)
+          of_other (a.fates t) (subst (λ (x : Option Life). IsOne x (a.fates t)) gone (one_pair a held k h t)) (ne_eqb t.epoch a.ids.epoch away)
 
 -- no later time is told of it than the clock
 pub ending_past : {V : Type 0} (n : ℕ) (serves : Bool) (k : ServerState V) (t : TransId) → IsReady n serves k → TellsUpTo k.clock (reply.Ended (ending_here k t))

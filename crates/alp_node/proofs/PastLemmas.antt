@@ -1,5 +1,5 @@
 -- what stays of a server that fell, and what it keeps when it starts again
-use Rattle.std.specs.Prelude.{cond, Bool, true, false, not, ◌==◌, ◌&&◌, ◌||◌, nat_lt, nat_le, Option, None, Some}
+use Rattle.std.specs.Prelude.{cond, Bool, true, false, not, ◌==◌, ◌&&◌, ◌||◌, nat_lt, nat_le, Option, None, Some, is_some}
 use Rattle.std.specs.List.{AllByRecursion}
 use Rattle.std.specs.FinMap as map
 use Rattle.std.proofs.Common.{◌≡◌, ◌⊎◌, inl, inr, ℕ, zero, suc, ◌+◌, ◌<◌, ◌≤◌, ◌^◌, List, [], ◌∷◌, ◌++◌, append-nil, refl, sym, ◌∙◌, ap, subst, arith, eq-eqb}
@@ -10,6 +10,7 @@ use Rattle.alp_base.specs.declared.ids.FileId.{FileId}
 use Rattle.alp_base.specs.declared.ids.Stamp.{Stamp}
 use Rattle.alp_base.specs.declared.ids.TransId.{TransId}
 use Rattle.alp_base.specs.declared.key.Key.TheVariants.{Leader}
+use Rattle.alp_base.specs.declared.key.Resource.{Resource}
 use Rattle.alp_fields.specs.declared.clock_note.ClockNote.{ClockNote}
 use Rattle.alp_files.specs.Apart.{AreSized}
 use Rattle.alp_files.specs.Cells.{Cells, View}
@@ -22,20 +23,24 @@ use Rattle.alp_vault.specs.Volumes.{IsVolumeOf}
 use Rattle.alp_journal.specs.Ids.{is_drawn, same_trans}
 use Rattle.alp_journal.specs.Coordinator.{Fate, Undrawn, Running, Committed}
 use Rattle.alp_journal.specs.Coordinator as fate
-use Rattle.alp_journal.specs.Holder.{Life}
+use Rattle.alp_journal.specs.Holder.{Life, if_ready}
+use Rattle.alp_journal.specs.Counts.{kept_locks}
 use Rattle.alp_journal.specs.State.{is_other_server}
-use Rattle.alp_journal.specs.Account.{Account, state_of, IsQuiet, IsPaired, IsTriedCommit, AreEarlier}
+use Rattle.alp_journal.specs.Account.{Account, state_of, IsQuiet, IsTriedCommit, AreEarlier}
 use Rattle.alp_journal.specs.Restarts.{restarted_at, with_decided}
 use Rattle.alp_journal.proofs.IdLemmas.{all-append, same_trans-true}
+use Rattle.alp_journal.proofs.RestartLemmas.{IsNoted}
 use Rattle.alp_journal.proofs.StampLemmas.{put-last, AreEarlier-push}
+use Rattle.alp_node.specs.Decisions.{IsPlain}
 use Rattle.alp_node.specs.Durable.{clock_notes}
 use Rattle.alp_node.specs.Downs.{IsPast}
-use Rattle.alp_node.specs.ServerState.{IsAs, IsReady, IsToCome, SeesNoneToCome, PutNoneBeyond, AreMade, HaveBegun, ids_to, trans_to, is_beyond}
+use Rattle.alp_node.specs.ServerState.{IsAs, IsReady, IsAlike, IsToCome, SeesNoneToCome, PutNoneBeyond, AreMade, HaveBegun, ids_to, trans_to, is_beyond}
 use Rattle.alp_node.specs.Totals.{totals_of, HaveRoom}
 use Rattle.alp_node.specs.declared.server_state.ServerState.{ServerState}
-use Rattle.alp_node.proofs.DecisionLemmas.{ends_none}
+use Rattle.alp_node.proofs.DecisionLemmas.{ends_none, restarted_plain}
 use Rattle.alp_node.proofs.KeptLemmas.{earlier_more}
-use Rattle.alp_node.proofs.StartLemmas.{new_kept, new_room, alike_none, no_session, volume_sized}
+use Rattle.alp_node.proofs.OneServer.{none_live_in, live_one, noted_none}
+use Rattle.alp_node.proofs.StartLemmas.{new_kept, new_room, no_lives, alike_none, no_session, volume_sized}
 use Rattle.alp_node.proofs.ToComeLemmas.{comes_after}
 
 -- ---- what stays
@@ -50,6 +55,7 @@ past_of n serves a held k sizes h ready same = record {
   unborn = λ t l live. subst (λ (m : ℕ). PutNoneBeyond a.holder.server a.ids.epoch m l.edits) (sym h.files) (h.unborn t l live);
   begun = subst (λ (m : ℕ). HaveBegun a.holder.server a.ids.epoch m a.begun) (sym h.drawn) h.begun;
   undrawn = subst (λ (m : ℕ). (t : TransId) → is_beyond a.holder.server a.ids.epoch m t ≡ true → a.fates t ≡ Undrawn) (sym h.drawn) h.undrawn;
+  plain = h.plain;
   made = subst (λ (m : ℕ). AreMade a.holder.server a.ids.epoch m a.holder.made) (sym h.files) h.made;
   born = subst (λ (m : ℕ). SeesNoneToCome a.holder.server a.ids.epoch m (map.get a.holder.cells)) (sym h.files) h.born;
   earlier = h.earlier;
@@ -114,13 +120,27 @@ beyond_before server epoch n t far = farther (t.server == server && nat_lt 0 t.c
 
 -- ---- a server that starts again
 
+-- a part that did not vote is gone
+unvoted_gone : (x : Option Life) → ((l : Life) → x ≡ Some l → l.vote ≡ None) → if_ready x ≡ None
+unvoted_gone None h = refl
+unvoted_gone (Some l) h = ap (λ (v : Option ℕ). cond {A = Option Life} (is_some v) (Some l) None) (h l refl)
+
+-- and nothing of it is kept
+alike_gone : (cells : Cells) (rs : List Resource) (t : TransId) (x : Option Life) → if_ready x ≡ None → IsAlike cells map.empty (kept_locks x rs) t (map.get no_lives t) (if_ready x)
+alike_gone cells rs t None e = alike_none cells t
+alike_gone cells rs t (Some l) e = go (is_some l.vote) e
+  where
+    go : (b : Bool) → cond {A = Option Life} b (Some l) None ≡ None → IsAlike cells map.empty (cond {A = List Resource} b rs []) t (map.get no_lives t) (cond {A = Option Life} b (Some l) None)
+    go true e = let wrong : Some l ≡ None = e in cc
+    go false e = alike_none cells t
+
 -- in the epoch after its last one, with this clock, on these cells
 pub again_as : {V : Type 0} (old : ServerState V) (sizes : Sizes) (b : Account) (c : ClockNote) (held : Contents)
     → ((n : ℕ) → is_other_server (state_of b) n ≡ false) → 0 < b.ids.epoch → b.sizes ≡ sizes → b.ids.epoch + 1 ≡ c.epoch → held.cells ≡ b.holder.cells → held.notes ≡ clock_notes c → IsVolumeOf sizes held.cells
     → HaveBegun b.holder.server b.ids.epoch b.ids.transactions b.begun → ((t : TransId) → is_beyond b.holder.server b.ids.epoch b.ids.transactions t ≡ true → b.fates t ≡ Undrawn)
-    → AreMade b.holder.server b.ids.epoch b.ids.files b.holder.made → SeesNoneToCome b.holder.server b.ids.epoch b.ids.files (map.get b.holder.cells) → AreEarlier c.clock b.holder.applied
+    → ((t : TransId) → IsPlain (b.fates t)) → ((t : TransId) → if_ready (b.holder.lives t) ≡ None) → AreMade b.holder.server b.ids.epoch b.ids.files b.holder.made → SeesNoneToCome b.holder.server b.ids.epoch b.ids.files (map.get b.holder.cells) → AreEarlier c.clock b.holder.applied
     → IsQuiet (restarted_at b c.clock) → IsAs (restarted_at b c.clock) held (new_kept old b.holder.server sizes c)
-again_as old sizes b c held lone some same later cells notes volume begun undrawn made born earlier quiet = record {
+again_as old sizes b c held lone some same later cells notes volume begun undrawn plain gone made born earlier quiet = record {
   server = refl;
   lone = lone;
   sizes = same;
@@ -132,13 +152,14 @@ again_as old sizes b c held lone some same later cells notes volume begun undraw
   places = refl;
   sessions = λ client. sym (no_session client);
   dead = λ client t. refl;
-  lives = alike_none b.holder.cells;
+  lives = λ t. alike_gone b.holder.cells (b.locked t) t (b.holder.lives t) (gone t);
   room = subst (λ (m : Cells). HaveRoom sizes m (totals_of map.empty)) cells (new_room sizes held.cells volume);
-  unborn = λ t l is. (let wrong : None ≡ Some l = is in cc);
-  current = λ t l is. (let wrong : None ≡ Some l = is in cc);
+  unborn = λ t l is. (let wrong : None ≡ Some l = sym (gone t) ∙ is in cc);
+  current = λ t l is. (let wrong : None ≡ Some l = sym (gone t) ∙ is in cc);
   drawn = refl;
   begun = begun_again b.holder.server b.ids.epoch b.ids.transactions b.begun begun;
   undrawn = λ t far. ap (fate.restarted (b.ids.epoch + 1)) (undrawn t (beyond_before b.holder.server b.ids.epoch b.ids.transactions t far));
+  plain = λ t. restarted_plain (b.ids.epoch + 1) (b.fates t) (plain t);
   ends = ends_none b.holder.server (b.ids.epoch + 1) [] (restarted_at b c.clock).fates;
   files = refl;
   made = made_again b.holder.server b.ids.epoch b.ids.files b.holder.made some made;
@@ -155,20 +176,24 @@ module _ {V : Type 0} (old : ServerState V) (server epoch : ℕ) (sizes : Sizes)
   some_epoch : 0 < a.ids.epoch
   some_epoch = subst (λ (n : ℕ). 0 < n) (sym past.now) some
 
+  -- no part is ready
+  unready : (t : TransId) → if_ready (a.holder.lives t) ≡ None
+  unready t = unvoted_gone (a.holder.lives t) (λ l is. (live_one a past.lone past.quiet.settled.stands t l is).1)
+
+  pub past_noted : IsNoted a [] []
+  past_noted = noted_none a (none_live_in a past.lone past.quiet.settled.stands) past.plain
+
   -- nothing of what was tried last is found made
   pub lost_as : (c : ClockNote) (held : Contents) → a.ids.epoch + 1 ≡ c.epoch → c.clock ≡ a.holder.kept → held.cells ≡ a.holder.cells → held.notes ≡ clock_notes c → IsVolumeOf sizes held.cells
       → IsQuiet (restarted_at a a.holder.kept) → IsAs (restarted_at a c.clock) held (new_kept old a.holder.server sizes c)
   lost_as c held later clock cells notes volume quiet =
-      again_as old sizes a c held past.lone some_epoch past.volume later cells notes volume past.begun past.undrawn past.made past.born
+      again_as old sizes a c held past.lone some_epoch past.volume later cells notes volume past.begun past.undrawn past.plain unready past.made past.born
       (subst (λ (n : ℕ). AreEarlier n a.holder.applied) (sym clock) past.earlier) (subst (λ (n : ℕ). IsQuiet (restarted_at a n)) (sym clock) quiet)
 
   -- the commit that was tried is found made
-  module _ (c : IsTriedCommit a.holder a.ids.epoch a.is_down a.pending) where
+  module _ (c : IsTriedCommit a) where
     abbrev decided : Account
-    decided = with_decided a c.stamp c.life
-
-    its_running : a.fates c.stamp.trans ≡ Running c.life.client []
-    its_running = (let pair : IsPaired (Some c.life) (a.fates c.stamp.trans) = subst (λ (x : Option Life). IsPaired x (a.fates c.stamp.trans)) c.live (past.quiet.settled.paired c.stamp.trans) in pair.0)
+    decided = with_decided a c.stamp c.life []
 
     decided_undrawn : (t : TransId) → is_beyond a.holder.server a.ids.epoch a.ids.transactions t ≡ true → decided.fates t ≡ Undrawn
     decided_undrawn t far = go (same_trans c.stamp.trans t) refl
@@ -176,8 +201,25 @@ module _ {V : Type 0} (old : ServerState V) (server epoch : ℕ) (sizes : Sizes)
         go : (b : Bool) → same_trans c.stamp.trans t ≡ b → cond {A = Fate} b (Committed c.stamp [] []) (a.fates t) ≡ Undrawn
         go false e = past.undrawn t far
         go true e =
-            let wrong : Undrawn ≡ Running c.life.client [] = sym (past.undrawn t far) ∙ ap a.fates (sym (same_trans-true c.stamp.trans t e)) ∙ its_running in
+            let wrong : Undrawn ≡ Running c.life.client [] = sym (past.undrawn t far) ∙ ap a.fates (sym (same_trans-true c.stamp.trans t e)) ∙ c.runs in
             cc
+
+    decided_plain : (t : TransId) → IsPlain (decided.fates t)
+    decided_plain t = go (same_trans c.stamp.trans t)
+      where
+        go : (b : Bool) → IsPlain (cond {A = Fate} b (Committed c.stamp [] []) (a.fates t))
+        go true = refl
+        go false = past.plain t
+
+    decided_gone : (t : TransId) → if_ready (decided.holder.lives t) ≡ None
+    decided_gone t = go (same_trans t c.stamp.trans)
+      where
+        go : (b : Bool) → if_ready (cond {A = Option Life} b None (a.holder.lives t)) ≡ None
+        go true = refl
+        go false = unready t
+
+    pub decided_noted : IsNoted decided [] []
+    decided_noted = noted_none decided (none_live_in a past.lone past.quiet.settled.stands) decided_plain
 
     decided_born : SeesNoneToCome a.holder.server a.ids.epoch a.ids.files (map.get decided.holder.cells)
     decided_born f comes =
@@ -186,12 +228,12 @@ module _ {V : Type 0} (old : ServerState V) (server epoch : ℕ) (sizes : Sizes)
     decided_earlier : AreEarlier c.stamp.ts decided.holder.applied
     decided_earlier =
         let d : Decided = record { stamp = c.stamp; who = c.life.who; calls = c.life.calls } in
-        let before : AreEarlier a.holder.clock a.holder.applied = earlier_more a.holder.kept a.holder.clock a.holder.applied past.quiet.settled.order past.earlier in
+        let before : AreEarlier a.holder.clock a.holder.applied = earlier_more a.holder.kept a.holder.clock a.holder.applied past.quiet.settled.stands.order past.earlier in
         let late : a.holder.clock < c.stamp.ts = (let time : c.stamp.ts ≡ a.holder.clock + 1 = c.time in omega (arith, time)) in
         subst (AreEarlier c.stamp.ts) (sym (put-last a.holder.applied c.stamp d a.holder.clock before late)) (AreEarlier-push a.holder.applied c.stamp d a.holder.clock before (omega (arith, late)))
 
     pub made_as : (n : ClockNote) (held : Contents) → a.ids.epoch + 1 ≡ n.epoch → n.clock ≡ c.stamp.ts → held.cells ≡ edits_map c.life.edits a.holder.cells → held.notes ≡ clock_notes n → IsVolumeOf sizes held.cells
         → IsQuiet (restarted_at decided c.stamp.ts) → IsAs (restarted_at decided n.clock) held (new_kept old a.holder.server sizes n)
     made_as n held later clock cells notes volume quiet =
-        again_as old sizes decided n held past.lone some_epoch past.volume later cells notes volume past.begun decided_undrawn past.made decided_born
+        again_as old sizes decided n held past.lone some_epoch past.volume later cells notes volume past.begun decided_undrawn decided_plain decided_gone past.made decided_born
         (subst (λ (m : ℕ). AreEarlier m decided.holder.applied) (sym clock) decided_earlier) (subst (λ (m : ℕ). IsQuiet (restarted_at decided m)) (sym clock) quiet)

@@ -61,7 +61,7 @@ module _ {V : Type 0} (a : Account) (held : Contents) (k : ServerState V) (h : I
   -- what the others may write is apart from what this one may
   away_others : (u : TransId) (m : Life) → same_trans u t ≡ false → a.holder.lives u ≡ Some m → (q : Key) → Writes m.held q → Writes life.held q → ⊥
   away_others u m away is =
-      writes_apart m.held life.held (h.quiet.settled.agree u t m life is live away) (intended_of a.holder.cells k.locks.held (a.locked u) u (map.get k.lives u) (a.holder.lives u) m is (h.lives u)) mine.intended
+      writes_apart m.held life.held (h.quiet.settled.stands.agree u t m life is live away) (intended_of a.holder.cells k.locks.held (a.locked u) u (map.get k.lives u) (a.holder.lives u) m is (h.lives u)) mine.intended
 
   others_life : (u : TransId) (x : Live) (y : Life) (o : Option Live) (z : Option Life) → o ≡ Some x → z ≡ Some y → IsAlike a.holder.cells k.locks.held (a.locked u) u o z → IsLife a.holder.cells k.locks.held (a.locked u) u x y
   others_life u x y None z o_is z_is alike = let wrong : None ≡ Some x = o_is in cc
@@ -95,7 +95,7 @@ module _ {V : Type 0} (a : Account) (held : Contents) (k : ServerState V) (h : I
   -- what it needs stands
   pub needs_beside : (u : TransId) (y : Life) (c : Call) → a.holder.lives u ≡ Some y → same_trans u t ≡ false → needs_of (map.get (edits_map y.edits cells_then)) y.own c ≡ needs_of (map.get (edits_map y.edits a.holder.cells)) y.own c
   needs_beside u y c live_u away =
-      needs_stand a.holder.cells life.held life.edits y c (h.quiet.settled.agree t u life y live live_u (turned u t away))
+      needs_stand a.holder.cells life.held life.edits y c (h.quiet.settled.stands.agree t u life y live live_u (turned u t away))
       mine.intended (intended_of a.holder.cells k.locks.held (a.locked u) u (map.get k.lives u) (a.holder.lives u) y live_u (h.lives u)) mine.within (opens_of (map.get k.lives u) (a.holder.lives u) live_u (h.lives u))
     where
       turned : (b c : TransId) → same_trans b c ≡ false → same_trans c b ≡ false

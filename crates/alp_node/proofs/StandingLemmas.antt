@@ -16,7 +16,7 @@ use Rattle.alp_journal.specs.Deeds.{Deed, Finishes, Ends}
 use Rattle.alp_journal.specs.Moves.{finishes, ends_by}
 use Rattle.alp_journal.specs.Messages.{Mail, on_finish}
 use Rattle.alp_journal.specs.Answers.{Part, NoPart, AtWork, AtEnd, own_part, ended_part, part_at}
-use Rattle.alp_journal.specs.Account.{Account, state_of, IsPaired}
+use Rattle.alp_journal.specs.Account.{Account, state_of}
 use Rattle.alp_node.specs.Dead.{is_dead}
 use Rattle.alp_node.specs.ServerState.{IsAs, IsAlike}
 use Rattle.alp_node.specs.Standings.{standing_of}
@@ -27,6 +27,8 @@ use Rattle.alp_node.specs.declared.served.Standing.TheVariants as standing
 use Rattle.alp_node.specs.declared.server_state.ServerState.{ServerState}
 use Rattle.std.proofs.lemmas.Bool.{eqb-true}
 use Rattle.alp_files.specs.Cells.{Cells}
+use Rattle.alp_journal.proofs.PartLemmas.{own_part_at}
+use Rattle.alp_node.proofs.OneServer.{IsOne, one_pair, part_elsewhere}
 
 -- the part that the journal says
 abbrev pub part_of : Standing → Part
@@ -35,7 +37,7 @@ part_of standing.Dead = AtEnd cause.TimedOut
 part_of standing.Unknown = NoPart
 
 -- of what does not run nothing but its cause is left
-not_running : (client : ℕ) (dead : Option Cause) (f : Fate) → IsPaired None f → own_part client dead f ≡ ended_part dead
+not_running : (client : ℕ) (dead : Option Cause) (f : Fate) → IsOne None f → own_part client dead f ≡ ended_part dead
 not_running client dead Undrawn h = refl
 not_running client dead (Running c js) h = absurd h
 not_running client dead (Finishing c js vs) h = absurd h
@@ -43,7 +45,7 @@ not_running client dead (Committed x js ds) h = refl
 not_running client dead (Forgotten x js) h = absurd h
 not_running client dead (Ended c) h = refl
 
-own_part_is : (client : ℕ) (cells : Cells) (locks : Holders) (rs : List Resource) (t : TransId) (o : Option Live) (x : Option Life) (f : Fate) (dead : Option Cause) (b : Bool) → IsAlike cells locks rs t o x → IsPaired x f
+own_part_is : (client : ℕ) (cells : Cells) (locks : Holders) (rs : List Resource) (t : TransId) (o : Option Live) (x : Option Life) (f : Fate) (dead : Option Cause) (b : Bool) → IsAlike cells locks rs t o x → IsOne x f
     → dead ≡ cond {A = Option Cause} b (Some cause.TimedOut) None → own_part client dead f ≡ part_of (standing_of client o b)
 own_part_is client cells locks rs t None None f dead b h p is = not_running client dead f p ∙ ap ended_part is ∙ go b
   where
@@ -64,7 +66,7 @@ pub record EndsNone (client : ℕ) (t : TransId) (commit : Bool) (desk : Desk) (
   pub deeds : finishes desk client t commit r f ≡ []
   pub mail : on_finish t commit client true f ≡ []
 
-pub none_running : (client : ℕ) (t : TransId) (commit : Bool) (desk : Desk) (r : Reply) (f : Fate) → IsPaired None f → EndsNone client t commit desk r f
+pub none_running : (client : ℕ) (t : TransId) (commit : Bool) (desk : Desk) (r : Reply) (f : Fate) → IsOne None f → EndsNone client t commit desk r f
 none_running client t true desk r Undrawn h = record { deeds = refl; mail = refl }
 none_running client t false desk r Undrawn h = record { deeds = refl; mail = refl }
 none_running client t commit desk r (Running c js) h = absurd h
@@ -82,7 +84,7 @@ others_running client owner t true desk r away = record {
 }
 others_running client owner t false desk r away = record { deeds = ap (λ (b : Bool). cond {A = List Deed} b (Ends t client cause.Asked ∷ []) []) away; mail = ap (λ (b : Bool). cond {A = List Mail} b [] []) away }
 
-ends_none : (client : ℕ) (cells : Cells) (locks : Holders) (rs : List Resource) (t : TransId) (o : Option Live) (x : Option Life) (f : Fate) (b : Bool) (commit : Bool) (desk : Desk) (r : Reply) → IsAlike cells locks rs t o x → IsPaired x f
+ends_none : (client : ℕ) (cells : Cells) (locks : Holders) (rs : List Resource) (t : TransId) (o : Option Live) (x : Option Life) (f : Fate) (b : Bool) (commit : Bool) (desk : Desk) (r : Reply) → IsAlike cells locks rs t o x → IsOne x f
     → (standing_of client o b ≡ standing.Own → ⊥) → EndsNone client t commit desk r f
 ends_none client cells locks rs t None None f b commit desk r h p not_own = none_running client t commit desk r f p
 ends_none client cells locks rs t (Some l) (Some life) f b commit desk r h p not_own =
@@ -100,15 +102,15 @@ module _ {V : Type 0} (a : Account) (held : Contents) (k : ServerState V) (clien
   undrawn_elsewhere h away = h.undrawn t (ap (λ (b : Bool). not (b && nat_lt 0 t.counter && (nat_lt t.epoch a.ids.epoch || (t.epoch == a.ids.epoch && nat_le t.counter k.drawn)))) away)
 
   pub part_is : IsAs a held k → part_at (state_of a) client t ≡ part_of (standing_of client (map.get k.lives t) (is_dead client t k.dead))
-  part_is h = go (t.server == a.holder.server) refl ∙ own_part_is client a.holder.cells k.locks.held (a.locked t) t (map.get k.lives t) (a.holder.lives t) (a.fates t) (a.dead client t) (is_dead client t k.dead) (h.lives t) (h.quiet.settled.paired t) (h.dead client t)
+  part_is h = go (t.server == a.holder.server) refl ∙ own_part_is client a.holder.cells k.locks.held (a.locked t) t (map.get k.lives t) (a.holder.lives t) (a.fates t) (a.dead client t) (is_dead client t k.dead) (h.lives t) (one_pair a held k h t) (h.dead client t)
     where
       go : (b : Bool) → (t.server == a.holder.server) ≡ b → part_at (state_of a) client t ≡ own_part client (a.dead client t) (a.fates t)
-      go true e = ap (λ (b : Bool). cond {A = Part} b (own_part client (a.dead client t) (a.fates t)) (ended_part (a.dead client t))) e
-      go false e = ap (λ (b : Bool). cond {A = Part} b (own_part client (a.dead client t) (a.fates t)) (ended_part (a.dead client t))) e
+      go true e = own_part_at a t client (eqb-true t.server a.holder.server e)
+      go false e = part_elsewhere a h.lone h.quiet.settled.stands t client e
           ∙ sym (ap (own_part client (a.dead client t)) (undrawn_elsewhere h e))
 
   pub finish_none : (commit : Bool) (r : Reply) → IsAs a held k → (standing_of client (map.get k.lives t) (is_dead client t k.dead) ≡ standing.Own → ⊥) → EndsNone client t commit (state_of a).desk r (a.fates t)
-  finish_none commit r h = ends_none client a.holder.cells k.locks.held (a.locked t) t (map.get k.lives t) (a.holder.lives t) (a.fates t) (is_dead client t k.dead) commit (state_of a).desk r (h.lives t) (h.quiet.settled.paired t)
+  finish_none commit r h = ends_none client a.holder.cells k.locks.held (a.locked t) t (map.get k.lives t) (a.holder.lives t) (a.fates t) (is_dead client t k.dead) commit (state_of a).desk r (h.lives t) (one_pair a held k h t)
 
 -- the client's own is live
 pub own_standing : (client : ℕ) (o : Option Live) (b : Bool) → IsOf client o → standing_of client o b ≡ standing.Own

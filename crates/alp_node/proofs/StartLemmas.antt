@@ -42,12 +42,14 @@ use Rattle.alp_vault.specs.Volumes.{IsVolumeOf, AreNotesSoFar}
 use Rattle.alp_base.specs.declared.faults.Sizes.{Sizes}
 use Rattle.alp_journal.specs.Opening.{Start, start_at}
 use Rattle.alp_journal.proofs.NoteLemmas.{started_plain}
+use Rattle.alp_journal.proofs.StandLemmas.{none_known}
 use Rattle.alp_journal.specs.Coordinator.{Undrawn}
+use Rattle.alp_journal.specs.Participant.{Unseen}
 use Rattle.alp_journal.specs.Holder.{holder_opened}
 use Rattle.alp_journal.specs.State.{opened}
 use Rattle.alp_journal.specs.Laws.{IsLawful}
 use Rattle.alp_journal.specs.Answered.{IsAnswered}
-use Rattle.alp_journal.specs.Account.{Account, state_of, AreOwnEvents}
+use Rattle.alp_journal.specs.Account.{Account, state_of as account_state, HasTried, AreOwnEvents}
 use Rattle.alp_node.specs.declared.server_state.ServerState.{ServerState}
 use Rattle.alp_node.specs.declared.lives.Live.{Live}
 use Rattle.alp_node.specs.NodeStates.{NodeState}
@@ -180,18 +182,20 @@ new_alone o = record {
   servers = o.servers;
   sizes = o.sizes;
   ids = record { epoch = o.epoch; transactions = 0; joins = 0; files = 0 };
-  holder = holder_opened o;
+  holder = record (holder_opened o) { lives = λ t. None };
   fates = λ t. Undrawn;
+  phases = λ j. Unseen;
   sessions = λ client. None;
   waits = [];
   dead = λ client t. None;
   locked = λ t. [];
   begun = [];
+  joined = [];
   is_down = false;
   pending = [];
 }
 
-pub new_says : (server servers : ℕ) (sizes : Sizes) (cells : Cells) (notes : Notes) → AreClockNotes notes → opened (start_at server servers sizes cells notes) ≡ state_of (new_alone (start_at server servers sizes cells notes))
+pub new_says : (server servers : ℕ) (sizes : Sizes) (cells : Cells) (notes : Notes) → AreClockNotes notes → opened (start_at server servers sizes cells notes) ≡ account_state (new_alone (start_at server servers sizes cells notes))
 new_says server servers sizes cells notes are = ap opened (started_plain server servers sizes cells notes are)
 
 pub alike_none : (cells : Cells) (t : TransId) → IsAlike cells map.empty [] t (map.get no_lives t) None
@@ -225,7 +229,7 @@ alone_there server servers few first n = go (nat_lt 0 n) (nat_lt n (servers + 1)
 pub new_as : {V : Type 0} (old : ServerState V) (server servers last : ℕ) (sizes : Sizes) (c : ClockNote) (held : Contents)
     → ((f : FileId) (x : Cell) → map.get held.cells (Leader f) ≡ Some x → (f.server ≡ server) × (f.epoch ≤ last)) → last < c.epoch → clock_kept held.notes ≡ c → held.notes ≡ clock_notes c → IsVolumeOf sizes held.cells
     → servers ≡ 1 → server ≡ 1 → IsAs (new_alone (start_at server servers sizes held.cells held.notes)) held (new_kept old server sizes c)
-new_as old server servers last sizes c held ids later kept state_of volume few first =
+new_as old server servers last sizes c held ids later kept noted volume few first =
     let epoch : (clock_kept held.notes).epoch ≡ c.epoch = ap (λ (x : ClockNote). x.epoch) kept in
     record {
       server = refl;
@@ -234,7 +238,7 @@ new_as old server servers last sizes c held ids later kept state_of volume few f
       clock = ap (λ (x : ClockNote). x.clock) kept;
       cells = λ _. refl;
       sized = volume_sized sizes held.cells volume;
-      notes = λ _. state_of ∙ ap clock_notes (sym kept);
+      notes = λ _. noted ∙ ap clock_notes (sym kept);
       places = refl;
       sessions = λ client. sym (no_session client);
       dead = λ client t. refl;
@@ -245,6 +249,7 @@ new_as old server servers last sizes c held ids later kept state_of volume few f
       drawn = refl;
       begun = record { early = []; old = tt; all = refl };
       undrawn = λ t beyond. refl;
+      plain = λ t. tt;
       ends = ends_none server (clock_kept held.notes).epoch [] (λ t. Undrawn);
       lone = alone_there server servers few first;
       files = refl;
@@ -256,16 +261,32 @@ new_as old server servers last sizes c held ids later kept state_of volume few f
       asked = tt;
       quiet = record {
         settled = record {
-          agree = λ t u k l a b away. (let wrong : None ≡ Some k = a in cc);
-          paired = λ t. tt;
-          ended = λ client t why is. (let wrong : None ≡ Some why = is in cc);
-          parts = tt;
-          came = tt;
-          apart = tt;
-          order = le_refl (clock_kept held.notes).clock;
+          stands = record {
+            agree = λ t u k l a b away. (let wrong : None ≡ Some k = a in cc);
+            paired = λ t. refl;
+            held = λ j. tt;
+            votes = λ t. refl;
+            forgets = λ t. refl;
+            fates = λ t. refl;
+            begun = refl;
+            known = none_known server (clock_kept held.notes).epoch [];
+            phases = λ j. refl;
+            joined = refl;
+            single = λ j k x is its. (let wrong : None ≡ Some x = is in cc);
+            order = le_refl (clock_kept held.notes).clock;
+          };
+          tells = record {
+            ended = λ client t why is. absurd (let wrong : None ≡ Some why = is in cc);
+            parts = tt;
+            others = tt;
+            came = tt;
+            apart = tt;
+            joining = λ j. tt;
+            finishing = λ t. tt;
+          };
         };
         turns = tt;
-        tried = inl refl;
+        tried = HasTried.nothing refl;
       };
       down = refl;
     }
@@ -313,7 +334,7 @@ raised_last held c e = (after_any (map.get held.notes clock_name) c e).last
 pub raised_some : (held : Contents) (c : ClockNote) → raised held ≡ Ok c → 0 < c.epoch
 raised_some held c e = some_epoch (clock_kept held.notes).epoch c.epoch (raised_later held c e)
 
-pub new_right : {V : Type 0} (n : NodeState V) (o : Start) (held : Contents) → n.journal ≡ [] → opened o ≡ state_of (new_alone o) → o.ready ≡ [] → o.decisions ≡ [] → AreSound o.cells → AreSized (map.get o.cells) → IsAs (new_alone o) held n.kept → IsRight o held n
+pub new_right : {V : Type 0} (n : NodeState V) (o : Start) (held : Contents) → n.journal ≡ [] → opened o ≡ account_state (new_alone o) → o.ready ≡ [] → o.decisions ≡ [] → AreSound o.cells → AreSized (map.get o.cells) → IsAs (new_alone o) held n.kept → IsRight o held n
 new_right n o held empty says ready decided sound sized h = record {
   opening = record { files = sound; sizes = sized; ready = ready; decisions = decided };
   lawful = subst (IsLawful o) (sym empty) tt;

@@ -1,5 +1,5 @@
 -- When transactions of an epoch were decided, by their counters.
-use Rattle.std.specs.Prelude.{◌≡◌, ℕ, ◌<◌, ◌≤◌, ◌-◌, List, length, Option, None, Some, slice_get, slice_set}
+use Rattle.std.specs.Prelude.{◌≡◌, ℕ, ◌<◌, ◌≤◌, ◌-◌, List, [], length, Option, None, Some, slice_get, slice_set}
 use Rattle.std.specs.List.{AllByRecursion}
 use Rattle.alp_base.specs.declared.ids.Stamp.{Stamp}
 use Rattle.alp_base.specs.declared.ids.TransId.{TransId}
@@ -34,6 +34,12 @@ IsEnd time t (Finishing client joins votes) = time ≡ 0
 IsEnd time t (Committed stamp joins done) = (0 < time) × (stamp ≡ record { ts = time; trans = t })
 IsEnd time t (Forgotten stamp joins) = ⊥
 IsEnd time t (Ended c) = time ≡ 0
+
+-- a decision has no joins, and stands
+abbrev pub IsPlain : Fate → Type 0
+IsPlain (Committed stamp joins done) = joins ≡ []
+IsPlain (Forgotten stamp joins) = ⊥
+IsPlain f = Unit {0}
 
 -- so are all of this server and epoch, up to a counter
 abbrev pub HaveEnds : (server epoch count : ℕ) → List ℕ → (TransId → Fate) → Type 0

@@ -24,7 +24,8 @@ use Rattle.alp_journal.specs.Opening.{Start}
 use Rattle.alp_journal.specs.State.{State, is_other_server}
 use Rattle.alp_journal.specs.Laws.{IsLawful}
 use Rattle.alp_journal.specs.Answered.{IsAnswered}
-use Rattle.alp_journal.specs.Account.{Account, state_of, IsQuiet, AreEarlier, AreOwnEvents}
+use Rattle.alp_journal.specs.Account.{Account, state_of as account_state, IsQuiet, AreEarlier, AreOwnEvents}
+use Rattle.alp_node.specs.Decisions.{IsPlain}
 use Rattle.alp_node.specs.DownStates.{DownState}
 use Rattle.alp_node.specs.NodeStates.{NodeState}
 use Rattle.alp_node.specs.Durable.{stored_by, Leaves}
@@ -52,16 +53,17 @@ pub record IsLeftOf (s : State) (c : Contents) : Type 0 where
 -- ---- a server that fell
 
 -- Of the state that a server fell in these stay: which it is, and that no other is of the run; the ids that it gave and those that it
--- did not; what was applied; and that it was quiet.
+-- did not; that no decision has joins; what was applied; and that it was quiet.
 pub record IsPast (a : Account) (server epoch : ℕ) (sizes : Sizes) : Type 0 where
   pub number : a.holder.server ≡ server
-  pub lone : (n : ℕ) → is_other_server (state_of a) n ≡ false
+  pub lone : (n : ℕ) → is_other_server (account_state a) n ≡ false
   pub volume : a.sizes ≡ sizes
   pub now : a.ids.epoch ≡ epoch
   pub clock : a.holder.clock ≤ 2 ^ 62
   pub unborn : (t : TransId) (l : Life) → a.holder.lives t ≡ Some l → PutNoneBeyond a.holder.server a.ids.epoch a.ids.files l.edits
   pub begun : HaveBegun a.holder.server a.ids.epoch a.ids.transactions a.begun
   pub undrawn : (t : TransId) → is_beyond a.holder.server a.ids.epoch a.ids.transactions t ≡ true → a.fates t ≡ Undrawn
+  pub plain : (t : TransId) → IsPlain (a.fates t)
   pub made : AreMade a.holder.server a.ids.epoch a.ids.files a.holder.made
   pub born : SeesNoneToCome a.holder.server a.ids.epoch a.ids.files (map.get a.holder.cells)
   pub earlier : AreEarlier a.holder.kept a.holder.applied
@@ -74,7 +76,7 @@ pub record IsPastRight {V : Type 0} (o : Start) (sizes : Sizes) (d : DownState V
   pub caused : IsAnswered o d.journal
   pub own : AreOwnEvents d.journal
   pub state : Account
-  pub says : state_of o d.journal ≡ state_of state
+  pub says : state_of o d.journal ≡ account_state state
   pub past : IsPast state d.server d.epoch sizes
 
 -- what it was started on

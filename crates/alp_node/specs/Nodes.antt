@@ -26,7 +26,7 @@ use Rattle.alp_journal.specs.State.{State, opened}
 use Rattle.alp_journal.specs.Moves.{next, is_stop}
 use Rattle.alp_journal.specs.Laws.{IsLawful}
 use Rattle.alp_journal.specs.Answered.{IsAnswered, IsAnsweredEntry, entries_limit}
-use Rattle.alp_journal.specs.Account.{Account, state_of, AreOwnEvents}
+use Rattle.alp_journal.specs.Account.{Account, state_of as account_state, AreOwnEvents}
 use Rattle.alp_node.specs.NodeStates.{NodeState}
 use Rattle.alp_node.specs.ServerState.{IsAs, IsReady}
 use Rattle.alp_node.specs.Durable.{IsDurable}
@@ -64,7 +64,7 @@ pub record IsRight {V : Type 0} (o : Start) (held : Contents) (n : NodeState V) 
   pub caused : IsAnswered o n.journal
   pub own : AreOwnEvents n.journal
   pub state : Account
-  pub says : state_of o n.journal ≡ state_of state
+  pub says : state_of o n.journal ≡ account_state state
   pub kept : IsAs state held n.kept
 
 -- ---- what is sent

@@ -1,6 +1,6 @@
 -- What a server keeps is what its journal says. Of each part of the journal's state:
 -- the coordinator: the live transactions are just those that run, and no id beyond the count was drawn;
--- the participant: no join was drawn, as `Alone` says;
+-- the participant: no join is live, as no other server is of the run;
 -- the holder: the vault has the cells, and one note, of the epoch and the kept clock; each live part has its intents, opens and locks;
 -- the desk: the sessions are just those, each with its principal, its last number and the reply to that; the calls that wait and
 -- the parts that timed out are those of the lists, and the table's queue is that of the calls that have not their locks;
@@ -37,7 +37,7 @@ use Rattle.alp_journal.specs.Account.{Account, state_of, IsQuiet, AreEarlier}
 use Rattle.alp_node.specs.Asks.{is_given}
 use Rattle.alp_node.specs.Covers.{AreHeld, AreSizedEdits}
 use Rattle.alp_node.specs.Dead.{dead_in}
-use Rattle.alp_node.specs.Decisions.{AreTimes, HaveEnds}
+use Rattle.alp_node.specs.Decisions.{AreTimes, HaveEnds, IsPlain}
 use Rattle.alp_node.specs.Durable.{clock_notes}
 use Rattle.alp_node.specs.Rooms.{IsWithin}
 use Rattle.alp_node.specs.Sessions.{session_at}
@@ -135,7 +135,7 @@ IsWaitingAs h locked w = (l : Life) → h.lives w.trans ≡ Some l → IsAskedAs
 -- ---- all of it
 
 -- The server keeps what this state says, with this in its vault, which counts while it is not down; and it is down just
--- where the vault was stopped, or failed in a commit. No other server is of the run.
+-- where the vault was stopped, or failed in a commit. No other server is of the run, and no decision has joins.
 pub record IsAs {V : Type 0} (a : Account) (held : Contents) (k : ServerState V) : Type 0 where
   pub server : a.holder.server ≡ k.server
   pub lone : (n : ℕ) → is_other_server (state_of a) n ≡ false
@@ -158,6 +158,7 @@ pub record IsAs {V : Type 0} (a : Account) (held : Contents) (k : ServerState V)
   pub drawn : a.ids.transactions ≡ k.drawn
   pub begun : HaveBegun a.holder.server a.ids.epoch k.drawn a.begun
   pub undrawn : (t : TransId) → is_beyond a.holder.server a.ids.epoch k.drawn t ≡ true → a.fates t ≡ Undrawn
+  pub plain : (t : TransId) → IsPlain (a.fates t)
   pub ends : HaveEnds a.holder.server a.ids.epoch k.drawn k.decisions a.fates
   pub files : a.ids.files ≡ k.given
   pub made : AreMade a.holder.server a.ids.epoch k.given a.holder.made

@@ -81,7 +81,7 @@ returns g c =
     subst (λ (y : ServerState _). IsStep G k y e (Ok x)) (sym kept)
     (left_step G k after refl refl refl (left_same G k.vault) e x c.requires.up
     (λ told a h. subst (λ (n : ℕ). Stepped a faults faults held (record after { clock = n }) e x) (sym c.max-clock.ensures)
-    (begin_stepped a held k turn.client turn.number (session_of turn c.requires.turn) c.args.seen c.new-2.result faults faults x (entered k.locks t) h c.requires.turn.client c.requires.up c.requires.turn.session c.requires.turn.number few new
+    (begin_stepped a held k turn.client turn.number (session_of turn c.requires.turn) c.args.seen c.new-2.result faults faults x (entered k.locks t) h c.requires.turn.client c.requires.up c.requires.turn.session c.requires.turn.number ready.raised few new
     (λ u q. ap (λ y. map.get y q) (entering-keeps-held k.locks t u)) c.new-2.ensures.own c.new-2.ensures.intents c.new-2.ensures.counts ready.decisions.all named away refl (entering-keeps-held k.locks t) is))
     (reply_given k.server faults faults (G.allowance k.vault) k.is_down r (act.Drawn t ∷ []) x is (counts_none k.server faults faults k.is_down (Some r) refl refl c.requires.up) c.requires.up tt)
     (λ n h. begin_ready n serves k turn t l c.max-clock.result c.requires.turn refl c.new-2.ensures.own (new_within k.sizes turn.client turn.who c.new-2.result c.new-2.ensures.intents c.new-2.ensures.counts h.sized) few (omega (arith, c.max-clock.ensures)) (omega (arith, c.max-clock.ensures, h.clock, c.requires.time)) h)
