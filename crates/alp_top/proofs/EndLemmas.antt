@@ -240,7 +240,7 @@ module _ {V : Type 0} (G : Ghosts V) (lines : List NumberedLine) (n : NodeState 
     report =
         let many : length (decided (log_of G log)) ≡ length (state_of G n).holder.applied =
         ap (λ (l : logs.Log). length (decided l)) log_single ∙ decided_many as_read (runs.handed_of (lists_of G log)) is_single ∙ ap (λ (s : State). length s.holder.applied) ends_at in
-        ap (λ (ts : List ℕ). ts ++ ending_text (state_of G n)) (out.text ∙ ap turns_text turns_same) ∙ report_is G lines log x (state_of G n) (length (decided (log_of G log))) servers.one ends_at refl many
+        ap (λ (ts : List ℕ). ts ++ ending_text (state_of G n)) (out.text ∙ ap turns_text turns_same) ∙ report_is G lines log x (state_of G n) (length (decided (log_of G log))) servers.one ends_at is_single.decisions many
 
     -- what is printed is the report, and the vault holds what the journal says
     pub run_over : (first : NodeState V) → n.opening ≡ first.opening → (v : V) → IsTrue (G.serves v) → G.held v ≡ G.held n.kept.vault → IsEnded G lines first v log printed
