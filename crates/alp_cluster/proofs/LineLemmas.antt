@@ -26,7 +26,7 @@ use Rattle.alp_session.specs.declared.waiting.Next.TheVariants as next
 use Rattle.alp_session.specs.declared.waiting.Settings.{Settings}
 use Rattle.alp_session.specs.Crowd.{Crowd}
 use Rattle.alp_session.specs.Crowds.{client_at, with_client, asks, hears, at_line, declares, times_out, Sends}
-use Rattle.alp_session.proofs.AheadLemmas.{hears_fewer}
+use Rattle.alp_session.proofs.AheadLemmas.{first_few, hears_fewer}
 use Rattle.alp_session.proofs.CrowdLemmas.{at_same, at_other, as_many}
 use Rattle.alp_vault.specs.declared.vault.Vault.{Ghosts}
 use Rattle.alp_node.specs.NodeStates.{NodeState}
@@ -78,6 +78,10 @@ module _ (c new : Crowd) (k : ℕ) (l : Line) (now : Next) (frame : Addressed) (
   fewer_behind places small way asked =
       subst (λ (p : Crowd × Next). IsOnItsWay p.0.words (client_at p.0 k) l p.1 × (ahead p.0.words (client_at p.0 k) l p.1 < ahead c.words (client_at c k) l now)) e
       (hears_fewer c k l now frame r (omega (arith, places, small)) way asked)
+
+-- a whole line has at most five
+pub few_line : (words : WordMap) (c : Client) (l : Line) (n : ℕ) → n ≤ ahead words c l next.Call → n ≤ 5
+few_line words c l n few = omega (arith, few, first_few words c l)
 
 -- ---- the items of a line
 
