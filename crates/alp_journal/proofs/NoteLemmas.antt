@@ -28,25 +28,21 @@ use Rattle.alp_files.proofs.SumLemmas.{sum_of-nothing}
 use Rattle.alp_journal.specs.Opening.{Start, ReadyNote, DecisionNote, ready_noted, decision_noted, ready_kept, decisions_kept, start_at}
 
 -- one where there is something
-count : {A : Type 0} → Option A → ℕ
+abbrev count : {A : Type 0} → Option A → ℕ
 count None = 0
 count (Some x) = 1
 
+none_more : {A : Type 0} (f : List ℕ × List ℕ → Option A) (e : List ℕ × List ℕ) (es : List (List ℕ × List ℕ)) → count (f e) + sum_by (λ x. count (f x)) es ≡ 0 → filter_map f es ≡ [] → (o : Option A) → f e ≡ o → filter_map f (e ∷ es) ≡ []
+none_more f e es sum rest None is = rw is rest
+none_more f e es sum rest (Some x) is =
+    let one : count (f e) ≡ 1 = ap count is in
+    absurd (omega (arith, sum, one))
+
 none_counted : {A : Type 0} (f : List ℕ × List ℕ → Option A) (es : List (List ℕ × List ℕ)) → sum_by (λ e. count (f e)) es ≡ 0 → filter_map f es ≡ []
 none_counted f [] h = refl
-none_counted {A} f (e ∷ es) h = go (f e) refl
-  where
-    sum : count (f e) + sum_by (λ x. count (f x)) es ≡ 0
-    sum = sym (sum_by-cons (λ x. count (f x)) e es) ∙ h
-
-    rest : filter_map f es ≡ []
-    rest = none_counted f es (omega (arith, sum))
-
-    go : (o : Option A) → f e ≡ o → filter_map f (e ∷ es) ≡ []
-    go None is = rw is rest
-    go (Some x) is =
-        let one : count (f e) ≡ 1 = ap count is in
-        absurd (omega (arith, sum, one))
+none_counted f (e ∷ es) h =
+    let sum : count (f e) + sum_by (λ x. count (f x)) es ≡ 0 = sym (sum_by-cons (λ x. count (f x)) e es) ∙ h in
+    none_more f e es sum (none_counted f es (omega (arith, sum))) (f e) refl
 
 its_name : (name value : List ℕ) → is_clock_note name value ≡ true → name ≡ clock_name
 its_name name value h = same_name-true name clock_name (and_parts (pointwise nat_eq name clock_name) (is_some (whole clock_form value)) h).0
@@ -73,11 +69,14 @@ named_decided notes are =
     none_counted (λ e. decision_noted (decision_in e.0 e.1)) (map.entries notes)
     (sum_of-nothing nat_list_cmp_total exact_bytes (λ e. count (decision_noted (decision_in e.0 e.1))) notes (λ name value there. ap (λ (o : Option (TransId × Decision)). count (decision_noted o)) (decision_in_named name value (are name value there))))
 
+abbrev no_notes : Notes
+no_notes = map.empty
+
 -- a note of the clock alone
 pub only_clock : (value : List ℕ) → AreNamedClock (map.insert map.empty clock_name value)
 only_clock value name v there = go (eq_by_cmp text_cmp name clock_name) refl (sym (get-insert nat_list_cmp_total map.empty clock_name value name) ∙ there)
   where
-    go : (t : Bool) → eq_by_cmp text_cmp name clock_name ≡ t → cond t (Some value) (map.get map.empty name) ≡ Some v → name ≡ clock_name
+    go : (t : Bool) → eq_by_cmp text_cmp name clock_name ≡ t → cond t (Some value) (map.get no_notes name) ≡ Some v → name ≡ clock_name
     go true e h = tells_apart exact_bytes name clock_name e
     go false e h = let wrong : None ≡ Some v = sym (get-empty text_cmp name) ∙ h in cc
 
