@@ -23,7 +23,7 @@ use Rattle.alp_history.specs.Items.{stamps_in}
 use Rattle.alp_session.specs.Maps.{WordMap, SessionMap}
 use Rattle.alp_session.specs.Props.{later}
 use Rattle.alp_session.specs.Clients.{first_of}
-use Rattle.alp_session.specs.Heard.{left, forgets, told_refusal, created, opened as opened_said, told_end, joined_in, knows_part, started, learned_reply, told_only, purpose_of, collects_by_itself, is_waiting_at, waiting_for, awaiting, called, joined_reply, part_known, joined_late, opened_late, late_reply, collected_reply, purpose_in, others, one_more, waits_on, collected, answered, counted_in, counted, heard_again}
+use Rattle.alp_session.specs.Heard.{left, forgets, told_refusal, created, opened as opened_said, told_end, joined_in, knows_part, started, learned_reply, told_only, purpose_of, collects_by_itself, is_waiting_at, waiting_for, awaiting, called, joined_reply, is_part, part_known, joined_late, opened_late, late_reply, collected_reply, purpose_in, others, one_more, waits_on, collected, answered, counted_in, counted, heard_again}
 use Rattle.alp_session.specs.declared.asking.Asking.{Asking}
 use Rattle.alp_session.specs.declared.asking.Asking.TheVariants as asking
 use Rattle.alp_session.specs.declared.asking.Sending.{Sending}
@@ -217,7 +217,7 @@ waits_on_knows : (s : Settings) (c : Client) → Knows c (waits_on s c).0 (reply
 waits_on_knows s c = with_waits c c (one_more c.waiting) (reply.Refused refusal.NotYet) (knows_same c c (reply.Refused refusal.NotYet) refl (same_known c))
 
 -- what a client asked, and where and when it did, at the server of the run
-abbrev at_one : ℕ → Next → Settings → Sending
+abbrev pub at_one : ℕ → Next → Settings → Sending
 at_one number n s = record { server = 1; number = number; next = n; settings = s }
 
 module _ (number : ℕ) (n : Next) (s : Settings) where

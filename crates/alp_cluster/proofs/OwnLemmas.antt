@@ -166,7 +166,7 @@ module _ {V : Type 0} (s t : ServerState V) (k : ℕ) (c : Client) (now : Next) 
   }
 
   -- or the session begins
-  begins_at : ℕ → Client
+  abbrev begins_at : ℕ → Client
   begins_at epoch = record c { sessions = map.insert c.sessions 1 (record { epoch = epoch; last = 1; joined = None }) }
 
   begun_session : (epoch : ℕ) → session_of (begins_at epoch) ≡ Some (record { epoch = epoch; number = 1 })

@@ -2,6 +2,9 @@
 use Rattle.std.specs.Prelude.{◌==◌, true, false, Bool, cond, filter, map as list_map, Option, None, Some, IfSome, Vec, replicate}
 use Rattle.std.specs.Global.{Global}
 use Rattle.std.specs.List.{AllByRecursion}
+use Rattle.std.specs.FinMap.{get-empty}
+use Rattle.std.specs.Ordering.{nat_cmp}
+use Rattle.std.specs.Option.{option_map}
 use Rattle.std.proofs.Common.{inl, inr, ◌≡◌, ℕ, zero, suc, ◌+◌, ◌*◌, ◌<◌, ◌≤◌, ◌^◌, List, [], ◌∷◌, ◌++◌, length, take, get_or, refl, sym, ◌∙◌, ap, subst, arith, append_assoc, append-nil, length-append}
 use Rattle.std.proofs.lemmas.List.{take_more, map-append, length-replicate, length-map}
 use Rattle.std.proofs.lemmas.Grind.{flat_map-append}
@@ -38,7 +41,7 @@ use Rattle.alp_cluster.specs.Happens.{Happening, sent_it, timed_out, ticked, for
 use Rattle.alp_cluster.specs.Plays.{Due, timeouts_in, trans_of, happened, sent_of, IsSettling, GivesLine, PlaysLine, Plays, ArePlayed, IsBegun, BeginsLine}
 use Rattle.alp_cluster.specs.Runs.{HasPlayed, HasPlayedOut, HasEndedEarly, HasSettled, SettlesSome}
 use Rattle.alp_cluster.specs.Servers.{IsOn, IsIdle, stand_of}
-use Rattle.alp_cluster.specs.Steps.{session_of, HasReached, SpellsPast, IsWithin, HasSentFor, IsToldOf, SpellsOfTold, HasSaid, Adds, AddsSome}
+use Rattle.alp_cluster.specs.Steps.{come_in, session_of, HasReached, SpellsPast, IsWithin, HasSentFor, IsToldOf, SpellsOfTold, HasSaid, Adds, AddsSome}
 use Rattle.alp_cluster.specs.Turns.{Turn, lists_in, own_in, sent_in, turn_of, turns_of, turns_text}
 use Rattle.alp_cluster.specs.declared.fault.RunFault.{RunFault}
 use Rattle.alp_cluster.proofs.GoLemmas.{recorded_append}
@@ -389,13 +392,16 @@ new_list [] k h = refl
 new_list (v ∷ vs) zero h = h.0
 new_list (v ∷ vs) (suc k) h = new_list vs k h.1
 
+none_at : session_of new_client ≡ None
+none_at = ap (option_map come_in) (get-empty nat_cmp 1)
+
 -- nobody knows a session, and nobody was told a thing
 new_session : (k : ℕ) → session_of (client_at new_crowd k) ≡ None
 new_session k = go 17 k
   where
     go : (n k : ℕ) → session_of (get_or (replicate n new_client) k new_client) ≡ None
-    go zero k = refl
-    go (suc n) zero = refl
+    go zero k = none_at
+    go (suc n) zero = none_at
     go (suc n) (suc k) = go n k
 
 new_told : (k : ℕ) → (client_at new_crowd k).told.ts ≡ 0
