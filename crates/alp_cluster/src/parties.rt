@@ -159,7 +159,6 @@ impl<V: Vault> Parties<V> {
     }
 
     /// The line of a client, with its line of the report.
-    #[tactic(auto, using(crate::proofs::LineLemmas::few_line))]
     pub(crate) fn play_own(
         &mut self,
         items: &mut Vec<Item>,

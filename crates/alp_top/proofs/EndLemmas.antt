@@ -50,7 +50,7 @@ use Rattle.alp_cluster.specs.declared.standing.Standing.TheVariants as standing
 use Rattle.alp_cluster.specs.declared.standing.Standing.TheVariants.{Playing}
 use Rattle.alp_cluster.specs.Plays.{ArePlayed, ranks_from}
 use Rattle.alp_cluster.specs.Runs.{HasPlayedOut}
-use Rattle.alp_cluster.specs.Servers.{IsOn, IsDone, StaysDown, state_of, stand_of}
+use Rattle.alp_cluster.specs.Servers.{IsOn, IsDone, StaysDown, state_of as node_state, stand_of}
 use Rattle.alp_cluster.specs.Turns.{Turn, lists_in, own_in, turns_of, turns_text}
 use Rattle.alp_cluster.proofs.RunLemmas.{turns_are, played_sent}
 use Rattle.alp_top.specs.Anywhere.{IsPlayedThrough}
@@ -73,7 +73,7 @@ module _ {V : Type 0} (G : Ghosts V) (n : NodeState V) (on : IsOn G n) (up : n.k
   of_journal = on.kept.right told
 
   -- what the server keeps is what is printed of its journal's state
-  pub ending_is : (e : Ending) → IsEnding n e → summary_text (holding_of e (G.held n.kept.vault).cells ∷ []) e.committed e.aborted ≡ ending_text (state_of G n)
+  pub ending_is : (e : Ending) → IsEnding n e → summary_text (holding_of e (G.held n.kept.vault).cells ∷ []) e.committed e.aborted ≡ ending_text (node_state G n)
   unfolding ending_text
   ending_is e is =
       let r = of_journal in
@@ -87,7 +87,7 @@ module _ {V : Type 0} (G : Ghosts V) (n : NodeState V) (on : IsOn G n) (up : n.k
       ∙ ap (λ (z : State). summary_text (holding_in z ∷ []) (length z.holder.applied) (length z.begun - length z.holder.applied)) (sym r.says)
 
   -- its vault holds what its journal says
-  pub held_is : G.held n.kept.vault ≡ said_of (state_of G n)
+  pub held_is : G.held n.kept.vault ≡ said_of (node_state G n)
   held_is =
       let k = of_journal.kept in
       (λ i. record { cells = k.cells up i; notes = k.notes up i }) ∙ ap said_of (sym of_journal.says)
@@ -140,7 +140,7 @@ module _ {V : Type 0} (G : Ghosts V) (lines : List NumberedLine) (n : NodeState 
   turns_same : out.turns ≡ turns_of lines (lists_of G log)
   turns_same = turns_are new_crowd out.played.clients lines out.turns out.played.by_lines (lists_of G log) rises out.played.plays lists_are
 
-  ends_at : end_of G 1 x ≡ state_of G n
+  ends_at : end_of G 1 x ≡ node_state G n
   ends_at = (λ i. state_after next (opened (same i)) (servers.entries i))
 
   abbrev as_read : logs.ServerLog
@@ -195,8 +195,6 @@ module _ {V : Type 0} (G : Ghosts V) (lines : List NumberedLine) (n : NodeState 
       lawful = subst (λ (o : Start). IsLawful o x.journal) (sym same) (subst (IsLawful (start_in G n)) (sym servers.entries) right.lawful);
       own = subst AreOwnEvents (sym servers.entries) right.own;
       ranks = servers.ranks ∙ ap (ranks_from 1) (sym servers.entries);
-      state = right.state;
-      says = ends_at ∙ right.says;
     }
 
     is_said : IsSaid as_read (runs.handed_of (lists_of G log)) out.turns n.kept (client_at out.played.clients)
@@ -236,11 +234,11 @@ module _ {V : Type 0} (G : Ghosts V) (lines : List NumberedLine) (n : NodeState 
           kept = promises (log_of G log) proper_log clients;
         }
 
-    report : text ++ ending_text (state_of G n) ≡ report_of G lines log
+    report : text ++ ending_text (node_state G n) ≡ report_of G lines log
     report =
-        let many : length (decided (log_of G log)) ≡ length (state_of G n).holder.applied =
+        let many : length (decided (log_of G log)) ≡ length (node_state G n).holder.applied =
         ap (λ (l : logs.Log). length (decided l)) log_single ∙ decided_many as_read (runs.handed_of (lists_of G log)) is_single ∙ ap (λ (s : State). length s.holder.applied) ends_at in
-        ap (λ (ts : List ℕ). ts ++ ending_text (state_of G n)) (out.text ∙ ap turns_text turns_same) ∙ report_is G lines log x (state_of G n) (length (decided (log_of G log))) servers.one ends_at is_single.decisions many
+        ap (λ (ts : List ℕ). ts ++ ending_text (node_state G n)) (out.text ∙ ap turns_text turns_same) ∙ report_is G lines log x (node_state G n) (length (decided (log_of G log))) servers.one ends_at is_single.decisions many
 
     -- what is printed is the report, and the vault holds what the journal says
     pub run_over : (first : NodeState V) → n.opening ≡ first.opening → (v : V) → IsTrue (G.serves v) → G.held v ≡ G.held n.kept.vault → IsEnded G lines first v log printed
@@ -307,7 +305,7 @@ vault_down d x w is of = subst (λ (y : Server _). IsVaultOf y w) is of
 
 module _ {V : Type 0} (G : Ghosts V) where
   -- what a crash leaves of a server that has come to its last epoch
-  left_down : (n : NodeState V) (d : DownState V) (pick : ℕ) → StaysDown G pick n d start_fault.EpochEnd → IsTrue (G.tells d.vault) → (c : Contents) → G.may_leave d.vault c → IsLeftOf (state_of G n) c
+  left_down : (n : NodeState V) (d : DownState V) (pick : ℕ) → StaysDown G pick n d start_fault.EpochEnd → IsTrue (G.tells d.vault) → (c : Contents) → G.may_leave d.vault c → IsLeftOf (node_state G n) c
   left_down n d pick h told c may =
       let same : d.vault ≡ h.fallen.vault = h.stays.cause.1 in
       let began : start_down G h.fallen ≡ start_in G n = (λ i. node.start_by G (h.falls.server i) (h.falls.opening i).vault.value) in

@@ -1,11 +1,12 @@
 use Rattle.std.specs.Prelude.{Err}
-use Rattle.std.proofs.Common.{◌<◌, ◌≤◌, List, [], ◌∷◌, ◌++◌, length, refl, sym, ◌∙◌, ap, append-nil, append_assoc, arith}
+use Rattle.std.proofs.Common.{rules, ◌<◌, ◌≤◌, List, [], ◌∷◌, ◌++◌, length, refl, sym, ◌∙◌, ap, append-nil, append_assoc, arith}
 use Rattle.std.proofs.lemmas.Result.{on_ok_weaker}
 use Rattle.alp_journal.specs.declared.log.Item.{Item}
 use Rattle.alp_session.proofs.CallLemmas.{form_askable}
-use Rattle.alp_session.specs.Ahead.{ahead}
+use Rattle.alp_session.specs.Ahead.{ahead, IsOnItsWay}
 use Rattle.alp_session.specs.Crowds.{client_at, times_out}
 use Rattle.alp_cluster.specs.declared.fault.RunFault.TheVariants as fault
+use Rattle.alp_cluster.specs.Steps.{InStep, IsOwnNext}
 use Rattle.alp_cluster.proofs.LineLemmas.{more_line, own_behind, fewer_behind}
 use Rattle.alp_cluster.proofs.FillLemmas.{frame_some, more_some}
 use Rattle.alp_cluster.proofs.GoneLemmas.{gone_nothing, gone_both, gone_handed, full_then, full_map, end_memory, handed_on}
@@ -50,25 +51,17 @@ returns-in_err-behind-clause-filled g t c =
       frame_some g.V.Vault c.args.self.now.clients c.args.self.now.node c.send.new.self.node c.args.client c.args.line.now c.args.next c.in-Some.frame c.requires.step room (sym c.in_ok-frame.ensures.frame ∙ c.in-Some.is),
     ))
 
-pub send_line-requires-clause-step : goal.send_line-requires-clause-step
-send_line-requires-clause-step g t c = c.in_ok-behind.ensures.sent.2.step
-
-pub send_line-requires-clause-own : goal.send_line-requires-clause-own
-send_line-requires-clause-own g t c =
+pub send_line-requires : goal.send_line-requires
+send_line-requires g t c =
     let (x, is, done) = c.in_ok-behind.ensures.sent in
-    own_behind c.args.self.now.clients c.send.new.self.clients c.args.client c.args.line.now.line c.args.next c.in-Some.frame x.reply c.in_ok-behind.behind done.heard
-
-pub send_line-requires-clause-way : goal.send_line-requires-clause-way
-send_line-requires-clause-way g t c =
-    let (x, is, done) = c.in_ok-behind.ensures.sent in
-    (fewer_behind c.args.self.now.clients c.send.new.self.clients c.args.client c.args.line.now.line c.args.next c.in-Some.frame x.reply c.in_ok-behind.behind done.heard c.requires.step.places c.requires.client.1 c.requires.way
-    (sym c.in_ok-frame.ensures.frame ∙ c.in-Some.is)).0
-
-pub send_line-smaller : goal.send_line-smaller
-send_line-smaller g t c =
-    let (x, is, done) = c.in_ok-behind.ensures.sent in
-    (fewer_behind c.args.self.now.clients c.send.new.self.clients c.args.client c.args.line.now.line c.args.next c.in-Some.frame x.reply c.in_ok-behind.behind done.heard c.requires.step.places c.requires.client.1 c.requires.way
-    (sym c.in_ok-frame.ensures.frame ∙ c.in-Some.is)).1
+    let fewer = fewer_behind c.args.self.now.clients c.send.new.self.clients c.args.client c.args.line.now.line c.args.next c.in-Some.frame x.reply c.in_ok-behind.behind done.heard c.requires.step.places c.requires.client.1 c.requires.way
+    (sym c.in_ok-frame.ensures.frame ∙ c.in-Some.is) in
+    let own : IsOwnNext c.args.line.now.line c.in_ok-behind.behind =
+    own_behind c.args.self.now.clients c.send.new.self.clients c.args.client c.args.line.now.line c.args.next c.in-Some.frame x.reply c.in_ok-behind.behind done.heard in
+    let step : InStep g.V.Vault c.send.new.self.clients c.send.new.self.node = done.step in
+    let way : IsOnItsWay c.send.new.self.clients.words (client_at c.send.new.self.clients c.args.client) c.args.line.now.line c.in_ok-behind.behind = fewer.0 in
+    let less : ahead c.send.new.self.clients.words (client_at c.send.new.self.clients c.args.client) c.args.line.now.line c.in_ok-behind.behind < ahead c.args.self.now.clients.words (client_at c.args.self.now.clients c.args.client) c.args.line.now.line c.args.next = fewer.1 in
+    search rules
 
 pub returns-clause-gone : goal.returns-clause-gone
 returns-clause-gone g t c =
