@@ -1,10 +1,11 @@
 -- whole lines, and what they leave of clients, lists and journal
 use Rattle.std.specs.Prelude.{◌==◌, nat_le, true, false, Bool, cond, Option, None, Some, IsSome, map as list_map, slice_set, slice_index_or, Vec}
 use Rattle.std.specs.Global.{Global}
-use Rattle.std.proofs.Common.{inl, inr, ◌⊎◌, ◌<◌, ◌≡◌, ◌≢◌, ℕ, zero, suc, ◌≤◌, ◌+◌, ◌^◌, List, [], ◌∷◌, ◌++◌, length, refl, sym, ◌∙◌, ap, subst, arith, append_assoc, append-nil, length-append}
+use Rattle.std.proofs.Common.{inl, inr, ◌⊎◌, ◌<◌, ◌≡◌, ◌≢◌, ℕ, zero, suc, ◌≤◌, ◌+◌, ◌-◌, ◌^◌, List, [], ◌∷◌, ◌++◌, length, take, drop, refl, sym, ◌∙◌, ap, subst, arith, append_assoc, append-nil, length-append}
 use Rattle.std.proofs.lemmas.Bool.Decides.{eqb_tells, leb_tells}
 use Rattle.std.proofs.lemmas.List.{set_past}
 use Rattle.std.proofs.Math.Dec.{leb}
+use Rattle.std.proofs.Math.Seq.{take-length}
 use Rattle.alp_files.specs.declared.reply.Reply.{Reply}
 use Rattle.alp_base.specs.declared.ids.TransId.{TransId}
 use Rattle.alp_journal.specs.declared.log.Item.{Item}
@@ -82,6 +83,16 @@ module _ (c new : Crowd) (k : ℕ) (l : Line) (now : Next) (frame : Addressed) (
 -- a whole line has at most five
 pub few_line : (words : WordMap) (c : Client) (l : Line) (n : ℕ) → n ≤ ahead words c l next.Call → n ≤ 5
 few_line words c l n few = omega (arith, few, first_few words c l)
+
+-- what stands behind what was there before
+drop_front : (a xs : List Item) → drop (length a) (a ++ xs) ≡ xs
+drop_front [] xs = refl
+drop_front (x ∷ a) xs = drop_front a xs
+
+pub behind_front : (a xs ys : List Item) (k : ℕ) → ys ≡ a ++ xs → k ≡ length a → take (length ys - k) (drop k ys) ≡ xs
+behind_front a xs ys k is long =
+    let rest : length (a ++ xs) - length a ≡ length xs = omega (arith, length-append a xs) in
+    (λ i. take (length (is i) - long i) (drop (long i) (is i))) ∙ (λ i. take (rest i) (drop_front a xs i)) ∙ take-length xs
 
 -- ---- the items of a line
 
