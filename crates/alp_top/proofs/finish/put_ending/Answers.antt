@@ -39,9 +39,7 @@ pub returns-clause-looked : goal.returns-clause-looked
 returns-clause-looked g c = record { held = c.in_ok-owners.ensures.looked.held; allowance = c.in_ok-owners.ensures.looked.allowance; serves = c.in_ok-owners.ensures.looked.serves; room = tt }
 
 pub returns-clause-printed : goal.returns-clause-printed
-returns-clause-printed g c =
-    let s : Summary = record { server = c.args.ending.server; epoch = c.args.ending.epoch; clock = c.args.ending.clock; files = c.file_count.result; owners = c.deref.result; committed = c.args.ending.committed; aborted = c.args.ending.aborted } in
-    (printed s, c.in_ok-put_summary.ensures, record { summary = s; server = refl; epoch = refl; clock = refl; committed = refl; aborted = refl; text_is = refl })
+returns-clause-printed g c = (printed c.put_summary.args.summary.now, c.in_ok-put_summary.ensures, record { summary = c.put_summary.args.summary.now; held = c.held; one = refl; server = refl; epoch = refl; clock = refl; committed = refl; aborted = refl; text_is = refl })
 
 pub returns-clause-text : goal.returns-clause-text
 returns-clause-text g c tells =
@@ -49,7 +47,6 @@ returns-clause-text g c tells =
     let owners = c.in_ok-owners.ensures in
     let told = subst IsTrue (sym owners.gone.same.telling) tells in
     let sound : AreSound m = subst (λ (x : Contents). AreSound x.cells) owners.looked.held (c.knows.ensures.fitting _ told (c.knows.ensures.as_held told owners.looked.serves)).sound in
-    let s : Summary = record { server = c.args.ending.server; epoch = c.args.ending.epoch; clock = c.args.ending.clock; files = c.file_count.result; owners = c.deref.result; committed = c.args.ending.committed; aborted = c.args.ending.aborted } in
     c.in_ok-put_summary.ensures
     ∙ ap (λ (ts : List ℕ). c.args.text.now.items ++ ts)
-    (printed_is s m sound (c.file_count.ensures told ∙ ap (λ (x : Contents). file_count_of x.cells) owners.looked.held) (c.deref.ensures.value ∙ owners.owners tells))
+    (printed_is _ _ m sound refl (c.file_count.ensures told ∙ ap (λ (x : Contents). file_count_of x.cells) owners.looked.held) (owners.owners tells))
