@@ -7,12 +7,10 @@ mod fault;
 mod finish;
 mod owners;
 mod run;
-mod scratch;
 mod status;
 mod tally;
 mod volume;
 mod write_all;
 
 pub use run::run_alpine;
-pub use scratch::scratched;
 pub use status::{Kept, Status, status_text};
