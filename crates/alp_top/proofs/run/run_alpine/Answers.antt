@@ -17,7 +17,7 @@ run_bay-requires-clause-accepted g c κs within =
     subst (λ (ls : List NumberedLine). IsAccepted ls) (sym c.deref-played.ensures.value) (c.accepted_lines.ensures script.bytes c.in-Ok-read_script.lines.items script.said)
 
 pub run_bay-requires-clause-single : goal.run_bay-requires-clause-single
-run_bay-requires-clause-single g c =
+run_bay-requires-clause-single g c κs within =
     let script = c.in-Ok-read_script.ensures.script in
     plays_single c.deref-played.result.now (subst (λ (ls : List NumberedLine). IsAccepted ls) (sym c.deref-played.ensures.value) (c.accepted_lines.ensures script.bytes c.in-Ok-read_script.lines.items script.said)) (sym c.unplayable.ensures ∙ c.in_default.is)
 
@@ -98,12 +98,12 @@ pub returns-in-Some-clause-flaw : goal.returns-in-Some-clause-flaw
 returns-in-Some-clause-flaw g c =
     let lines : List NumberedLine = c.deref-played.result.now in
     let script : GaveScript (g.S.Source.left c.args.script.now) (g.S.Source.left c.read_script.new.source) lines = subst (GaveScript _ _) (sym c.deref-played.ensures.value) c.in-Ok-read_script.ensures.script in
-    let accepted : IsAccepted lines = subst (λ (ls : List NumberedLine). IsAccepted ls) (sym c.deref-played.ensures.value) (c.accepted_lines.ensures script.bytes c.in-Ok-read_script.lines.items c.in-Ok-read_script.ensures.script.said) in
+    let accepted : IsAccepted lines = subst (λ (ls : List NumberedLine). IsAccepted ls) (sym c.deref-played.ensures.value) (c.accepted_lines.ensures c.in-Ok-read_script.ensures.script.bytes c.in-Ok-read_script.lines.items c.in-Ok-read_script.ensures.script.said) in
     inr (tells_more lines accepted _ _ c.in-Some.line script (sym c.unplayable.ensures ∙ c.in-Some.is))
 
 pub returns-in-Some-clause-complete : goal.returns-in-Some-clause-complete
 returns-in-Some-clause-complete g c good says =
     let lines : List NumberedLine = c.deref-played.result.now in
     let script : GaveScript (g.S.Source.left c.args.script.now) (g.S.Source.left c.read_script.new.source) lines = subst (GaveScript _ _) (sym c.deref-played.ensures.value) c.in-Ok-read_script.ensures.script in
-    let accepted : IsAccepted lines = subst (λ (ls : List NumberedLine). IsAccepted ls) (sym c.deref-played.ensures.value) (c.accepted_lines.ensures script.bytes c.in-Ok-read_script.lines.items c.in-Ok-read_script.ensures.script.said) in
+    let accepted : IsAccepted lines = subst (λ (ls : List NumberedLine). IsAccepted ls) (sym c.deref-played.ensures.value) (c.accepted_lines.ensures c.in-Ok-read_script.ensures.script.bytes c.in-Ok-read_script.lines.items c.in-Ok-read_script.ensures.script.said) in
     absurd (not_playable lines accepted _ _ c.in-Some.line script (sym c.unplayable.ensures ∙ c.in-Some.is) says)
