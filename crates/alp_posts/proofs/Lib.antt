@@ -1,0 +1,4 @@
+mod MessageLemmas
+mod PlaceLemmas
+mod WalkLemmas
+mod TableLemmas
