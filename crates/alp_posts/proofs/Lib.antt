@@ -1,4 +1,4 @@
-mod MessageLemmas
+pub mod MessageLemmas
 mod PlaceLemmas
 mod WalkLemmas
-mod TableLemmas
+pub mod TableLemmas

@@ -60,13 +60,13 @@ single (Some x) (suc n) m h = absurd cc
 sent_in : (to n : ℕ) (m : Message) (acts : List Act) → slice_get (messages_in to acts) n ≡ Some m → Stands acts (act.Sent to m)
 sent_in to n m [] h = absurd cc
 sent_in to n m (a ∷ acts) h = elim (get_either (option_to_list (message_to to a)) (messages_in to acts) n m h) [
-  inl p ↦ (zero, ap (λ (b : Act). Some b) (message_is to m a (single (message_to to a) p.0 m p.1)))
+  | inl p ↦ (zero, ap (λ (b : Act). Some b) (message_is to m a (single (message_to to a) p.0 m p.1)))
   | inr q ↦ (let r = sent_in to q.0 m acts q.1 in (suc r.0, r.1))
 ]
 
 pub sent_by : (to n : ℕ) (m : Message) (journal : List Entry) → slice_get (messages_to to journal) n ≡ Some m → IsSent to m journal
 sent_by to n m [] h = absurd cc
 sent_by to n m (e ∷ es) h = elim (get_either (messages_in to e.acts) (messages_to to es) n m h) [
-  inl p ↦ (let r = sent_in to p.0 m e.acts p.1 in record { place = zero; entry = e; number = r.0; stands = refl; sent = r.1 })
+  | inl p ↦ (let r = sent_in to p.0 m e.acts p.1 in record { place = zero; entry = e; number = r.0; stands = refl; sent = r.1 })
   | inr q ↦ (let r = sent_by to q.0 m es q.1 in record { place = suc r.place; entry = r.entry; number = r.number; stands = r.stands; sent = r.sent })
 ]

@@ -1,11 +1,11 @@
 -- The table of all pairs.
-use Rattle.std.specs.Prelude.{◌⊎◌, ◌≢◌, slice_set}
-use Rattle.std.proofs.Common.{◌≡◌, ℕ, ◌+◌, ◌-◌, ◌*◌, ◌%◌, ◌<◌, ◌≤◌, List, [], ◌∷◌, ◌++◌, length, get_or, inl, inr, refl, sym, subst, ap, ◌∙◌, arith, add-zero, append_assoc}
+use Rattle.std.specs.Prelude.{◌⊎◌, ◌≢◌}
+use Rattle.std.proofs.Common.{◌≡◌, ℕ, ◌+◌, ◌*◌, ◌%◌, ◌<◌, List, [], ◌∷◌, ◌++◌, length, get_or, inl, inr, refl, sym, subst, ap, ◌∙◌, arith, add-zero, append_assoc}
 use Rattle.std.proofs.lemmas.Bool.{cases_eq}
 use Rattle.std.proofs.lemmas.List.{append-nil, length-append, length-set, get_or-set_same, get_or-set_other, get_or_append_left, get_or-append-add}
 use Rattle.alp_journal.specs.declared.entry.Entry.{Entry}
 use Rattle.alp_posts.specs.Messages.{HasGrown}
-use Rattle.alp_posts.specs.Post.{Post, nothing_taken, shown_all}
+use Rattle.alp_posts.specs.Post.{Post, nothing_taken}
 use Rattle.alp_posts.specs.Posts.{AreServers, Fits, IsTable, IsUntaken, place_of, post_at, with_post}
 
 -- ---- places
@@ -31,8 +31,8 @@ other_post p from to f t x s r apart = get_or-set_other p (place_of from to) (pl
 each_post : (P : (from to : ℕ) → Post → Type 0) (p : List Post) (from to : ℕ) (x : Post) → IsTable p → AreServers from to → P from to x → ((f t : ℕ) → AreServers f t → P f t (post_at p f t))
     → (f t : ℕ) → AreServers f t → P f t (post_at (with_post p from to x) f t)
 each_post P p from to x h s here others f t r = elim (cases_eq f from) [
-  inl e ↦ elim (cases_eq t to) [
-    inl d ↦ subst (λ (k : ℕ). P k t (post_at (with_post p from to x) k t)) (sym e) (subst (λ (k : ℕ). P from k (post_at (with_post p from to x) from k)) (sym d) (subst (λ (y : Post). P from to y) (sym (same_post p from to x h s)) here))
+  | inl e ↦ elim (cases_eq t to) [
+    | inl d ↦ subst (λ (k : ℕ). P k t (post_at (with_post p from to x) k t)) (sym e) (subst (λ (k : ℕ). P from k (post_at (with_post p from to x) from k)) (sym d) (subst (λ (y : Post). P from to y) (sym (same_post p from to x h s)) here))
     | inr d ↦ subst (λ (y : Post). P f t y) (sym (other_post p from to f t x s r (λ (a : f ≡ from) (b : t ≡ to). d b))) (others f t r)
   ]
   | inr e ↦ subst (λ (y : Post). P f t y) (sym (other_post p from to f t x s r (λ (a : f ≡ from) (b : t ≡ to). e a))) (others f t r)
@@ -49,19 +49,17 @@ still_table p from to x h s is = record {
 pub still_grown : (es : List Entry) → HasGrown es es
 still_grown es = record { more = []; is = sym (append-nil es) }
 
-pub still_fits : (journals : ℕ → List Entry) (p : List Post) (from to : ℕ) (x : Post) → IsTable p → AreServers from to → x.shown ≡ journals from → Fits journals p → Fits journals (with_post p from to x)
-still_fits journals p from to x h s is fits = record {
-  shown = each_post (λ f t (y : Post). HasGrown y.shown (journals f)) p from to x h s (subst (λ (es : List Entry). HasGrown es (journals from)) (sym is) (still_grown (journals from))) fits.shown;
+pub still_fits : (journals : ℕ → List Entry) (p : List Post) (from to : ℕ) (x : Post) → AreServers from to → x.to ≡ to → x.shown ≡ journals from → Fits journals p → Fits journals (with_post p from to x)
+still_fits journals p from to x s there is fits = record {
+  table = still_table p from to x fits.table s there;
+  shown = each_post (λ f t (y : Post). HasGrown y.shown (journals f)) p from to x fits.table s (subst (λ (es : List Entry). HasGrown es (journals from)) (sym is) (still_grown (journals from))) fits.shown;
 }
 
 pub longer_fits : (journals longer : ℕ → List Entry) (p : List Post) → ((n : ℕ) → HasGrown (journals n) (longer n)) → Fits journals p → Fits longer p
-longer_fits journals longer p grow fits = record { shown = λ from to s. further (fits.shown from to s) (grow from) }
+longer_fits journals longer p grow fits = record { table = fits.table; shown = λ from to s. further (fits.shown from to s) (grow from) }
   where
     further : {xs ys zs : List Entry} → HasGrown xs ys → HasGrown ys zs → HasGrown xs zs
     further {xs} {ys} {zs} g h = record { more = g.more ++ h.more; is = h.is ∙ ap (λ (es : List Entry). es ++ h.more) g.is ∙ append_assoc xs g.more h.more }
-
-pub untaken_fits : (journals : ℕ → List Entry) (p : List Post) → IsUntaken p → Fits journals p
-untaken_fits journals p none = record { shown = λ from to s. subst (λ (y : Post). HasGrown y.shown (journals from)) (sym (none from to s)) (record { more = journals from; is = refl }) }
 
 -- ---- a new table
 
@@ -98,3 +96,9 @@ all_new p h from to s =
 
 pub new_table : (p : List Post) → IsNew 64 p → IsTable p
 new_table p h = record { full = h.full; there = λ from to s. ap (λ (y : Post). y.to) (all_new p h from to s) }
+
+pub new_fits : (journals : ℕ → List Entry) (p : List Post) → IsNew 64 p → Fits journals p
+new_fits journals p h = record {
+  table = new_table p h;
+  shown = λ from to s. subst (λ (y : Post). HasGrown y.shown (journals from)) (sym (all_new p h from to s)) (record { more = journals from; is = refl });
+}

@@ -1,6 +1,6 @@
 -- What a walk has taken before and after it went on.
-use Rattle.std.specs.Prelude.{Option, None, Some, IfSome, slice_get}
-use Rattle.std.proofs.Common.{◌≡◌, ℕ, ◌+◌, ◌<◌, ◌^◌, List, length, sym, subst, ap, ◌∙◌, arith}
+use Rattle.std.specs.Prelude.{Option, Some, IfSome, slice_get}
+use Rattle.std.proofs.Common.{◌≡◌, ℕ, ◌+◌, List, length, sym, subst, ap, ◌∙◌, arith}
 use Rattle.alp_journal.specs.declared.entry.Entry.{Entry}
 use Rattle.alp_journal.specs.declared.message.Message.{Message}
 use Rattle.alp_posts.specs.Messages.{messages_to, HasGrown}

@@ -30,4 +30,5 @@ IsUntaken p = (from to : ℕ) → AreServers from to → post_at p from to ≡ n
 
 -- what was shown of each journal is the beginning of it
 pub record Fits (journals : ℕ → List Entry) (p : List Post) : Type 0 where
+  pub table : IsTable p
   pub shown : (from to : ℕ) → AreServers from to → HasGrown (post_at p from to).shown (journals from)
