@@ -1,5 +1,5 @@
 //! What holds of messages and of what was taken of them.
-ghost use Rattle.std.specs.Prelude.{◌≡◌, ℕ, ◌⊎◌, List, ◌++◌, Some, length, slice_get};
+ghost use Rattle.std.specs.Prelude.{◌≡◌, ℕ, List, ◌++◌, Some, slice_get};
 ghost use Rattle.alp_journal.specs.declared.entry.Entry.{Entry};
 ghost use Rattle.alp_journal.specs.declared.message.Message.{Message};
 ghost use Rattle.alp_posts.specs.Messages.{messages_to, HasGrown, IsSent};

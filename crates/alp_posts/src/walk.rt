@@ -9,9 +9,9 @@ use std::alloc::Global;
 use std::marker::Model;
 use std::snapshot::Snapshot;
 
-/// A walk to the messages for one server. It stands at the first message that was not taken, or before it with none between; all
-/// behind it were taken. That place is not seen, but what of the journal was shown, how many of its messages there were taken, and
-/// which one last.
+/// A walk to the messages for one server. It stands at the first message that was not taken, or before it with no message between;
+/// all messages before that place were taken. The place is not seen, but what of the journal was shown, how many of its messages
+/// to the server were taken, and which one last, with the last rank of the sender then.
 #[derive(Drop)]
 pub(crate) struct Walk {
     to: u8,
