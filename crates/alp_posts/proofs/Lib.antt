@@ -1,0 +1,4 @@
+pub mod MessageLemmas
+mod PlaceLemmas
+mod WalkLemmas
+pub mod TableLemmas

@@ -1,0 +1,5 @@
+pub mod Messages
+pub mod Places
+pub mod Finds
+pub mod Post
+pub mod Posts
