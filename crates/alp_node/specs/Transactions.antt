@@ -11,9 +11,9 @@ use Rattle.alp_coord.specs.Likeness.{IsFateOf}
 use Rattle.alp_node.specs.declared.lives.Live.{Live}
 
 -- it is that of a server in an epoch, in which so many began, and it keeps of each transaction what is said of it
-pub record IsCoordinatorBy (server epoch count : ℕ) (fates : TransId → Fate) (c : Coordinator) : Type 0 where
+pub record IsCoordinatorBy (server epoch count : ℕ) (told : TransId → Fate) (c : Coordinator) : Type 0 where
   pub run : IsOf server epoch count c
-  pub fates : (t : TransId) → IsFateOf epoch t (fate_in c t) (fates t)
+  pub fates : (t : TransId) → IsFateOf epoch t (fate_in c t) (told t)
 
 -- as the journal says it
 abbrev pub IsCoordinatorOf : Account → Coordinator → Type 0
