@@ -35,6 +35,7 @@ use Rattle.alp_journal.specs.Answers.{IsFileOf, unless_counts}
 use Rattle.alp_journal.specs.Answered.{GrantsFor}
 use Rattle.alp_journal.specs.Account.{Account, state_of, IsQuiet, Leads}
 use Rattle.alp_journal.proofs.CallLemmas.{call_entry}
+use Rattle.alp_coord.specs.Coordinators.{count_of}
 use Rattle.alp_node.specs.Asks.{AreGiven, asks_of, with_plan, acts_of}
 use Rattle.alp_node.specs.Calls.{IsServedCall, next_file}
 use Rattle.alp_node.specs.Covers.{AreHeld}
@@ -101,7 +102,7 @@ module _ {V : Type 0} (a : Account) (before now : ℕ) (held : Contents) (k : Se
     w = session_of turn is
 
     named : AreNamed k.waits
-    named = named_all k.server k.epoch k.given k.drawn k.sizes k.lives k.waits ready.waits.calls
+    named = named_all k.server k.epoch k.given (count_of k.coordinator) k.sizes k.lives k.waits ready.waits.calls
 
     others_asked : AllByRecursion (λ (x : Waiting). is_of t (file_trans x.call) ≡ false) a.waits
     others_asked = subst (AllByRecursion (λ (x : Waiting). is_of t (file_trans x.call) ≡ false)) (sym h.waits) (others_told t k.waits named away)
@@ -168,12 +169,8 @@ module _ {V : Type 0} (a : Account) (before now : ℕ) (held : Contents) (k : Se
       lives = λ u. subst (λ (x : Option Live). IsAlike a.holder.cells with_asked.held (a.locked u) u x (a.holder.lives u)) (sym (get_put k.lives t live_now u)) (go u (same_trans u t) refl);
       room = same_room k.sizes a.holder.cells k.lives t l live_now there stands.2 h.room;
       unborn = h.unborn;
-      current = h.current;
-      drawn = h.drawn;
-      begun = h.begun;
-      undrawn = h.undrawn;
+      coordinator = h.coordinator;
       plain = h.plain;
-      ends = h.ends;
       lone = h.lone;
       files = h.files;
       made = h.made;
@@ -224,12 +221,8 @@ module _ {V : Type 0} (a : Account) (before now : ℕ) (held : Contents) (k : Se
           room = same_room k.sizes a.holder.cells k.lives t l live_now there stands.2 h.room;
           unborn = each_set (λ x. PutNoneBeyond a.holder.server a.ids.epoch k.given x.edits) t (Some new) a.holder.lives h.unborn
               (λ x at. subst (λ (y : Life). PutNoneBeyond a.holder.server a.ids.epoch k.given y.edits) (same-some new x at) (h.unborn t life live));
-          current = each_set_at (λ u x. u.epoch ≡ a.ids.epoch) t (Some new) a.holder.lives h.current (λ x at. h.current t life live);
-          drawn = h.drawn;
-          begun = h.begun;
-          undrawn = h.undrawn;
+          coordinator = h.coordinator;
           plain = h.plain;
-          ends = h.ends;
           lone = h.lone;
           files = h.files;
           made = h.made;

@@ -37,9 +37,9 @@ granted_all k (t ∷ ts) = granted_all (granted_one k t) ts
 abbrev pub woken_taken : {V : Type 0} → ServerState V → ServerState V
 woken_taken k = granted_all (record k { locks = record (k.locks) { woken = [] } }) k.locks.woken
 
--- the transaction is live, holds no lock, and is not decided
+-- the transaction is live, and holds no lock
 abbrev pub with_trans : {V : Type 0} → ServerState V → TransId → Live → ServerState V
-with_trans k t l = record k { lives = map.insert k.lives t l; locks = entered k.locks t; decisions = k.decisions ++ 0 ∷ [] }
+with_trans k t l = record k { lives = map.insert k.lives t l; locks = entered k.locks t }
 
 -- the transaction is live no more, and its locks are gone
 abbrev pub without_trans : {V : Type 0} → ServerState V → TransId → ServerState V

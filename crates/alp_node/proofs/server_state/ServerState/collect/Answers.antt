@@ -6,6 +6,7 @@ use Rattle.alp_files.specs.declared.call.Call.TheVariants as call
 use Rattle.alp_files.specs.declared.refusal.Cause.TheVariants as cause
 use Rattle.alp_files.specs.declared.refusal.Refusal.TheVariants as refusal
 use Rattle.alp_vault.proofs.CountLemmas.{nothing_there, something_there}
+use Rattle.alp_coord.specs.Coordinators.{count_of}
 use Rattle.alp_node.specs.Steps.{IsOf}
 use Rattle.alp_node.specs.Waits.{call_at, IsWaitingCall}
 use Rattle.alp_node.specs.declared.waits.WaitingCall.{WaitingCall}
@@ -61,7 +62,7 @@ collect_granted-requires-clause-own g c =
     let live = something_there c.get-2.result _ c.get-2.ensures c.if-is_none.ensures in
     let steps = c.requires.ready.0 in
     let serves = g.V.Vault.serves k.vault in
-    let its : IsWaitingCall k.server k.epoch k.given k.drawn k.sizes k.lives w = call_is k client c.args.number w steps serves c.requires.ready.2 found in
+    let its : IsWaitingCall k.server k.epoch k.given (count_of k.coordinator) k.sizes k.lives w = call_is k client c.args.number w steps serves c.requires.ready.2 found in
     subst (IsOf client) (sym live.1) (sym (its.limits live.0 live.1).its ∙ its_client k client c.args.number w steps serves c.requires.ready.2 found)
 
 pub collect_granted-requires-clause-waiting : goal.collect_granted-requires-clause-waiting
