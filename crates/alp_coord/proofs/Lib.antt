@@ -8,3 +8,4 @@ pub mod LikeLemmas
 pub mod TieLemmas
 pub mod TickLemmas
 pub mod WriteLemmas
+pub mod LeastLemmas

@@ -31,7 +31,7 @@ use Rattle.alp_coord.proofs.WordLemmas.{settled_asks, settled_commits, settled_c
 
 -- ---- ids that rise stand once
 
-never : {A : Type 0} (b : Bool) → b ≡ false → b ≡ true → A
+pub never : {A : Type 0} (b : Bool) → b ≡ false → b ≡ true → A
 never true e i = cc
 never false e i = cc
 
@@ -201,7 +201,7 @@ closed s t h = go (map.get s.courses t) refl
     go None e = refl
     go (Some c) e = never (has_trans t (open_ids s)) h (sym (same_any (open_ids s)) ∙ sym (contains_key-keys s.courses t) ∙ ap is_some e)
 
-closed_fate : (s : Coordinator) (t : TransId) → has_trans t (open_ids s) ≡ false → fate_in s t ≡ fate_settled t (settled_in s t)
+pub closed_fate : (s : Coordinator) (t : TransId) → has_trans t (open_ids s) ≡ false → fate_in s t ≡ fate_settled t (settled_in s t)
 closed_fate s t h = ap (fate_by s t) (closed s t h) ∙ none_by s t
 
 filtered : {X : Type 0} (p : X → Bool) (xs : List X) → filter p xs ≡ flat_map (λ x. cond {A = List X} (p x) (x ∷ []) []) xs

@@ -27,8 +27,8 @@ use Rattle.alp_coord.specs.declared.begun.Settled.TheVariants as settled
 use Rattle.alp_coord.specs.declared.coordinator.Coordinator.{Coordinator}
 use Rattle.alp_coord.specs.Members.{joins, votes, dones, has_said}
 use Rattle.alp_coord.specs.Begun.{fate_settled}
-use Rattle.alp_coord.specs.Courses.{fate_at, fate_of, is_finishing_stage, is_standing, time_of, owner_at, counts_at}
-use Rattle.alp_coord.specs.Coordinators.{settled_in, course_in, fate_known, fate_in, is_other, enveloped, to_run, again_to, commit_for, abort_for, inquiry_of, inquiry_at, inquiry_placed, ending_at, ending_placed}
+use Rattle.alp_coord.specs.Courses.{fate_at, fate_of, is_running_stage, is_finishing_stage, is_standing, time_of, owner_at, counts_at}
+use Rattle.alp_coord.specs.Coordinators.{settled_in, course_in, fate_known, fate_in, is_other, enveloped, to_run, again_to, commit_for, abort_for, inquiry_of, inquiry_at, inquiry_placed, ending_at, ending_placed, is_running_fate, is_finishing_fate}
 use Rattle.alp_coord.proofs.MemberLemmas.{voted-votes, has_join-dones}
 use Rattle.alp_coord.proofs.FateLemmas.{Shows, now, older, course_shows, fate_course, fate_none, settled_placed}
 
@@ -223,6 +223,43 @@ settled_counts t (Some (settled.Ended e)) = refl
 
 pub counts-none : (s : Coordinator) (t : TransId) → course_in s t ≡ None → is_counted (fate_in s t) ≡ false
 counts-none s t is = ap is_counted (fate_none s t is) ∙ settled_counts t (settled_in s t)
+
+-- whether it is running, or finishing
+stage_runs : (t : TransId) (x : Stage) (client : ℕ) (ms : List Member) → is_running_fate (fate_at t x client ms) ≡ is_running_stage x
+stage_runs t stage.Running client ms = refl
+stage_runs t stage.Finishing client ms = refl
+stage_runs t (stage.Decided ts) client ms = refl
+
+pub runs-course : (s : Coordinator) (t : TransId) (c : Course) → course_in s t ≡ Some c → is_running_fate (fate_in s t) ≡ is_running_stage c.stage
+runs-course s t c is = ap is_running_fate (fate_course s t c is) ∙ stage_runs t c.stage c.client c.members
+
+pub settled_runs : (t : TransId) (x : Option Settled) → is_running_fate (fate_settled t x) ≡ false
+settled_runs t None = refl
+settled_runs t (Some settled.Open) = refl
+settled_runs t (Some (settled.Committed ts)) = refl
+settled_runs t (Some (settled.Forgotten ts ms)) = refl
+settled_runs t (Some (settled.Ended e)) = refl
+
+pub runs-none : (s : Coordinator) (t : TransId) → course_in s t ≡ None → is_running_fate (fate_in s t) ≡ false
+runs-none s t is = ap is_running_fate (fate_none s t is) ∙ settled_runs t (settled_in s t)
+
+stage_finishes : (t : TransId) (x : Stage) (client : ℕ) (ms : List Member) → is_finishing_fate (fate_at t x client ms) ≡ is_finishing_stage x
+stage_finishes t stage.Running client ms = refl
+stage_finishes t stage.Finishing client ms = refl
+stage_finishes t (stage.Decided ts) client ms = refl
+
+pub finishes-course : (s : Coordinator) (t : TransId) (c : Course) → course_in s t ≡ Some c → is_finishing_fate (fate_in s t) ≡ is_finishing_stage c.stage
+finishes-course s t c is = ap is_finishing_fate (fate_course s t c is) ∙ stage_finishes t c.stage c.client c.members
+
+settled_finishes : (t : TransId) (x : Option Settled) → is_finishing_fate (fate_settled t x) ≡ false
+settled_finishes t None = refl
+settled_finishes t (Some settled.Open) = refl
+settled_finishes t (Some (settled.Committed ts)) = refl
+settled_finishes t (Some (settled.Forgotten ts ms)) = refl
+settled_finishes t (Some (settled.Ended e)) = refl
+
+pub finishes-none : (s : Coordinator) (t : TransId) → course_in s t ≡ None → is_finishing_fate (fate_in s t) ≡ false
+finishes-none s t is = ap is_finishing_fate (fate_none s t is) ∙ settled_finishes t (settled_in s t)
 
 -- its client, and who takes part
 stage_client : (t : TransId) (x : Stage) (client : ℕ) (ms : List Member) → client_of (fate_at t x client ms) ≡ owner_at x client

@@ -1,10 +1,12 @@
 -- What a coordinator says of transactions, in the words of a journal.
 use Rattle.std.specs.Prelude.{◌≡◌, ℕ, ◌+◌, Bool, true, false, not, ◌==◌, ◌&&◌, nat_lt, List, [], ◌∷◌, filter, flat_map, Option, None, Some, length, if◌then◌else◌, map as list_map}
 use Rattle.std.specs.List.{list_all}
+use Rattle.std.specs.Ordering.{is_lt}
 use Rattle.std.specs.FinMap as map
 use Rattle.alp_base.specs.declared.ids.JoinNo.{JoinNo}
 use Rattle.alp_base.specs.declared.ids.TransId.{TransId}
 use Rattle.alp_base.specs.declared.ids.Stamp.{Stamp}
+use Rattle.alp_base.specs.Orders.{trans_cmp}
 use Rattle.alp_files.specs.declared.refusal.Cause.TheVariants as cause
 use Rattle.alp_files.specs.declared.refusal.Cause.{Cause}
 use Rattle.alp_files.specs.declared.reply.Ended.{Ended as Ending}
@@ -280,3 +282,18 @@ commits_of s = flat_map (λ t. commit_again t (fate_in s t)) (open_ids s)
 -- how many count towards the transactions of a server
 abbrev pub counted_of : Coordinator → ℕ
 counted_of s = length (filter (λ t. is_counted (fate_in s t)) (open_ids s))
+
+-- ---- what runs, and what finishes
+
+abbrev pub is_running_fate : Fate → Bool
+is_running_fate (Running client js) = true
+is_running_fate f = false
+
+abbrev pub is_finishing_fate : Fate → Bool
+is_finishing_fate (Finishing client js vs) = true
+is_finishing_fate f = false
+
+-- it is running and no lesser one is, or none is
+abbrev pub IsLeastRunning : Coordinator → Option TransId → Type 0
+IsLeastRunning s None = (t : TransId) → is_running_fate (fate_in s t) ≡ false
+IsLeastRunning s (Some t) = (is_running_fate (fate_in s t) ≡ true) × ((u : TransId) → is_running_fate (fate_in s u) ≡ true → is_lt (trans_cmp u t) ≡ false)

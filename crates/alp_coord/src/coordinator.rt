@@ -9,7 +9,7 @@ ghost use Rattle.alp_journal.specs.Deeds.{Begins};
 ghost use Rattle.alp_coord.specs.declared.begun.Settled.TheVariants as settled;
 ghost use Rattle.alp_coord.specs.Members.{joins};
 ghost use Rattle.alp_coord.specs.Begun.{fate_settled};
-ghost use Rattle.alp_coord.specs.Coordinators.{IsOf, Comes, Finds, count_of, epoch_of, server_of, next_id, last_id, is_known, is_open, if_standing, if_open, settled_in, course_in, fate_in, noted, noted_course, with_noted, noted_courses, settle_in};
+ghost use Rattle.alp_coord.specs.Coordinators.{IsOf, Comes, Finds, count_of, epoch_of, server_of, next_id, last_id, is_known, is_open, if_standing, if_open, settled_in, course_in, fate_in, noted, noted_course, with_noted, noted_courses, settle_in, is_finishing_fate};
 
 use crate::begun::{Begun, Settled};
 use crate::course::{Course, Stage};
@@ -148,6 +148,16 @@ impl Coordinator {
         match self.course(trans) {
             Some(course) => course.owner(),
             None => None,
+        }
+    }
+
+    /// Whether the transaction is finishing: its client asked for the commit, and votes are to come.
+    pub fn is_finishing(&self, trans: &TransId) -> bool
+        ensures { result ≡ is_finishing_fate (fate_in self.now trans.now) }
+    {
+        match self.course(trans) {
+            Some(course) => course.is_finishing(),
+            None => false,
         }
     }
 

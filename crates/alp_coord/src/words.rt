@@ -1,5 +1,5 @@
 //! What is said of transactions, and said again.
-ghost use Rattle.std.specs.Prelude.{◌≡◌, ◌++◌, ◌&&◌, not, Some, None, OnOk, IfOk, if◌then◌else◌, length, filter, flat_map, map as list_map};
+ghost use Rattle.std.specs.Prelude.{◌≡◌, ◌++◌, ◌&&◌, not, Some, None, OnOk, IfOk, if◌then◌else◌, length, find, filter, flat_map, map as list_map};
 ghost use Rattle.std.specs.List.Sorted.{IsStrictlySortedBy};
 ghost use Rattle.alp_base.specs.Orders.{trans_cmp};
 ghost use Rattle.alp_files.specs.declared.refusal.Cause.TheVariants as cause;
@@ -9,7 +9,7 @@ ghost use Rattle.alp_journal.specs.Answers.{is_counted};
 ghost use Rattle.alp_journal.specs.Messages.{ask_again, commit_again};
 ghost use Rattle.alp_coord.specs.Members.{joins, has_said};
 ghost use Rattle.alp_coord.specs.Begun.{fate_settled};
-ghost use Rattle.alp_coord.specs.Coordinators.{is_known, epoch_of, server_of, fate_in, settled_in, inquiry_of, ending_at, enveloped, to_run, asks_of, commits_of, counted_of, open_ids, commit_for, inquiry_at, inquiry_placed, ending_placed, again_to, is_other};
+ghost use Rattle.alp_coord.specs.Coordinators.{is_known, epoch_of, server_of, fate_in, settled_in, inquiry_of, ending_at, enveloped, to_run, asks_of, commits_of, counted_of, open_ids, commit_for, inquiry_at, inquiry_placed, ending_placed, again_to, is_other, is_running_fate, IsLeastRunning};
 
 use crate::begun::Settled;
 use crate::course::{Course, Stage};
@@ -161,6 +161,34 @@ impl Coordinator {
     {
         let ids = self.courses.ids(self.alloc)?;
         Ok(self.count_all(ids.as_slice()))
+    }
+
+    /// The least transaction that is running, if one is.
+    pub fn least_running(&self) -> Result<Option<TransId>, OutOfMemory>
+        ensures { IfOk result (IsLeastRunning self.now) }
+    {
+        let ids = self.courses.ids(self.alloc)?;
+        Ok(self.first_running(ids.as_slice()))
+    }
+
+    fn first_running(&self, ids: &[TransId]) -> Option<TransId>
+        ensures { result ≡ find (λ t. is_running_fate (fate_in self.now t)) ids.now }
+    {
+        for trans in ids {
+            if self.is_running(trans) {
+                return Some(*trans);
+            }
+        }
+        None
+    }
+
+    fn is_running(&self, trans: &TransId) -> bool
+        ensures { result ≡ is_running_fate (fate_in self.now trans.now) }
+    {
+        match self.course(trans) {
+            Some(course) => course.is_running(),
+            None => false,
+        }
     }
 
     fn count_all(&self, ids: &[TransId]) -> usize
