@@ -1,0 +1,6 @@
+mod NumberOrder
+pub mod BytesOrder
+mod StableSorts
+pub mod RiseLemmas
+pub mod BackLemmas
+pub mod NotedLemmas
