@@ -1,6 +1,6 @@
 -- A part enters where it asked to, and where none of its transaction lives: no law says so, since it follows from what an
 -- entry brings about.
-use Rattle.std.specs.Prelude.{Bool, true, false, cond, flat_map, Option, None, Some}
+use Rattle.std.specs.Prelude.{Bool, true, false, cond, not, ◌&&◌, flat_map, Option, None, Some}
 use Rattle.std.specs.List.{list_any, AllByRecursion}
 use Rattle.std.proofs.Common.{◌≡◌, ℕ, List, [], ◌∷◌, ◌++◌, refl, ap, ◌∙◌}
 use Rattle.std.proofs.lemmas.Bool.{or_parts}
@@ -19,6 +19,7 @@ use Rattle.alp_journal.specs.Along.{Along}
 use Rattle.alp_journal.specs.Ids.{same_trans}
 use Rattle.alp_journal.specs.Deeds.{Deed, Begins, Joins, Enters, Quits, Aborts, Grants, Performs, Releases, Readies, Applies, Registers, Finishes, Hears, Decides, Ends, Acknowledges, Forgets, Restarts}
 use Rattle.alp_journal.specs.Participant.{Phase, Unseen, Joining, Active, Ready, Applied, Over}
+use Rattle.alp_journal.specs.Desk.{is_called}
 use Rattle.alp_journal.specs.Holder.{Life}
 use Rattle.alp_journal.specs.State.{State, state_deed}
 use Rattle.alp_journal.specs.Moves.{enters, act_deeds, tried, next, asks_for, grants_to}
@@ -157,15 +158,16 @@ module _ (s : State) (from : ℕ) (t : TransId) (j : JoinNo) (rest : List Deed) 
   abbrev e : Event
   e = event.Arrive from (msg.Joined t j)
 
-  one : (u : TransId) (client : ℕ) (who : List ℕ) → s.holder.lives t ≡ None → s.phases j ≡ Joining u client who → (b : Bool) → same_trans u t ≡ b
-      → Along state_deed (IsLawfulDeed e) s ((cond b (Enters j t client who ∷ []) [] ++ rest) ++ []) → Along state_deed (IsRightDeed e) s ((cond b (Enters j t client who ∷ []) [] ++ rest) ++ [])
-  one u client who lives phase false same h = raise-all e (rest ++ []) s none h
-  one u client who lives phase true same h =
+  one : (u : TransId) (client : ℕ) (who : List ℕ) → s.holder.lives t ≡ None → s.phases j ≡ Joining u client who → (b : Bool) → same_trans u t ≡ b → (c : Bool)
+      → Along state_deed (IsLawfulDeed e) s ((cond (b && c) (Enters j t client who ∷ []) [] ++ rest) ++ []) → Along state_deed (IsRightDeed e) s ((cond (b && c) (Enters j t client who ∷ []) [] ++ rest) ++ [])
+  one u client who lives phase false same c h = raise-all e (rest ++ []) s none h
+  one u client who lives phase true same false h = raise-all e (rest ++ []) s none h
+  one u client who lives phase true same true h =
       (raise e s (Enters j t client who) (phase ∙ ap (λ (v : TransId). Joining v client who) (same_trans-true u t same), lives) h.0, raise-all e (rest ++ []) (state_deed s (Enters j t client who)) none h.1)
 
   entering : (l : Option Life) → s.holder.lives t ≡ l → (p : Phase) → s.phases j ≡ p
-      → Along state_deed (IsLawfulDeed e) s ((enters j t l p ++ rest) ++ []) → Along state_deed (IsRightDeed e) s ((enters j t l p ++ rest) ++ [])
-  entering None lives (Joining u client who) phase h = one u client who lives phase (same_trans u t) refl h
+      → Along state_deed (IsLawfulDeed e) s ((enters j t l s.desk.waits p ++ rest) ++ []) → Along state_deed (IsRightDeed e) s ((enters j t l s.desk.waits p ++ rest) ++ [])
+  entering None lives (Joining u client who) phase h = one u client who lives phase (same_trans u t) refl (not (is_called t s.desk.waits)) h
   entering None lives Unseen phase h = raise-all e (rest ++ []) s none h
   entering None lives (Active u client who) phase h = raise-all e (rest ++ []) s none h
   entering None lives (Ready u client ts) phase h = raise-all e (rest ++ []) s none h

@@ -1,5 +1,5 @@
 -- which event a deed comes from
-use Rattle.std.specs.Prelude.{Bool, true, false, cond, ◌&&◌, ◌||◌, ◌==◌, flat_map, Option, None, Some, is_none}
+use Rattle.std.specs.Prelude.{Bool, true, false, cond, not, ◌&&◌, ◌||◌, ◌==◌, flat_map, Option, None, Some, is_none}
 use Rattle.std.specs.List.{list_any, AllByRecursion}
 use Rattle.std.proofs.Common.{◌≡◌, ℕ, List, [], ◌∷◌, ◌++◌, refl}
 use Rattle.std.proofs.lemmas.Bool.{or_parts}
@@ -24,7 +24,7 @@ use Rattle.alp_journal.specs.Deeds.{Deed, Begins, Joins, Enters, Quits, Aborts, 
 use Rattle.alp_journal.specs.Coordinator.{Fate, Running, Finishing, Committed, client_of}
 use Rattle.alp_journal.specs.Participant.{Phase, Joining, live_in, open_in}
 use Rattle.alp_journal.specs.Holder.{Life}
-use Rattle.alp_journal.specs.Desk.{Desk, file_trans, is_not_yet, waiting_of}
+use Rattle.alp_journal.specs.Desk.{Desk, Waiting, file_trans, is_called, is_not_yet, waiting_of}
 use Rattle.alp_journal.specs.State.{State, has_part}
 use Rattle.alp_journal.specs.Moves.{is_new, joins_here, ends_by, finishes, call_deeds, abort_in, no_in, first_sent, ends_for, quits_for, enters, refused_join, if_its, hears, refuses, acknowledges, message_deeds, times_out_here, times_out_join, event_deeds, asks_for, grants_to, begins_at, act_deeds, answered, is_of_no_file, done_by, done_of, done_deeds, next_join, principal}
 use Rattle.alp_journal.specs.Laws.{regained_by}
@@ -107,9 +107,10 @@ module _ (s : State) where
   quits_for-from e j t client None = tt
   quits_for-from e j t client (Some c) = (tt, tt)
 
-  enters-from : (from : ℕ) (j : JoinNo) (t : TransId) (l : Option Life) (p : Phase) → AllEvent s (event.Arrive from (msg.Joined t j)) (enters j t l p)
-  enters-from from j t None (Joining u client who) = all-cond (IsEventFrom s (event.Arrive from (msg.Joined t j))) (same_trans u t) (Enters j t client who ∷ []) [] ((from, refl), tt) tt
-  enters-from from j t l p = tt
+  enters-from : (from : ℕ) (j : JoinNo) (t : TransId) (l : Option Life) (ws : List Waiting) (p : Phase) → AllEvent s (event.Arrive from (msg.Joined t j)) (enters j t l ws p)
+  enters-from from j t None ws (Joining u client who) =
+      all-cond (IsEventFrom s (event.Arrive from (msg.Joined t j))) (same_trans u t && not (is_called t ws)) (Enters j t client who ∷ []) [] ((from, refl), tt) tt
+  enters-from from j t l ws p = tt
 
   refused-from : (e : Event) (j : JoinNo) (t : TransId) (p : Phase) → AllEvent s e (refused_join j t p)
   refused-from e j t (Joining u client who) = all-cond (IsEventFrom s e) (same_trans u t) (Quits j t client None ∷ []) [] (tt, tt) tt
@@ -134,7 +135,7 @@ module _ (s : State) where
   acknowledges-from from t j f = tt
 
   message-from : (from : ℕ) (acts : List Act) (m : Message) → AllEvent s (event.Arrive from m) (message_deeds s acts m)
-  message-from from acts (msg.Joined t j) = enters-from from j t (s.holder.lives t) (s.phases j)
+  message-from from acts (msg.Joined t j) = enters-from from j t (s.holder.lives t) s.desk.waits (s.phases j)
   message-from from acts (msg.JoinRefused t j) = refused-from (event.Arrive from (msg.JoinRefused t j)) j t (s.phases j)
   message-from from acts (msg.Ask t j) =
       its-from (event.Arrive from (msg.Ask t j)) t (open_in (s.phases j)) (λ client. quits_for j t client (first_sent (no_in s.holder.server j) acts))

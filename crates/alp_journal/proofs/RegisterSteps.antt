@@ -5,7 +5,7 @@ use Rattle.std.specs.List.Sorted.{IsPermutation}
 use Rattle.std.proofs.lemmas.Bool.{and_parts, and_from, eqb-true, not-true, or_parts}
 use Rattle.std.proofs.lemmas.List.{append-nil}
 use Rattle.std.proofs.lemmas.List.Sorted.{IsPermutation-refl}
-use Rattle.std.proofs.Common.{inl, inr, ◌≡◌, ℕ, List, [], ◌∷◌, ◌++◌, refl, sym, ◌∙◌, ap, subst, eq-eqb}
+use Rattle.std.proofs.Common.{◌⊎◌, inl, inr, ◌≡◌, ℕ, List, [], ◌∷◌, ◌++◌, refl, sym, ◌∙◌, ap, subst, eq-eqb}
 use Rattle.alp_base.specs.declared.ids.JoinNo.{JoinNo}
 use Rattle.alp_base.specs.declared.ids.TransId.{TransId}
 use Rattle.alp_journal.specs.declared.act.Act.TheVariants as act
@@ -18,7 +18,7 @@ use Rattle.alp_journal.specs.Coordinator as fate
 use Rattle.alp_journal.specs.Participant.{Phase, Joining, Over, live_in, open_in}
 use Rattle.alp_journal.specs.Participant as phase
 use Rattle.alp_journal.specs.Holder.{Life, new_life, with_life}
-use Rattle.alp_journal.specs.Desk.{Waiting, file_trans, part_trans, is_of, is_of_part, without}
+use Rattle.alp_journal.specs.Desk.{Waiting, file_trans, part_trans, is_of, is_called, is_of_part, without}
 use Rattle.alp_journal.specs.Counts.{lock_set}
 use Rattle.alp_journal.specs.State.{State, is_trans_drawn, is_other_server, is_whose}
 use Rattle.alp_journal.specs.Moves.{enters, refused_join}
@@ -209,9 +209,40 @@ module _ (a : Account) (from : ℕ) (t : TransId) (j : JoinNo) (client : ℕ) wh
 
 -- ---- a join hears that it was let in
 
+none_called : (t : TransId) (ws : List Waiting) → is_called t ws ≡ false → AllByRecursion (λ w. is_on_trans t w ≡ false) ws
+none_called t [] h = tt
+none_called t (w ∷ ws) h = (let parts = or_parts (is_on_trans t w) (is_called t ws) h in (parts.0, none_called t ws parts.1))
+
+-- it asks for this transaction, no part of that is live, and no call on files of it waits
+pub record IsLetIn (a : Account) (t : TransId) (j : JoinNo) : Type 0 where
+  pub client : ℕ
+  pub who : List ℕ
+  pub asks : a.phases j ≡ Joining t client who
+  pub none : a.holder.lives t ≡ None
+  pub off : is_called t a.waits ≡ false
+
+-- a word that a join was let in lets it in, or nothing comes of it
+pub joined_either : (a : Account) (t : TransId) (j : JoinNo) → (enters j t (a.holder.lives t) a.waits (a.phases j) ≡ []) ⊎ IsLetIn a t j
+joined_either a t j = go (a.holder.lives t) refl (a.phases j) refl
+  where
+    at : (u : TransId) (client : ℕ) (who : List ℕ) → a.holder.lives t ≡ None → a.phases j ≡ Joining u client who → (b : Bool) → same_trans u t ≡ b → (c : Bool) → is_called t a.waits ≡ c
+        → (cond {A = List Deed} (b && not c) (Enters j t client who ∷ []) [] ≡ []) ⊎ IsLetIn a t j
+    at u client who none asks false e c f = inl refl
+    at u client who none asks true e true f = inl refl
+    at u client who none asks true e false f = inr (record { client = client; who = who; asks = asks ∙ ap (λ (v : TransId). Joining v client who) (same_trans-true u t e); none = none; off = f })
+
+    go : (l : Option Life) → a.holder.lives t ≡ l → (p : Phase) → a.phases j ≡ p → (enters j t l a.waits p ≡ []) ⊎ IsLetIn a t j
+    go (Some l) none p asks = inl refl
+    go None none (Joining u client who) asks = at u client who none asks (same_trans u t) refl (is_called t a.waits) refl
+    go None none phase.Unseen asks = inl refl
+    go None none (phase.Active u client who) asks = inl refl
+    go None none (phase.Ready u client ts) asks = inl refl
+    go None none (phase.Applied u stamp) asks = inl refl
+    go None none Over asks = inl refl
+
 module _ (a : Account) (from : ℕ) (t : TransId) (j : JoinNo) where
-  -- it does not ask for this transaction, or a part of it is live: nothing comes of it
-  pub joined_passed_leads : IsQuiet a → a.is_down ≡ false → enters j t (a.holder.lives t) (a.phases j) ≡ [] → Leads false a (arrive_entry a from (msg.Joined t j) []) a
+  -- it does not ask for this transaction, or a part of it is live, or a call on files of it waits: nothing comes of it
+  pub joined_passed_leads : IsQuiet a → a.is_down ≡ false → enters j t (a.holder.lives t) a.waits (a.phases j) ≡ [] → Leads false a (arrive_entry a from (msg.Joined t j) []) a
   joined_passed_leads q up none = says_leads a from (msg.Joined t j) false [] (record { quiet = q; up = up; brought = none; said = tt; mail = IsPermutation-refl []; addressed = refl; applied = tt })
 
   pub refused_passed_leads : IsQuiet a → a.is_down ≡ false → refused_join j t (a.phases j) ≡ [] → Leads false a (arrive_entry a from (msg.JoinRefused t j) []) a
@@ -230,13 +261,15 @@ module _ (a : Account) (from : ℕ) (t : TransId) (j : JoinNo) where
     }
 
     -- no call on files of the transaction waits: that of a part that ended would be taken for this one's
-    pub joined_leads : IsQuiet a → a.is_down ≡ false → a.phases j ≡ Joining t client who → a.holder.lives t ≡ None → AllByRecursion (λ v. is_on_trans t v ≡ false) a.waits
+    pub joined_leads : IsQuiet a → a.is_down ≡ false → a.phases j ≡ Joining t client who → a.holder.lives t ≡ None → is_called t a.waits ≡ false
         → Leads false a (arrive_entry a from (msg.Joined t j) []) with_entered
-    joined_leads q up asks none off =
+    joined_leads q up asks none uncalled =
+        let off : AllByRecursion (λ v. is_on_trans t v ≡ false) a.waits = none_called t a.waits uncalled in
         let moved : Tells (record a { phases = with_entered.phases }) = tells_moved a q.settled.tells j phase.entered (ap (λ (p : Phase). live_in (phase.entered p)) asks ∙ sym (ap live_in asks)) (open_entered a q.settled.stands j t client who (a.phases j))
         (subst (λ (p : Phase). HasWaits a.waits (phase.entered p)) (sym asks) tt) in
-        let enters_is : enters j t (a.holder.lives t) (a.phases j) ≡ Enters j t client who ∷ [] =
-        (λ i. enters j t (none i) (asks i)) ∙ ap (λ (b : Bool). cond {A = List Deed} b (Enters j t client who ∷ []) []) (same_trans-itself t) in
+        let enters_is : enters j t (a.holder.lives t) a.waits (a.phases j) ≡ Enters j t client who ∷ [] =
+        (λ i. enters j t (none i) a.waits (asks i))
+        ∙ ap (λ (b : Bool). cond {A = List Deed} b (Enters j t client who ∷ []) []) (and_from (same_trans t t) (not (is_called t a.waits)) (same_trans-itself t) (ap not uncalled)) in
         arrive_leads a from (msg.Joined t j) false [] (Enters j t client who ∷ []) with_entered (record {
           up = refl;
           running = up;

@@ -1,6 +1,7 @@
 -- What a server knows of its clients: their sessions, the calls that wait, and the parts that ended while their clients
 -- have not been told.
 use Rattle.std.specs.Prelude.{ℕ, Bool, true, false, not, ◌==◌, ◌&&◌, List, [], ◌∷◌, ◌++◌, filter, find, Option, None, Some, is_some, if◌then◌else◌, map as list_map}
+use Rattle.std.specs.List.{list_any}
 use Rattle.alp_base.specs.declared.ids.TransId.{TransId}
 use Rattle.alp_files.specs.declared.call.Call.{Call}
 use Rattle.alp_files.specs.declared.call.Call.TheVariants as call
@@ -62,6 +63,10 @@ is_of t (Some u) = same_trans u t
 -- the client's calls that wait are of this part
 abbrev pub is_of_part : ℕ → TransId → Waiting → Bool
 is_of_part client t w = w.client == client && is_of t (part_trans w.call)
+
+-- a call on files of this transaction waits, whoever's it is
+abbrev pub is_called : TransId → List Waiting → Bool
+is_called t ws = list_any (λ (w : Waiting). is_of t (file_trans w.call)) ws
 
 abbrev pub waiting_of : Desk → ℕ → TransId → Option Waiting
 waiting_of s client t = find (is_of_part client t) s.waits

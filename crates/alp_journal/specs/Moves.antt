@@ -27,7 +27,7 @@ use Rattle.alp_journal.specs.Deeds.{Deed, Begins, Joins, Enters, Quits, Aborts, 
 use Rattle.alp_journal.specs.Coordinator.{Fate, Running, Finishing, Committed, client_of}
 use Rattle.alp_journal.specs.Participant.{Phase, Joining, live_in, open_in}
 use Rattle.alp_journal.specs.Holder.{Life}
-use Rattle.alp_journal.specs.Desk.{Desk, Session, Waiting, file_trans, is_of, is_not_yet, waiting_of, waiting_at, waits_after, with_session}
+use Rattle.alp_journal.specs.Desk.{Desk, Session, Waiting, file_trans, is_of, is_called, is_not_yet, waiting_of, waiting_at, waits_after, with_session}
 use Rattle.alp_journal.specs.State.{State, state_deed, is_file_drawn, has_part}
 
 -- ---- calls of a session
@@ -103,10 +103,12 @@ abbrev pub quits_for : JoinNo → TransId → ℕ → Option Cause → List Deed
 quits_for j t client None = []
 quits_for j t client (Some c) = Quits j t client (Some c) ∷ []
 
--- a part is let in, unless one of its transaction is here already
-abbrev pub enters : JoinNo → TransId → Option Life → Phase → List Deed
-enters j t None (Joining u client who) = if same_trans u t then Enters j t client who ∷ [] else []
-enters j t l p = []
+-- A part is let in, unless one of its transaction is here already, or a call on files still waits on it. Such a call is of a part
+-- that ended, of another client, who has not been told: it would stand among the calls of the part that enters, as if that one had
+-- made it. A transaction has one client, and its coordinator lets in that one's joins alone, so no lawful word is passed over.
+abbrev pub enters : JoinNo → TransId → Option Life → List Waiting → Phase → List Deed
+enters j t None ws (Joining u client who) = if same_trans u t && not (is_called t ws) then Enters j t client who ∷ [] else []
+enters j t l ws p = []
 
 abbrev pub refused_join : JoinNo → TransId → Phase → List Deed
 refused_join j t (Joining u client who) = if same_trans u t then Quits j t client None ∷ [] else []
@@ -130,7 +132,7 @@ acknowledges t j (Committed stamp js ds) = if has_join j js then Acknowledges t 
 acknowledges t j f = []
 
 abbrev pub message_deeds : State → List Act → Message → List Deed
-message_deeds s acts (msg.Joined t j) = enters j t (s.holder.lives t) (s.phases j)
+message_deeds s acts (msg.Joined t j) = enters j t (s.holder.lives t) s.desk.waits (s.phases j)
 message_deeds s acts (msg.JoinRefused t j) = refused_join j t (s.phases j)
 message_deeds s acts (msg.Ask t j) = if_its t (open_in (s.phases j)) (λ client. quits_for j t client (first_sent (no_in s.holder.server j) acts))
 message_deeds s acts (msg.Ready t j ts) = hears s acts t j ts (s.fates t)

@@ -70,6 +70,16 @@ impl LockTable {
         }
     }
 
+    /// All that the transaction holds, by the resources.
+    pub fn list_of(&self, trans: TransId) -> Result<Vec<(Resource, Mode)>, OutOfMemory>
+        ensures { IfOk result (λ v. v.items ≡ map.entries (held_of self.now.held trans)) }
+    {
+        match self.holders.get(&trans) {
+            Some(locks) => locks.list(),
+            None => Ok(Vec::new(self.alloc)),
+        }
+    }
+
     /// Whether no request of the transaction waits.
     pub fn is_granted(&self, trans: TransId) -> bool
         ensures { result ≡ not (waits self.now.waiting trans) }

@@ -8,7 +8,7 @@ ghost use Rattle.alp_queue.specs.Rises.{wanted_of};
 ghost use Rattle.alp_queue.specs.Trees.{AreRising};
 ghost use Rattle.alp_queue.specs.Reach.{reach_of, disagrees_with};
 
-use crate::tree::{Tree, get, look_up, put_all, share};
+use crate::tree::{Tree, get, list, look_up, put_all, share};
 use crate::{Modes, Wanted};
 use alp_base::{OutOfMemory, Resource};
 use alp_modes::{Mode, agrees, join};
@@ -84,6 +84,15 @@ impl Locks {
             tree,
             reach: self.reach,
         })
+    }
+
+    /// All modes, by their resources.
+    pub fn list(&self) -> Result<Vec<(Resource, Mode)>, OutOfMemory>
+        ensures { IfOk result (λ v. v.items ≡ map.entries self.now) }
+    {
+        let mut modes = Vec::new(self.alloc);
+        list(&self.tree, &mut modes)?;
+        Ok(modes)
     }
 
     /// What is held of the resources that are asked, in their order. It looks all up in one walk, and costs what is asked.

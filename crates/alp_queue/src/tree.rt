@@ -7,7 +7,7 @@ ghost use Rattle.alp_queue.specs.Rises.{wanted_of, unheld};
 ghost use Rattle.alp_queue.specs.Trees.{entries, entries_of, AreRising, puts, lesser_in, first_tied};
 
 use crate::Wanted;
-use alp_base::{OutOfMemory, Resource};
+use alp_base::{Key, OutOfMemory, Resource};
 use alp_modes::Mode;
 use std::alloc::Global;
 use std::cmp::Ordering;
@@ -222,6 +222,22 @@ fn look_at_none(asked: &[(Resource, Mode)], found: &mut Vec<Wanted>) -> Result<(
         })?;
     }
     Ok(())
+}
+
+/// All modes, by their resources, behind what was listed before.
+pub fn list(tree: &Tree, out: &mut Vec<(Resource, Mode)>) -> Result<(), OutOfMemory>
+    ensures { OnOk result (out.new.items ≡ out.old.items ++ entries tree.now) }
+{
+    // The check of a move of a resource wants the type of keys in sight.
+    let _keys: Option<Key> = None;
+    let node = match tree {
+        Tree::Empty => return Ok(()),
+        Tree::Fork(node) => node,
+    };
+    let top: &Node = node;
+    list(&top.left, out)?;
+    out.push(top.entry)?;
+    list(&top.right, out)
 }
 
 /// Looks these up, whose resources rise, and puts them behind what was found before. One walk for all: it goes down a part

@@ -5,5 +5,6 @@ mod modes;
 mod notes;
 mod owner;
 mod parts;
+mod ready;
 mod rpc;
 mod vault;
