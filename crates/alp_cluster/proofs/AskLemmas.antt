@@ -10,9 +10,12 @@ use Rattle.alp_lines.specs.declared.line.Line.{Line}
 use Rattle.alp_lines.specs.Forms.{IsForm}
 use Rattle.alp_lines.specs.Forms as form
 use Rattle.alp_session.specs.Maps.{WordMap}
+use Rattle.alp_session.specs.Clients.{first_of}
+use Rattle.alp_session.specs.declared.asking.Asking.{Asking}
+use Rattle.alp_session.specs.declared.asking.Asking.TheVariants as asking
 use Rattle.alp_session.specs.declared.client.Client.{Client}
 use Rattle.alp_session.specs.declared.waiting.Waiting.{Waiting}
-use Rattle.alp_session.specs.Calls.{call_in, call_with, collect_of, outcome_of, call_by}
+use Rattle.alp_session.specs.Calls.{call_in, call_with, collect_of, outcome_of, call_by, call_asked}
 use Rattle.alp_history.specs.Handed.{HasSeenBy}
 use Rattle.alp_history.specs.Items.{Item}
 use Rattle.alp_node.specs.Turns.{is_greeting}
@@ -72,7 +75,7 @@ line_holds words c l asked P h form.settle e = in_trans words c l c.trans asked 
 line_holds words c l asked P h (form.carry from to) e = in_trans words c l c.trans asked P e (λ t x own. no_call x P own)
 line_holds words c l asked P h (form.lose from to) e = in_trans words c l c.trans asked P e (λ t x own. no_call x P own)
 line_holds words c l asked P h (form.again from to) e = in_trans words c l c.trans asked P e (λ t x own. no_call x P own)
-line_holds words c l asked P h (form.collect k) e = collect_call c.waiting asked P e h.collect
+line_holds words c l asked P h (form.collect k) e = collect_call (first_of c.waiting) asked P e h.collect
 line_holds words c l asked P h (form.begin k server) e = is_asked (call.Begin c.told) asked P e h.begin
 line_holds words c l asked P h (form.commit k) e = in_trans words c l c.trans asked P e (λ t x own. is_asked _ x P own (h.other _ tt))
 line_holds words c l asked P h (form.abort k) e = in_trans words c l c.trans asked P e (λ t x own. is_asked _ x P own (h.other _ tt))
@@ -93,6 +96,12 @@ line_holds words c l asked P h (form.lock k file run lock wish some fit) e = in_
 line_holds words c l asked P h (form.size k file size wish small) e = in_trans words c l c.trans asked P e (λ t x own. is_asked _ x P own (h.other _ tt))
 line_holds words c l asked P h (form.props k file) e = in_trans words c l c.trans asked P e (λ t x own. is_asked _ x P own (h.other _ tt))
 line_holds words c l asked P h (form.change k file change wish right) e = in_trans words c l c.trans asked P e (λ t x own. is_asked _ x P own (h.other _ tt))
+
+-- what is asked is that, or to join
+pub asked_in : (a : Asking) (asked : Call) (P : Call → Type 0) → ((t : TransId) → P (call.Join t)) → P asked → P (call_asked a asked)
+asked_in (asking.Join t) asked P join own = join t
+asked_in asking.Call asked P join own = own
+asked_in asking.Collect asked P join own = own
 
 -- ---- what is so of them
 

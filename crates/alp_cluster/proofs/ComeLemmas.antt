@@ -5,7 +5,7 @@ use Rattle.std.proofs.Math.Dec.{leb}
 use Rattle.std.proofs.lemmas.Bool.Decides.{eqb_tells, leb_tells}
 use Rattle.alp_files.specs.declared.call.Call.{Call}
 use Rattle.alp_files.specs.declared.call.Call.TheVariants as call
-use Rattle.alp_session.specs.declared.client.Greeted.{Greeted}
+use Rattle.alp_session.specs.declared.greeted.Greeted.{Greeted}
 use Rattle.alp_session.specs.Frames.{number_after}
 use Rattle.alp_session.proofs.FrameLemmas.{number_next}
 use Rattle.alp_node.specs.Turns.{is_greeting}

@@ -69,6 +69,9 @@ starts_none l again settle = refl
 
 -- ---- what it adds
 
+never : false ≡ true → ⊥
+never wrong = cc
+
 at_event : (P : Crowd → Line → Type 0) (c d : Crowd) (l k : Line) → l ≡ k → d ≡ declares c l → P (declares c k) k → P d l
 at_event P c d l k is same h = subst (λ (x : Crowd). P x l) (sym same) (subst (λ (x : Line). P (declares c x) x) (sym is) h)
 
@@ -80,19 +83,22 @@ module _ {V : Type 0} (G : Ghosts V) (c d : Crowd) (n m : NodeState V) (l : Line
       at_event (λ x y. AddsEvents G f c x n m y) c d l (line.Timeout server client) is same
       (record { after_fused = f; happened_now = timeouts_in t; goes = timed_goes G n m t step.on timed f free; gives = ap timeouts_in here; again = tt; declared = refl })
 
-  pub timeout_short : (server client : ℕ) (t : Option TransId) → l ≡ line.Timeout server client → t ≡ (client_at d client).trans → IsSome t × HasNoRoom n m → (f : Bool) → IsFree G f n → AddsSomeEvents G fault.JournalFull f c d n m l
-  timeout_short server client None is at room f free = (let wrong : false ≡ true = room.0 in cc)
-  timeout_short server client (Some t) is at room f free =
+  timeout_due : (server client : ℕ) (t : TransId) → l ≡ line.Timeout server client → Some t ≡ (client_at d client).trans → HasNoRoom n m → (f : Bool) → IsFree G f n → AddsSomeEvents G fault.JournalFull f c d n m l
+  timeout_due server client t is at room f free =
       let crowd : d ≡ c = same ∙ ap (declares c) is in
       let here : Some t ≡ (client_at c client).trans = at ∙ ap (λ (x : Crowd). (client_at x client).trans) crowd in
       at_event (λ x y. AddsSomeEvents G fault.JournalFull f c x n m y) c d l (line.Timeout server client) is same
       (record {
         happened_now = [];
         due = to_come (timed_out t);
-        goes = full_some G n m f (to_come (timed_out t)) step.on room.1 tt;
+        goes = full_some G n m f (to_come (timed_out t)) step.on room tt;
         begins = record { coming = timed_out t; rest = []; is = refl; all = ap timeouts_in here };
         declared = refl;
       })
+
+  pub timeout_short : (server client : ℕ) (t : Option TransId) → l ≡ line.Timeout server client → t ≡ (client_at d client).trans → IsSome t × HasNoRoom n m → (f : Bool) → IsFree G f n → AddsSomeEvents G fault.JournalFull f c d n m l
+  timeout_short server client None is at room f free = absurd (never room.0)
+  timeout_short server client (Some t) is at room f free = timeout_due server client t is at room.1 f free
 
   pub tick_adds : (server : ℕ) → l ≡ line.Tick server → HasComeTo G n m event.Tick → (f : Bool) → IsFree G f n → AddsEvents G f c d n m l
   tick_adds server is came f free =

@@ -1,5 +1,7 @@
 -- a client sends, the server answers, and both stay in step
 use Rattle.std.specs.Prelude.{◌==◌, true, false, Bool, Option, None, Some, IfSome}
+use Rattle.std.specs.FinMap as map
+use Rattle.std.specs.Option.{option_map}
 use Rattle.std.proofs.Common.{inl, inr, ◌⊎◌, ◌≡◌, ◌≢◌, ℕ, ◌≤◌, List, [], ◌∷◌, ◌++◌, length, append-nil, refl, sym, ◌∙◌, ap, subst, arith}
 use Rattle.std.proofs.lemmas.Bool.Decides.{eqb_tells}
 use Rattle.alp_fields.specs.Forms.{whole}
@@ -19,9 +21,12 @@ use Rattle.alp_rpc.specs.Frames.{request}
 use Rattle.alp_rpc.specs.declared.frame.Request.{Request}
 use Rattle.alp_session.specs.Maps.{WordMap}
 use Rattle.alp_session.specs.declared.client.Client.{Client}
-use Rattle.alp_session.specs.declared.client.Greeted.{Greeted}
+use Rattle.alp_session.specs.declared.frames.Addressed.{Addressed}
+use Rattle.alp_session.specs.declared.greeted.Greeted.{Greeted}
 use Rattle.alp_session.specs.declared.waiting.Next.{Next}
+use Rattle.alp_session.specs.declared.waiting.Next.TheVariants as next
 use Rattle.alp_session.specs.declared.waiting.Settings.{Settings}
+use Rattle.alp_session.specs.Calls.{asking_for}
 use Rattle.alp_session.specs.Frames.{request_in, mark_of, read_as, told_by}
 use Rattle.alp_session.specs.Heard.{heard, heard_own, heard_again, keeps, words_heard}
 use Rattle.alp_session.specs.Crowd.{Crowd}
@@ -34,9 +39,9 @@ use Rattle.alp_cluster.specs.Exchanges.{event_of, place_for, IsAsked, IsTurnedAw
 use Rattle.alp_cluster.specs.Goes.{IsLater, Goes}
 use Rattle.alp_cluster.specs.Happens.{sent_it, Takes, handed_for}
 use Rattle.alp_cluster.specs.Servers.{IsOn, IsFree, stand_of}
-use Rattle.alp_cluster.specs.Steps.{IsOwnNext, IsInStep, InStep, HasSaid, IsShort, Exchanged}
+use Rattle.alp_cluster.specs.Steps.{come_in, IsOwnNext, IsInStep, InStep, HasSaid, IsShort, Exchanged}
 use Rattle.alp_cluster.specs.declared.exchange.Handed.{Handed}
-use Rattle.alp_cluster.proofs.CallLemmas.{IsOwn, IsAgain, IsAsIs, IsSent, own_frame, frame_again, bytes_as_are, own_asked, sent_here}
+use Rattle.alp_cluster.proofs.CallLemmas.{asked_line, IsOwn, IsAgain, IsAsIs, IsSent, own_frame, frame_again, bytes_as_are, own_asked, sent_here}
 use Rattle.alp_cluster.proofs.GoLemmas.{StepMade, step_made, Made, later_same, recorded_one}
 use Rattle.alp_cluster.proofs.HeardLemmas.{Hears, hears_of}
 use Rattle.alp_cluster.proofs.OwnLemmas.{Hands, step_later, greeting_hands, call_hands, again_hands}
@@ -134,15 +139,15 @@ module _ {V : Type 0} (G : Ghosts V) (n m : NodeState V) (k l : ℕ) (w : Mark) 
 -- ---- what comes of it for the client
 
 -- its item, as its list has it, and what it knows then
-record IsOfClient {V : Type 0} (s t : ServerState V) (words : WordMap) (settings : Settings) (k : ℕ) (d : Client) (l : Line) (now : Next) (frame : List ℕ) (w : Mark) (h : Handed) : Type 0 where
+record IsOfClient {V : Type 0} (s t : ServerState V) (words : WordMap) (settings : Settings) (k : ℕ) (d : Client) (l : Line) (now : Next) (frame : Addressed) (w : Mark) (h : Handed) : Type 0 where
   step : IsInStep t k (heard words settings d l now frame h.reply).0
   said : (xs : List items.Item) (line : ℕ) → IsShort xs → HasSaid s k d xs → HasSaid t k (heard words settings d l now frame h.reply).0 (xs ++ item_of (item_made line w h) ∷ [])
 
-module _ {V : Type 0} (G : Ghosts V) (n m : NodeState V) (words : WordMap) (settings : Settings) (k : ℕ) (d : Client) (l : Line) (now : Next) (frame : List ℕ) (w : Mark) (h : Handed) (on : IsOn G n) (step : IsInStep n.kept k d) (later : IsLater G n m) (form : IsForm l)
-    (marks : w ≡ mark_of l) (handed : IsHanded G n m k frame (whole request frame) h) where
+module _ {V : Type 0} (G : Ghosts V) (n m : NodeState V) (words : WordMap) (settings : Settings) (k : ℕ) (d : Client) (l : Line) (now : Next) (frame : Addressed) (w : Mark) (h : Handed) (on : IsOn G n) (step : IsInStep n.kept k d) (later : IsLater G n m) (form : IsForm l)
+    (marks : w ≡ mark_of l) (handed : IsHanded G n m k frame.bytes (whole request frame.bytes) h) where
   -- it spells this request
-  asked_as : (q : Request) → whole request frame ≡ Some q → IsAsked G n m q h
-  asked_as q is = subst (λ (o : Option Request). IsHanded G n m k frame o h) is handed
+  asked_as : (q : Request) → whole request frame.bytes ≡ Some q → IsAsked G n m q h
+  asked_as q is = subst (λ (o : Option Request). IsHanded G n m k frame.bytes o h) is handed
 
   item_is : (mk : Mark) (x : items.Mark) (q : Request) → w ≡ mk → runs.mark_of mk ≡ x → q.client ≡ k → IsAsked G n m q h → (line : ℕ) → item_of (item_made line w h) ≡ item_at x k q.epoch q.number q.call h.reply h.place
   item_is mk x q marked is client a line =
@@ -158,26 +163,31 @@ module _ {V : Type 0} (G : Ghosts V) (n m : NodeState V) (words : WordMap) (sett
   }
 
   -- its own frame, by what it takes for its session
-  own_by : (own : IsOwn words settings k d l now frame) (o : Option Greeted) → d.session ≡ o → IsAsked G n m (request_in k d o own.call) h → whole request frame ≡ Some (request_in k d o own.call)
-      → Hands n.kept m.kept k d (keeps (heard_own words settings d o l now h.reply).0 frame) (item_at items.Own k (request_in k d o own.call).epoch (request_in k d o own.call).number (request_in k d o own.call).call h.reply h.place)
+  abbrev asks_by : IsOwn words settings k d l now frame → Option Greeted → Request
+  asks_by own o = request_in k d (asked_line k l now) o own.call
+
+  own_by : (own : IsOwn words settings k d l now frame) (o : Option Greeted) → map.get d.sessions 1 ≡ o → IsAsked G n m (asks_by own o) h → whole request frame.bytes ≡ Some (asks_by own o)
+      → Hands n.kept m.kept k d (keeps (heard_own words settings d 1 o l now h.reply).0 frame) (item_at items.Own k (asks_by own o).epoch (asks_by own o).number (asks_by own o).call h.reply h.place)
   own_by own None is a spelled =
-      greeting_hands n.kept m.kept k d frame h.place (later.reached k) step own.asked is spelled h.reply (hears_of G n m (request_in k d None own.call) h.reply on a.served a.steps)
+      greeting_hands n.kept m.kept k d now frame h.place (later.reached k) step own.asked (ap (option_map come_in) is) spelled h.reply (hears_of G n m (asks_by own None) h.reply on a.served a.steps)
   own_by own (Some g) is a spelled =
-      call_hands n.kept m.kept k d words settings l now frame h.place own.call (later.reached k) step own.asked form own.is g is h.reply (hears_of G n m (request_in k d (Some g) own.call) h.reply on a.served a.steps) spelled
+      call_hands n.kept m.kept k d words settings l now frame h.place own.call (asking_for g.joined d.trans (asked_line k l now) next.Call) (later.reached k) step own.asked form own.is g (ap (option_map come_in) is) h.reply
+      (hears_of G n m (asks_by own (Some g)) h.reply on a.served a.steps) spelled
 
   own_client : IsOwn words settings k d l now frame → IsOfClient n.kept m.kept words settings k d l now frame w h
   own_client own =
-      let q : Request = request_in k d d.session own.call in
+      let o : Option Greeted = map.get d.sessions 1 in
+      let q : Request = asks_by own o in
       let a : IsAsked G n m q h = asked_as q own.spelled in
-      of_hands items.Own q (keeps (heard_own words settings d d.session l now h.reply).0 frame) (ap (λ (p : Client × Next). p.0) (own.hears h.reply)) (item_is mark.Own items.Own q (marks ∙ own.mark) refl (own_asked k d d.session own.call) a)
-      (own_by own d.session refl a own.spelled)
+      of_hands items.Own q (keeps (heard_own words settings d 1 o l now h.reply).0 frame) (ap (λ (p : Client × Next). p.0) (own.hears h.reply)) (item_is mark.Own items.Own q (marks ∙ own.mark) refl (own_asked k d (asked_line k l now) o own.call) a)
+      (own_by own o refl a own.spelled)
 
   again_client : IsAgain n.kept words settings k d l now frame → IsOfClient n.kept m.kept words settings k d l now frame w h
   again_client old =
       let q : Request = old.again in
       let a : IsAsked G n m q h = asked_as q old.spelled in
       let heard_it : Hears n.kept m.kept q h.reply = hears_of G n m q h.reply on a.served a.steps in
-      of_hands items.Repeated q (heard_again d h.reply) (ap (λ (p : Client × Next). p.0) (old.hears h.reply)) (item_is mark.Repeated items.Repeated q (marks ∙ old.mark) refl old.client a)
+      of_hands items.Repeated q (heard_again d 1 h.reply) (ap (λ (p : Client × Next). p.0) (old.hears h.reply)) (item_is mark.Repeated items.Repeated q (marks ∙ old.mark) refl old.client a)
       (again_hands n.kept m.kept k d q h.reply h.place (later.reached k) step heard_it.times old.past old.known old.client)
 
   raw_client : IsAsIs words settings d l now frame → IsOfClient n.kept m.kept words settings k d l now frame w h
@@ -202,16 +212,16 @@ sent_is : {V : Type 0} (G : Ghosts V) (n m : NodeState V) (k : ℕ) (frame : Lis
 sent_is G n m k frame h None a = a.sent
 sent_is G n m k frame h (Some q) a = a.sent
 
-module _ {V : Type 0} (G : Ghosts V) (c : Crowd) (n m : NodeState V) (k : ℕ) (l : NumberedLine) (now : Next) (frame : List ℕ) (h : Handed) (step : InStep G c n) (small : k ≤ 16) (form : IsForm l.line) (asked : asks c k l.line now ≡ Some frame)
-    (fits : IfSome (request_next c k l.line now) request.Fits) (owns : IsOwnNext l.line now) (handed : IsHanded G n m k frame (whole request frame) h) where
+module _ {V : Type 0} (G : Ghosts V) (c : Crowd) (n m : NodeState V) (k : ℕ) (l : NumberedLine) (now : Next) (frame : Addressed) (h : Handed) (step : InStep G c n) (small : k ≤ 16) (form : IsForm l.line) (here : frame.server ≡ 1) (asked : asks c k l.line now ≡ Some frame)
+    (fits : IfSome (request_next c k l.line now) request.Fits) (owns : IsOwnNext l.line now) (handed : IsHanded G n m k frame.bytes (whole request frame.bytes) h) where
   pub exchanged : (new : Crowd) (behind : Next) (w : Mark) → (new, behind) ≡ hears c k l.line now frame (told_by h.bytes) → w ≡ mark_of l.line → Exchanged G c new n m k l now frame behind (item_made l.number w h)
   exchanged new behind w knows marks =
       let d : Client = client_at c k in
-      let served : IsServed G n m k l.number w h = handed_served G n m k l.number w h step.on frame (whole request frame) handed in
-      let kind : IsSent n.kept c.words c.settings k d l.line now frame = sent_here n.kept c k l.line now frame (step.each k).frames (step.each k).past asked fits owns in
+      let served : IsServed G n m k l.number w h = handed_served G n m k l.number w h step.on frame.bytes (whole request frame.bytes) handed in
+      let kind : IsSent n.kept c.words c.settings k d l.line now frame = sent_here n.kept c k l.line now frame here (step.each k).frames (step.each k).past asked fits owns in
       let mine : IsOfClient n.kept m.kept c.words c.settings k d l.line now frame w h = of_client G n m c.words c.settings k d l.line now frame w h step.on (step.each k) served.later form marks handed kind in
       let knows_reply : (new, behind) ≡ hears c k l.line now frame h.reply = knows ∙ ap (hears c k l.line now frame) served.told in
-      let words : WordMap = words_heard c.words d l.line now h.reply in
+      let words : WordMap = words_heard c.words d l.line now frame.server h.reply in
       let e : Client = (heard c.words c.settings d l.line now frame h.reply).0 in
       let left : new ≡ with_client c words k e = ap (λ (p : Crowd × Next). p.0) knows_reply in
       let client_is : client_at new k ≡ e = ap (λ (z : Crowd). client_at z k) left ∙ at_same c words k e (omega (arith, step.places, small)) in
@@ -219,7 +229,7 @@ module _ {V : Type 0} (G : Ghosts V) (c : Crowd) (n m : NodeState V) (k : ℕ) (
         step = subst (λ (z : Crowd). InStep G z m) (sym left) (with_one G c n m words k e step small served.later mine.step);
         goes = served.goes;
         number = refl;
-        sent = record { server = refl; mark = marks; sent = sent_is G n m k frame h (whole request frame) handed };
+        sent = record { server = sym here; mark = marks; sent = sent_is G n m k frame.bytes h (whole request frame.bytes) handed };
         heard = sym knows_reply;
         said = λ xs short said. subst (λ (z : Client). HasSaid m.kept k z (xs ++ item_of (item_made l.number w h) ∷ [])) (sym client_is) (mine.said xs l.number short said);
       }

@@ -3,6 +3,7 @@ use Rattle.std.specs.Prelude.{true, Bool, Option, None, Some, IsSome, map as lis
 use Rattle.std.proofs.Common.{inl, inr, ◌≡◌, ℕ, suc, ◌+◌, ◌<◌, ◌≤◌, ◌^◌, List, [], ◌∷◌, ◌++◌, length, take, drop, refl, sym, ◌∙◌, ap, subst, arith, append_assoc, append-nil, length-append}
 use Rattle.std.proofs.lemmas.List.{take-append-drop}
 use Rattle.alp_fields.specs.Forms.{whole}
+use Rattle.alp_base.specs.declared.ids.TransId.{TransId}
 use Rattle.alp_journal.specs.declared.log.Item.{Item}
 use Rattle.alp_history.specs.Items as items
 use Rattle.alp_history.specs.RunLogs.{item_of}
@@ -11,6 +12,7 @@ use Rattle.alp_script.specs.declared.numbered.NumberedLine.{NumberedLine}
 use Rattle.alp_rpc.specs.Frames.{request}
 use Rattle.alp_session.specs.Crowd.{Crowd}
 use Rattle.alp_session.specs.Crowds.{client_at, asks, at_line, times_out}
+use Rattle.alp_session.specs.declared.frames.Addressed.{Addressed}
 use Rattle.alp_session.specs.declared.waiting.Next.{Next}
 use Rattle.alp_session.specs.declared.waiting.Next.TheVariants as next
 use Rattle.alp_node.specs.NodeStates.{NodeState}
@@ -18,7 +20,7 @@ use Rattle.alp_vault.specs.declared.vault.Vault.{Ghosts}
 use Rattle.alp_cluster.specs.Fills.{IsStepDue}
 use Rattle.alp_cluster.specs.Goes.{Goes, GoesSome}
 use Rattle.alp_cluster.specs.Happens.{sent_it, timed_out}
-use Rattle.alp_cluster.specs.Plays.{Due, to_send, to_come, happened, SendsMore, BeginsLine}
+use Rattle.alp_cluster.specs.Plays.{Due, to_send, to_come, trans_of, happened, SendsMore, BeginsLine}
 use Rattle.alp_cluster.specs.Servers.{IsOn, IsFree, HasNoRoom}
 use Rattle.alp_cluster.specs.Steps.{InStep, HasSaid, Exchanged, DidSome, AddsSomeEvents, AddsSome}
 use Rattle.alp_cluster.specs.declared.fault.RunFault.{RunFault}
@@ -52,21 +54,25 @@ none_some G c n m k l now due step room of more = record {
   others = λ j away. refl;
 }
 
-pub frame_some : {V : Type 0} (G : Ghosts V) (c : Crowd) (n m : NodeState V) (k : ℕ) (l : NumberedLine) (now : Next) (frame : List ℕ) → InStep G c n → IsSome (whole request frame) × HasNoRoom n m → asks c k l.line now ≡ Some frame
+pub frame_some : {V : Type 0} (G : Ghosts V) (c : Crowd) (n m : NodeState V) (k : ℕ) (l : NumberedLine) (now : Next) (frame : Addressed) → InStep G c n → (frame.server ≡ 1) × IsSome (whole request frame.bytes) × HasNoRoom n m → asks c k l.line now ≡ Some frame
     → DidSome G fault.JournalFull c c n m k l now []
-frame_some G c n m k l now frame step room asked = none_some G c n m k l now (to_send k frame) step room.1 room.0 (inl (frame, asked, refl), refl)
+frame_some G c n m k l now frame step room asked = none_some G c n m k l now (to_send k frame) step room.2 (room.0, room.1) (inl (frame, asked, refl), refl)
 
 the_some : {A : Type 0} (o : Option A) → IsSome o → (x : A) × (o ≡ Some x)
 the_some None h = cc
 the_some (Some x) h = (x, refl)
 
+pub some_due : (o : Option (ℕ × TransId)) → IsSome (trans_of o) → IsSome o
+some_due None h = cc
+some_due (Some x) h = refl
+
 pub timeout_some : {V : Type 0} (G : Ghosts V) (c : Crowd) (n m : NodeState V) (k : ℕ) (l : NumberedLine) (now : Next) → InStep G c n → IsSome (times_out c k now) × HasNoRoom n m → DidSome G fault.JournalFull c c n m k l now []
 timeout_some G c n m k l now step room =
     let (t, is) = the_some (times_out c k now) room.0 in
-    none_some G c n m k l now (to_come (timed_out t)) step room.1 tt (inr (t, is, refl), refl)
+    none_some G c n m k l now (to_come (timed_out t.1)) step room.1 tt (inr (t, is, refl), refl)
 
 -- a frame had room, and not all that came behind it
-pub more_some : {V : Type 0} (G : Ghosts V) (f : RunFault) (c d e : Crowd) (n m z : NodeState V) (k : ℕ) (l : NumberedLine) (now : Next) (frame : List ℕ) (behind : Next) (x : Item) (xs : List Item) → asks c k l.line now ≡ Some frame
+pub more_some : {V : Type 0} (G : Ghosts V) (f : RunFault) (c d e : Crowd) (n m z : NodeState V) (k : ℕ) (l : NumberedLine) (now : Next) (frame : Addressed) (behind : Next) (x : Item) (xs : List Item) → asks c k l.line now ≡ Some frame
     → Exchanged G c d n m k l now frame behind x → DidSome G f d e m z k l behind xs → DidSome G f c e n z k l now (x ∷ xs)
 more_some G f c d e n m z k l now frame behind x xs asked h rest = record {
   due = rest.due;
@@ -81,7 +87,7 @@ more_some G f c d e n m z k l now frame behind x xs asked h rest = record {
     longer : (front : List items.Item) (n : ℕ) → length front + suc n + 4 < 2 ^ 32 → length (front ++ item_of x ∷ []) + n + 4 < 2 ^ 32
     longer front n short = (let one : length (front ++ item_of x ∷ []) ≡ length front + 1 = length-append front (item_of x ∷ []) in omega (arith, short, one))
 
-pub adds_some : {V : Type 0} (G : Ghosts V) (f : RunFault) (b : Bool) (c d : Crowd) (n m : NodeState V) (l : NumberedLine) (k : ℕ) (xs : List Item) → client_named l.line ≡ Some k → k ≤ 16 → length c.places ≡ 17 → IsFree G b n → length xs ≤ 3
+pub adds_some : {V : Type 0} (G : Ghosts V) (f : RunFault) (b : Bool) (c d : Crowd) (n m : NodeState V) (l : NumberedLine) (k : ℕ) (xs : List Item) → client_named l.line ≡ Some k → k ≤ 16 → length c.places ≡ 17 → IsFree G b n → length xs ≤ 5
     → DidSome G f (at_line c k l.line) d n m k l next.Call xs → AddsSome G f b c d n m l
 adds_some G f b c d n m l k xs named small places free few did =
     let goes : GoesSome G f b (happened k xs None) did.due n m = did.goes b free in

@@ -12,7 +12,7 @@ use Rattle.alp_files.specs.declared.refusal.Refusal.TheVariants as refusal
 use Rattle.alp_journal.specs.Desk.{Session}
 use Rattle.alp_rpc.specs.declared.frame.Request.{Request}
 use Rattle.alp_session.specs.Frames.{number_after}
-use Rattle.alp_session.specs.declared.client.Greeted.{Greeted}
+use Rattle.alp_session.specs.declared.greeted.Greeted.{Greeted}
 use Rattle.alp_node.specs.Orders.{order_in, order_of, idle_reply}
 use Rattle.alp_node.specs.Served.{IsServed}
 use Rattle.alp_node.specs.Sessions.{session_at, with_session}

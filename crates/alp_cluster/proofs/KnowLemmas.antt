@@ -1,9 +1,10 @@
 -- what a client makes of an answer
-use Rattle.std.specs.Prelude.{true, false, Bool, cond, Option, None, Some}
+use Rattle.std.specs.Prelude.{true, false, Bool, cond, ◌∷◌, Option, None, Some}
+use Rattle.std.specs.Option.{option_map}
 use Rattle.std.specs.FinMap as map
 use Rattle.std.specs.List.{AllByRecursion}
 use Rattle.std.specs.Ordering.{is_lt, ordering_reverse}
-use Rattle.std.proofs.Common.{inl, inr, ◌⊎◌, ◌≡◌, ℕ, ◌≤◌, List, [], ◌∷◌, refl, sym, ◌∙◌, ap, subst, arith}
+use Rattle.std.proofs.Common.{inl, inr, ◌⊎◌, ◌≡◌, ℕ, ◌≤◌, List, [], refl, sym, ◌∙◌, ap, subst, arith}
 use Rattle.std.proofs.lemmas.Bool.Decides.{leb_tells}
 use Rattle.alp_base.specs.declared.ids.FileId.{FileId}
 use Rattle.alp_base.specs.declared.ids.Stamp.{Stamp}
@@ -19,20 +20,30 @@ use Rattle.alp_lines.specs.declared.line.Line.TheVariants as line
 use Rattle.alp_journal.specs.Ids.{stamp_cmp}
 use Rattle.alp_journal.proofs.StampLemmas.{stamps_total, stamp_cmp-later}
 use Rattle.alp_history.specs.Items.{stamps_in}
-use Rattle.alp_session.specs.Maps.{WordMap}
+use Rattle.alp_session.specs.Maps.{WordMap, SessionMap}
 use Rattle.alp_session.specs.Props.{later}
+use Rattle.alp_session.specs.Clients.{first_of}
+use Rattle.alp_session.specs.Heard.{left, forgets, told_refusal, created, opened as opened_said, told_end, joined_in, knows_part, started, learned_reply, told_only, purpose_of, collects_by_itself, is_waiting_at, waiting_for, awaiting, called, joined_reply, is_part, part_known, joined_late, opened_late, late_reply, collected_reply, purpose_in, others, one_more, waits_on, collected, answered, counted_in, counted, heard_again}
+use Rattle.alp_session.specs.declared.asking.Asking.{Asking}
+use Rattle.alp_session.specs.declared.asking.Asking.TheVariants as asking
+use Rattle.alp_session.specs.declared.asking.Sending.{Sending}
 use Rattle.alp_session.specs.declared.client.Client.{Client}
-use Rattle.alp_session.specs.Heard.{learned_reply, left, started, created, opened as opened_said, told_end, told_refusal, awaiting, called, opened_late, collected_reply, purpose_in, waits_on, collected, answered, heard_again}
+use Rattle.alp_session.specs.declared.greeted.Greeted.{Greeted}
+use Rattle.alp_session.specs.declared.waiting.Next.{Next}
+use Rattle.alp_session.specs.declared.waiting.Next.TheVariants as next
 use Rattle.alp_session.specs.declared.waiting.Purpose.{Purpose}
 use Rattle.alp_session.specs.declared.waiting.Purpose.TheVariants as purpose
 use Rattle.alp_session.specs.declared.waiting.Settings.{Settings}
 use Rattle.alp_session.specs.declared.waiting.Waiting.{Waiting}
+use Rattle.alp_cluster.specs.Come.{Come}
+use Rattle.alp_cluster.specs.Steps.{come_in, session_of}
+use Rattle.alp_cluster.proofs.PlaceLemmas.{put_there, taken_there}
 
 -- ---- what the client makes of an answer
 
 -- session, stamp, begin and frames stay where nothing is said of them
 pub record SameKnown (c d : Client) : Type 0 where
-  pub session : d.session ≡ c.session
+  pub session : session_of d ≡ session_of c
   pub told : d.told ≡ c.told
   pub begun : d.begun ≡ c.begun
   pub frames : d.frames ≡ c.frames
@@ -52,6 +63,31 @@ created_known c l f n = same_known c
 opened_known : (words : WordMap) (c : Client) (l : Line) (n : ℕ) → SameKnown c (opened_said words c l n)
 opened_known words c (line.OpenFile k file access mode choice) n = record { session = refl; told = refl; begun = refl; frames = refl }
 opened_known words c l n = same_known c
+
+-- how far a session has come is no matter of the parts that are known there
+joined_session : (sessions : SessionMap) (t : TransId) (o : Option Greeted) → map.get sessions 1 ≡ o → option_map come_in (map.get (joined_in sessions 1 t o) 1) ≡ option_map come_in o
+joined_session sessions t None is = ap (option_map come_in) is
+joined_session sessions t (Some g) is = ap (option_map come_in) (put_there sessions (record g { joined = Some t }))
+
+part_session : (c : Client) (t : TransId) → session_of (knows_part c 1 t) ≡ session_of c
+part_session c t = joined_session c.sessions t (map.get c.sessions 1) refl
+
+part_known_same : (c : Client) (o : Option TransId) → SameKnown c (part_known c 1 o)
+part_known_same c None = same_known c
+part_known_same c (Some t) = record { session = part_session c t; told = refl; begun = refl; frames = refl }
+
+-- behind a frame of a session this has come to its number, where it stands
+counted_there : (sessions : SessionMap) (number : ℕ) (o : Option Greeted) → map.get sessions 1 ≡ o
+    → option_map come_in (map.get (counted_in sessions 1 number o) 1) ≡ option_map (λ (a : Come). record a { number = number }) (option_map come_in o)
+counted_there sessions number None is = ap (option_map come_in) is
+counted_there sessions number (Some g) is = ap (option_map come_in) (put_there sessions (record g { last = number }))
+
+pub counted_session : (c : Client) (number : ℕ) → session_of (counted c 1 number) ≡ option_map (λ (a : Come). record a { number = number }) (session_of c)
+counted_session c number = counted_there c.sessions number (map.get c.sessions 1) refl
+
+-- a session that is forgotten
+gone_session : (c : Client) → session_of (forgets c 1) ≡ None
+gone_session c = ap (option_map come_in) (taken_there c.sessions)
 
 -- the greater of two stamps has neither's time behind it
 pub record IsLater (told s now : Stamp) : Type 0 where
@@ -77,14 +113,14 @@ AreUpTo most ss = AllByRecursion (λ (s : Stamp). s.ts ≤ most) ss
 -- The session stays, or there is none any more. What was told before and what the answer tells is no later than what the client knows
 -- then; where neither is beyond the clock, that is not.
 pub record Knows (c d : Client) (r : Reply) : Type 0 where
-  pub session : (d.session ≡ c.session) ⊎ (d.session ≡ None)
+  pub session : (session_of d ≡ session_of c) ⊎ (session_of d ≡ None)
   pub before : c.told.ts ≤ d.told.ts
   pub stamps : AreUpTo d.told.ts (stamps_in r)
   pub within : (clock : ℕ) → c.told.ts ≤ clock → AreUpTo clock (stamps_in r) → d.told.ts ≤ clock
   pub begun : (d.begun ≡ c.begun) ⊎ ((t : TransId) × (r ≡ reply.Begun t) × (d.begun ≡ Some t))
 
 -- nothing of that is said
-knows_but : (c d : Client) (r : Reply) → stamps_in r ≡ [] → (d.session ≡ c.session) ⊎ (d.session ≡ None) → d.told ≡ c.told → (d.begun ≡ c.begun) ⊎ ((t : TransId) × (r ≡ reply.Begun t) × (d.begun ≡ Some t)) → Knows c d r
+knows_but : (c d : Client) (r : Reply) → stamps_in r ≡ [] → (session_of d ≡ session_of c) ⊎ (session_of d ≡ None) → d.told ≡ c.told → (d.begun ≡ c.begun) ⊎ ((t : TransId) × (r ≡ reply.Begun t) × (d.begun ≡ Some t)) → Knows c d r
 knows_but c d r none session told begun =
     let same : d.told.ts ≡ c.told.ts = ap (λ (s : Stamp). s.ts) told in
     record {
@@ -98,7 +134,7 @@ knows_but c d r none session told begun =
 knows_same : (c d : Client) (r : Reply) → stamps_in r ≡ [] → SameKnown c d → Knows c d r
 knows_same c d r none h = knows_but c d r none (inl h.session) h.told (inl h.begun)
 
-knows_later : (c d : Client) (s : Stamp) (r : Reply) → stamps_in r ≡ s ∷ [] → d.session ≡ c.session → d.begun ≡ c.begun → d.told ≡ later c.told s → Knows c d r
+knows_later : (c d : Client) (s : Stamp) (r : Reply) → stamps_in r ≡ s ∷ [] → session_of d ≡ session_of c → d.begun ≡ c.begun → d.told ≡ later c.told s → Knows c d r
 knows_later c d s r is session begun told =
     let up = later_is c.told s in
     let same : d.told.ts ≡ (later c.told s).ts = ap (λ (x : Stamp). x.ts) told in
@@ -121,17 +157,17 @@ ended_knows c ended.Running = knows_same c c (reply.Ended ended.Running) refl (s
 ended_knows c ended.Aborted = knows_same c c (reply.Ended ended.Aborted) refl (same_known c)
 ended_knows c ended.Unknown = knows_same c c (reply.Ended ended.Unknown) refl (same_known c)
 
-refused_knows : (c : Client) (l : Line) (f : Refusal) → Knows c (told_refusal c l f) (reply.Refused f)
+refused_knows : (c : Client) (l : Line) (f : Refusal) → Knows c (told_refusal c 1 l f) (reply.Refused f)
 refused_knows c l refusal.UnknownTrans = knows_same c (left c l) (reply.Refused refusal.UnknownTrans) refl (left_known c l)
 refused_knows c l (refusal.Aborted cause) = knows_same c (left c l) (reply.Refused (refusal.Aborted cause)) refl (left_known c l)
-refused_knows c l (refusal.StaleSession epoch) = knows_but c (record c { session = None }) (reply.Refused (refusal.StaleSession epoch)) refl (inr refl) refl (inl refl)
+refused_knows c l (refusal.StaleSession epoch) = knows_but c (forgets c 1) (reply.Refused (refusal.StaleSession epoch)) refl (inr (gone_session c)) refl (inl refl)
 refused_knows c l f = knows_same c c (reply.Refused f) refl (same_known c)
 
-started_knows : (c : Client) (l : Line) (t : TransId) → Knows c (started c l t) (reply.Begun t)
-started_knows c (line.Begin k server) t = knows_but c (record c { trans = Some t; begun = Some t }) (reply.Begun t) refl (inl refl) refl (inr (t, refl, refl))
+started_knows : (c : Client) (l : Line) (t : TransId) → Knows c (started c 1 l t) (reply.Begun t)
+started_knows c (line.Begin k server) t = knows_but c (record (knows_part c 1 t) { trans = Some t; begun = Some t }) (reply.Begun t) refl (inl (part_session c t)) refl (inr (t, refl, refl))
 started_knows c l t = knows_same c c (reply.Begun t) refl (same_known c)
 
-told_knows : (words : WordMap) (c : Client) (l : Line) (r : Reply) → Knows c (learned_reply words c l r) r
+told_knows : (words : WordMap) (c : Client) (l : Line) (r : Reply) → Knows c (learned_reply words c 1 l r) r
 told_knows words c l (reply.Begun t) = started_knows c l t
 told_knows words c l (reply.Created f n) = knows_same c (created c l f n) (reply.Created f n) refl (created_known c l f n)
 told_knows words c l (reply.Opened n) = knows_same c (opened_said words c l n) (reply.Opened n) refl (opened_known words c l n)
@@ -140,13 +176,24 @@ told_knows words c l (reply.Refused f) = refused_knows c l f
 told_knows words c l (reply.Ended e) = ended_knows c e
 told_knows words c l r = knows_same c c r refl (same_known c)
 
+-- of some replies only the stamps are taken in, and that the session is stale
+only_refused : (c : Client) (f : Refusal) → Knows c (told_only c 1 (reply.Refused f)) (reply.Refused f)
+only_refused c (refusal.StaleSession epoch) = knows_but c (forgets c 1) (reply.Refused (refusal.StaleSession epoch)) refl (inr (gone_session c)) refl (inl refl)
+only_refused c f = knows_same c c (reply.Refused f) refl (same_known c)
+
+only_knows : (c : Client) (r : Reply) → Knows c (told_only c 1 r) r
+only_knows c (reply.Committed s) = knows_later c (record c { told = later c.told s }) s (reply.Committed s) refl refl refl refl
+only_knows c (reply.Refused f) = only_refused c f
+only_knows c (reply.Ended e) = ended_knows c e
+only_knows c r = knows_same c c r refl (same_known c)
+
 -- and of the reply to a call that waited, or of the answer that it waits
 
 opened_late_known : (c : Client) (p : Purpose) (n : ℕ) → SameKnown c (opened_late c p n)
 opened_late_known c (purpose.Open f) n = record { session = refl; told = refl; begun = refl; frames = refl }
 opened_late_known c p n = same_known c
 
-late_knows : (c : Client) (p : Purpose) (l : Line) (r : Reply) → Knows c (collected_reply c p l r) r
+late_knows : (c : Client) (p : Purpose) (l : Line) (r : Reply) → Knows c (late_reply c 1 p l r) r
 late_knows c p l (reply.Created f n) = knows_same c (record c { opens = map.insert c.opens f n }) (reply.Created f n) refl (record { session = refl; told = refl; begun = refl; frames = refl })
 late_knows c p l (reply.Opened n) = knows_same c (opened_late c p n) (reply.Opened n) refl (opened_late_known c p n)
 late_knows c p l (reply.Committed s) = knows_later c (record (left c l) { told = later c.told s }) s (reply.Committed s) refl (left_known c l).session (left_known c l).begun refl
@@ -154,37 +201,53 @@ late_knows c p l (reply.Ended e) = ended_knows c e
 late_knows c p l (reply.Refused f) = refused_knows c l f
 late_knows c p l r = knows_same c c r refl (same_known c)
 
--- which call waits is no matter of that
-without_wait : (c d : Client) (o : Option Waiting) (r : Reply) → Knows c d r → Knows c (record d { waiting = o }) r
-without_wait c d o r h = record { session = h.session; before = h.before; stamps = h.stamps; within = h.within; begun = h.begun }
+-- that of a `Join` that waited
+joined_late_knows : (c : Client) (r : Reply) → Knows c (joined_late c 1 r) r
+joined_late_knows c reply.Joined = knows_same c (part_known c 1 c.trans) reply.Joined refl (part_known_same c c.trans)
+joined_late_knows c r = only_knows c r
 
-waits_on_knows : (s : Settings) (c : Client) (o : Option Waiting) → Knows c (waits_on s c o).0 (reply.Refused refusal.NotYet)
-waits_on_knows s c None = knows_same c c (reply.Refused refusal.NotYet) refl (same_known c)
-waits_on_knows s c (Some w) = knows_same c (waits_on s c (Some w)).0 (reply.Refused refusal.NotYet) refl (record { session = refl; told = refl; begun = refl; frames = refl })
+collect_knows : (c : Client) (p : Purpose) (l : Line) (r : Reply) → Knows c (collected_reply c 1 p l r) r
+collect_knows c p l r = elim (is_part p) as (λ b. Knows c (cond {A = Client} b (joined_late c 1 r) (late_reply c 1 p l r)) r) [ true ↦ joined_late_knows c r | false ↦ late_knows c p l r ]
 
-collected_knows : (s : Settings) (c : Client) (l : Line) (r : Reply) → Knows c (collected s c l r).0 r
-collected_knows s c l (reply.Refused refusal.NotYet) = waits_on_knows s c c.waiting
-collected_knows s c l r = without_wait c (collected_reply c (purpose_in c.waiting) l r) None r (late_knows c (purpose_in c.waiting) l r)
+-- which calls wait is no matter of that
+with_waits : (c d : Client) (ws : List Waiting) (r : Reply) → Knows c d r → Knows c (record d { waiting = ws }) r
+with_waits c d ws r h = record { session = h.session; before = h.before; stamps = h.stamps; within = h.within; begun = h.begun }
 
-awaiting_knows : (words : WordMap) (s : Settings) (c : Client) (number : ℕ) (l : Line) (o : Option Waiting) → Knows c (awaiting words s c number l o).0 (reply.Refused refusal.NotYet)
-awaiting_knows words s c number l None = knows_same c (awaiting words s c number l None).0 (reply.Refused refusal.NotYet) refl (record { session = refl; told = refl; begun = refl; frames = refl })
-awaiting_knows words s c number l (Some w) = knows_same c c (reply.Refused refusal.NotYet) refl (same_known c)
+waits_on_knows : (s : Settings) (c : Client) → Knows c (waits_on s c).0 (reply.Refused refusal.NotYet)
+waits_on_knows s c = with_waits c c (one_more c.waiting) (reply.Refused refusal.NotYet) (knows_same c c (reply.Refused refusal.NotYet) refl (same_known c))
 
-called_knows : (words : WordMap) (s : Settings) (c : Client) (number : ℕ) (l : Line) (r : Reply) → Knows c (called words s c number l r).0 r
-called_knows words s c number l (reply.Refused refusal.NotYet) = awaiting_knows words s c number l c.waiting
-called_knows words s c number l r = told_knows words c l r
+-- what a client asked, and where and when it did, at the server of the run
+abbrev pub at_one : ℕ → Next → Settings → Sending
+at_one number n s = record { server = 1; number = number; next = n; settings = s }
 
-pub answered_knows : (words : WordMap) (s : Settings) (c : Client) (number : ℕ) (l : Line) (b : Bool) (r : Reply) → Knows c (answered words s c number l b (Some r)).0 r
-answered_knows words s c number l true r = collected_knows s c l r
-answered_knows words s c number l false r = called_knows words s c number l r
+module _ (number : ℕ) (n : Next) (s : Settings) where
+  collected_knows : (c : Client) (l : Line) (r : Reply) → Knows c (collected c (at_one number n s) l r).0 r
+  collected_knows c l (reply.Refused refusal.NotYet) = waits_on_knows s c
+  collected_knows c l r = with_waits c (collected_reply c 1 (purpose_in (first_of c.waiting)) l r) (others (collected_reply c 1 (purpose_in (first_of c.waiting)) l r).waiting) r (collect_knows c (purpose_in (first_of c.waiting)) l r)
+
+  awaiting_knows : (c : Client) (p : Purpose) → Knows c (awaiting c (at_one number n s) p).0 (reply.Refused refusal.NotYet)
+  awaiting_knows c p =
+      let q : Sending = at_one number n s in
+      let still : Knows c c (reply.Refused refusal.NotYet) = knows_same c c (reply.Refused refusal.NotYet) refl (same_known c) in
+      elim (is_waiting_at c.waiting 1) as (λ b. Knows c (cond {A = Client × Next} b (c, next.Over) (record c { waiting = waiting_for q p ∷ c.waiting }, collects_by_itself s.collects)).0 (reply.Refused refusal.NotYet)) [
+        | true ↦ still
+        | false ↦ with_waits c c (waiting_for q p ∷ c.waiting) (reply.Refused refusal.NotYet) still
+      ]
+
+  called_knows : (words : WordMap) (c : Client) (l : Line) (r : Reply) → Knows c (called words c (at_one number n s) l r).0 r
+  called_knows words c l (reply.Refused refusal.NotYet) = awaiting_knows c (purpose_of words l)
+  called_knows words c l r = told_knows words c l r
+
+  joined_knows : (c : Client) (t : TransId) (r : Reply) → Knows c (joined_reply c (at_one number n s) t r).0 r
+  joined_knows c t reply.Joined = knows_same c (knows_part c 1 t) reply.Joined refl (record { session = part_session c t; told = refl; begun = refl; frames = refl })
+  joined_knows c t (reply.Refused refusal.NotYet) = awaiting_knows c purpose.Part
+  joined_knows c t r = only_knows c r
+
+  pub answered_knows : (words : WordMap) (c : Client) (l : Line) (a : Asking) (r : Reply) → Knows c (answered words c (at_one number n s) l a (Some r)).0 r
+  answered_knows words c l asking.Collect r = collected_knows c l r
+  answered_knows words c l (asking.Join t) r = joined_knows c t r
+  answered_knows words c l asking.Call r = called_knows words c l r
 
 -- and what it makes of a reply to a frame that was sent again
-refused_again : (c : Client) (f : Refusal) → Knows c (heard_again c (Some (reply.Refused f))) (reply.Refused f)
-refused_again c (refusal.StaleSession epoch) = knows_but c (record c { session = None }) (reply.Refused (refusal.StaleSession epoch)) refl (inr refl) refl (inl refl)
-refused_again c f = knows_same c c (reply.Refused f) refl (same_known c)
-
-pub again_knows : (c : Client) (r : Reply) → Knows c (heard_again c (Some r)) r
-again_knows c (reply.Committed s) = knows_later c (record c { told = later c.told s }) s (reply.Committed s) refl refl refl refl
-again_knows c (reply.Refused f) = refused_again c f
-again_knows c (reply.Ended e) = ended_knows c e
-again_knows c r = knows_same c c r refl (same_known c)
+pub again_knows : (c : Client) (r : Reply) → Knows c (heard_again c 1 (Some r)) r
+again_knows c r = only_knows c r

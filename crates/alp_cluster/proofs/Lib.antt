@@ -1,6 +1,7 @@
 pub mod ServedLemmas
 pub mod DeskLemmas
 pub mod ReplyLemmas
+pub mod PlaceLemmas
 pub mod KnowLemmas
 pub mod SaidLemmas
 pub mod AskLemmas

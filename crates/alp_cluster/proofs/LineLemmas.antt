@@ -1,13 +1,12 @@
 -- whole lines, and what they leave of clients, lists and journal
 use Rattle.std.specs.Prelude.{◌==◌, nat_le, true, false, Bool, cond, Option, None, Some, IsSome, map as list_map, slice_set, slice_index_or, Vec}
 use Rattle.std.specs.Global.{Global}
-use Rattle.std.proofs.Common.{inl, inr, ◌⊎◌, ◌<◌, ◌≡◌, ◌≢◌, ℕ, zero, suc, ◌≤◌, ◌+◌, ◌^◌, List, [], ◌∷◌, ◌++◌, length, refl, sym, ◌∙◌, ap, subst, arith, append_assoc, append-nil, length-append}
+use Rattle.std.proofs.Common.{inl, inr, ◌⊎◌, ◌<◌, ◌≡◌, ◌≢◌, ℕ, zero, suc, ◌≤◌, ◌+◌, ◌-◌, ◌^◌, List, [], ◌∷◌, ◌++◌, length, take, drop, refl, sym, ◌∙◌, ap, subst, arith, append_assoc, append-nil, length-append}
 use Rattle.std.proofs.lemmas.Bool.Decides.{eqb_tells, leb_tells}
 use Rattle.std.proofs.lemmas.List.{set_past}
 use Rattle.std.proofs.Math.Dec.{leb}
+use Rattle.std.proofs.Math.Seq.{take-length}
 use Rattle.alp_files.specs.declared.reply.Reply.{Reply}
-use Rattle.alp_files.specs.declared.reply.Reply.TheVariants as reply
-use Rattle.alp_files.specs.declared.refusal.Refusal.TheVariants as refusal
 use Rattle.alp_base.specs.declared.ids.TransId.{TransId}
 use Rattle.alp_journal.specs.declared.log.Item.{Item}
 use Rattle.alp_journal.specs.declared.log.Mark.TheVariants as mark
@@ -19,24 +18,25 @@ use Rattle.alp_history.specs.Items as items
 use Rattle.alp_history.specs.RunLogs.{item_of}
 use Rattle.alp_session.specs.Maps.{WordMap}
 use Rattle.alp_session.specs.declared.client.Client.{Client}
-use Rattle.alp_session.specs.declared.client.Greeted.{Greeted}
-use Rattle.alp_session.specs.Heard.{greeted, collects_by_itself, awaiting, asked_again, patient, waits_on, collected, called, is_collect, answered, heard, heard_own, words_heard, words_at, begins}
-use Rattle.alp_session.specs.Frames.{number_after, mark_of}
+use Rattle.alp_session.specs.declared.frames.Addressed.{Addressed}
+use Rattle.alp_session.specs.Ahead.{ahead, IsOnItsWay}
+use Rattle.alp_session.specs.Heard.{heard, words_heard, words_at, begins}
+use Rattle.alp_session.specs.Frames.{mark_of}
 use Rattle.alp_session.specs.declared.waiting.Next.{Next}
 use Rattle.alp_session.specs.declared.waiting.Next.TheVariants as next
 use Rattle.alp_session.specs.declared.waiting.Settings.{Settings}
-use Rattle.alp_session.specs.declared.waiting.Waiting.{Waiting}
 use Rattle.alp_session.specs.Crowd.{Crowd}
 use Rattle.alp_session.specs.Crowds.{client_at, with_client, asks, hears, at_line, declares, times_out, Sends}
+use Rattle.alp_session.proofs.AheadLemmas.{first_few, hears_fewer}
 use Rattle.alp_session.proofs.CrowdLemmas.{at_same, at_other, as_many}
 use Rattle.alp_vault.specs.declared.vault.Vault.{Ghosts}
 use Rattle.alp_node.specs.NodeStates.{NodeState}
 use Rattle.alp_node.specs.declared.server_state.ServerState.{ServerState}
 use Rattle.alp_cluster.specs.Goes.{IsLater, Goes}
 use Rattle.alp_cluster.specs.Happens.{sent_it}
-use Rattle.alp_cluster.specs.Plays.{happened, timeouts_in, PlaysLine}
+use Rattle.alp_cluster.specs.Plays.{happened, timeouts_in, trans_of, PlaysLine}
 use Rattle.alp_cluster.specs.Servers.{IsOn, IsFree, HasTimed}
-use Rattle.alp_cluster.specs.Steps.{IsInStep, InStep, HasSaid, IsOwnNext, IsLast, IsNoCall, GoesOn, Exchanged, Did, StartsBy, AddsEvents, Adds}
+use Rattle.alp_cluster.specs.Steps.{IsInStep, InStep, HasSaid, IsOwnNext, Exchanged, Did, StartsBy, AddsEvents, Adds}
 use Rattle.alp_cluster.specs.Turns.{Turn, lists_in, own_in, turns_text}
 use Rattle.alp_cluster.proofs.ExchangeLemmas.{in_step_later}
 use Rattle.alp_cluster.proofs.GoLemmas.{goes_none, goes_then, timeout_goes}
@@ -46,152 +46,62 @@ use Rattle.alp_cluster.proofs.SaidLemmas.{said_later}
 
 -- ---- what comes behind a frame
 
--- it is the last one
-last_goes : (l : Line) (o : Option Greeted) (n : Next) → IsLast n → GoesOn l o n × IsNoCall n
-last_goes l o next.Call h = absurd h
-last_goes l o next.Collect h = absurd h
-last_goes l o next.TimeOut h = (tt, tt)
-last_goes l o next.Over h = (tt, tt)
+-- a line with a frame of its own may come to a collect, and another is over
+own_any : (l : Line) (n : Next) → mark_of l ≡ mark.Own → IsOwnNext l n
+own_any l next.Call own = tt
+own_any l next.Collect own = own
+own_any l next.TimeOut own = tt
+own_any l next.Over own = tt
 
-collects_goes : (b : Bool) (l : Line) (o : Option Greeted) → mark_of l ≡ mark.Own → IsSome o → GoesOn l o (collects_by_itself b) × IsNoCall (collects_by_itself b)
-collects_goes true l o own has = ((own, has), tt)
-collects_goes false l o own has = (tt, tt)
-
-awaiting_goes : (words : WordMap) (s : Settings) (c : Client) (number : ℕ) (l : Line) (o : Option Waiting) → mark_of l ≡ mark.Own → IsSome c.session
-    → GoesOn l (awaiting words s c number l o).0.session (awaiting words s c number l o).1 × IsNoCall (awaiting words s c number l o).1
-awaiting_goes words s c number l None own has = collects_goes s.collects l c.session own has
-awaiting_goes words s c number l (Some w) own has = (tt, tt)
-
-called_goes : (words : WordMap) (s : Settings) (c : Client) (number : ℕ) (l : Line) (r : Reply) → mark_of l ≡ mark.Own → IsSome c.session
-    → GoesOn l (called words s c number l r).0.session (called words s c number l r).1 × IsNoCall (called words s c number l r).1
-called_goes words s c number l (reply.Refused refusal.NotYet) own has = awaiting_goes words s c number l c.waiting own has
-called_goes words s c number l r own has = (tt, tt)
-
-patient_last : (s : Settings) (asked : ℕ) → IsLast (patient s asked)
-patient_last s asked = elim (nat_le s.patience asked) as (λ b. IsLast (cond b next.TimeOut next.Over)) [ true ↦ tt | false ↦ tt ]
-
-waits_on_last : (s : Settings) (c : Client) (o : Option Waiting) → IsLast (waits_on s c o).1
-waits_on_last s c None = tt
-waits_on_last s c (Some w) = patient_last s (asked_again w).asked
-
-collected_last : (s : Settings) (c : Client) (l : Line) (r : Reply) → IsLast (collected s c l r).1
-collected_last s c l (reply.Refused refusal.NotYet) = waits_on_last s c c.waiting
-collected_last s c l r = tt
-
-answered_last : (words : WordMap) (s : Settings) (c : Client) (number : ℕ) (l : Line) (r : Option Reply) → IsLast (answered words s c number l true r).1
-answered_last words s c number l None = tt
-answered_last words s c number l (Some r) = collected_last s c l r
-
-answered_goes : (words : WordMap) (s : Settings) (c : Client) (number : ℕ) (l : Line) (b : Bool) (r : Option Reply) → mark_of l ≡ mark.Own → IsSome c.session
-    → GoesOn l (answered words s c number l b r).0.session (answered words s c number l b r).1 × IsNoCall (answered words s c number l b r).1
-answered_goes words s c number l b None own has = (tt, tt)
-answered_goes words s c number l true (Some r) own has = last_goes l (collected s c l r).0.session (collected s c l r).1 (collected_last s c l r)
-answered_goes words s c number l false (Some r) own has = called_goes words s c number l r own has
-
-greeted_goes : (l : Line) (d : Client) (r : Option Reply) → GoesOn l (greeted d r).0.session (greeted d r).1
-greeted_goes l d (Some (reply.Welcome epoch)) = refl
-greeted_goes l d r = tt
-
-own_goes : (words : WordMap) (s : Settings) (d : Client) (o : Option Greeted) (l : Line) (n : Next) (r : Option Reply) → mark_of l ≡ mark.Own → GoesOn l (heard_own words s d o l n r).0.session (heard_own words s d o l n r).1
-own_goes words s d None l n r own = greeted_goes l d r
-own_goes words s d (Some g) l n r own = (answered_goes words s (record d { session = Some (record g { last = number_after g.last }) }) (number_after g.last) l (is_collect l n) r own refl).0
-
-heard_goes : (words : WordMap) (s : Settings) (d : Client) (l : Line) (n : Next) (frame : List ℕ) (r : Option Reply) → GoesOn l (heard words s d l n frame r).0.session (heard words s d l n frame r).1
-heard_goes words s d (line.Repeat k) n frame r = tt
-heard_goes words s d (line.Old k) n frame r = tt
-heard_goes words s d (line.Raw k server bytes) n frame r = tt
-heard_goes words s d l n frame r = own_goes words s d d.session l n r refl
-
-own_no_call : (words : WordMap) (s : Settings) (d : Client) (o : Option Greeted) (l : Line) (n : Next) (r : Option Reply) → mark_of l ≡ mark.Own → IsSome o → IsNoCall (heard_own words s d o l n r).1
-own_no_call words s d None l n r own has = cc
-own_no_call words s d (Some g) l n r own has = (answered_goes words s (record d { session = Some (record g { last = number_after g.last }) }) (number_after g.last) l (is_collect l n) r own refl).1
-
-heard_no_call : (words : WordMap) (s : Settings) (d : Client) (l : Line) (n : Next) (frame : List ℕ) (r : Option Reply) → IsSome d.session → IsNoCall (heard words s d l n frame r).1
-heard_no_call words s d (line.Repeat k) n frame r has = tt
-heard_no_call words s d (line.Old k) n frame r has = tt
-heard_no_call words s d (line.Raw k server bytes) n frame r has = tt
-heard_no_call words s d l n frame r has = own_no_call words s d d.session l n r refl has
-
-own_last : (words : WordMap) (s : Settings) (d : Client) (o : Option Greeted) (l : Line) (r : Option Reply) → IsSome o → IsLast (heard_own words s d o l next.Collect r).1
-own_last words s d None l r has = cc
-own_last words s d (Some g) l r has = answered_last words s (record d { session = Some (record g { last = number_after g.last }) }) (number_after g.last) l r
-
-heard_last : (words : WordMap) (s : Settings) (d : Client) (l : Line) (frame : List ℕ) (r : Option Reply) → IsSome d.session → IsLast (heard words s d l next.Collect frame r).1
-heard_last words s d (line.Repeat k) frame r has = tt
-heard_last words s d (line.Old k) frame r has = tt
-heard_last words s d (line.Raw k server bytes) frame r has = tt
-heard_last words s d l frame r has = own_last words s d d.session l r has
+heard_own_next : (words : WordMap) (s : Settings) (d : Client) (l : Line) (n : Next) (frame : Addressed) (r : Option Reply) → IsOwnNext l (heard words s d l n frame r).1
+heard_own_next words s d (line.Repeat k) n frame r = tt
+heard_own_next words s d (line.Old k) n frame r = tt
+heard_own_next words s d (line.Raw k server bytes) n frame r = tt
+heard_own_next words s d l n frame r = own_any l (heard words s d l n frame r).1 refl
 
 -- of a client among the others
-module _ (c new : Crowd) (k : ℕ) (l : Line) (now : Next) (frame : List ℕ) (r : Option Reply) (behind : Next) (e : hears c k l now frame r ≡ (new, behind)) where
+module _ (c new : Crowd) (k : ℕ) (l : Line) (now : Next) (frame : Addressed) (r : Option Reply) (behind : Next) (e : hears c k l now frame r ≡ (new, behind)) where
   behind_is : behind ≡ (heard c.words c.settings (client_at c k) l now frame r).1
   behind_is = ap (λ (p : Crowd × Next). p.1) (sym e)
 
-  pub goes_behind : length c.places ≡ 17 → k ≤ 16 → GoesOn l (client_at new k).session behind
-  goes_behind places small =
-      let d : Client = client_at c k in
-      let here : k < length c.places = omega (arith, places, small) in
-      subst (λ (p : Crowd × Next). GoesOn l (client_at p.0 k).session p.1) e
-      (subst (λ (x : Client). GoesOn l x.session (heard c.words c.settings d l now frame r).1) (sym (at_same c (words_heard c.words d l now r) k (heard c.words c.settings d l now frame r).0 here))
-      (heard_goes c.words c.settings d l now frame r))
-
-  pub no_call_behind : IsSome (client_at c k).session → IsNoCall behind
-  no_call_behind has = subst IsNoCall (sym behind_is) (heard_no_call c.words c.settings (client_at c k) l now frame r has)
+  pub own_behind : IsOwnNext l behind
+  own_behind = subst (IsOwnNext l) (sym behind_is) (heard_own_next c.words c.settings (client_at c k) l now frame r)
 
   -- what one client hears is no matter of the others
   pub others_stay : (j : ℕ) → (j ≡ k → ⊥) → client_at new j ≡ client_at c j
   others_stay j away =
       let d : Client = client_at c k in
-      ap (λ (p : Crowd × Next). client_at p.0 j) (sym e) ∙ at_other c (words_heard c.words d l now r) k j (heard c.words c.settings d l now frame r).0 away
+      ap (λ (p : Crowd × Next). client_at p.0 j) (sym e) ∙ at_other c (words_heard c.words d l now frame.server r) k j (heard c.words c.settings d l now frame r).0 away
 
--- a frame that goes on is one of a session
-pub in_session : (c : Crowd) (k : ℕ) (l : Line) (now : Next) (frame : List ℕ) (o : Option Greeted) → asks c k l now ≡ Some frame → GoesOn l o now → IsSome o
-in_session c k l next.Call frame o asked goes = goes
-in_session c k l next.Collect frame o asked goes = goes.1
-in_session c k l next.TimeOut frame o asked goes = cc
-in_session c k l next.Over frame o asked goes = cc
+  -- there is less to come behind each frame
+  pub fewer_behind : length c.places ≡ 17 → k ≤ 16 → IsOnItsWay c.words (client_at c k) l now → asks c k l now ≡ Some frame
+      → IsOnItsWay new.words (client_at new k) l behind × (ahead new.words (client_at new k) l behind < ahead c.words (client_at c k) l now)
+  fewer_behind places small way asked =
+      subst (λ (p : Crowd × Next). IsOnItsWay p.0.words (client_at p.0 k) l p.1 × (ahead p.0.words (client_at p.0 k) l p.1 < ahead c.words (client_at c k) l now)) e
+      (hears_fewer c k l now frame r (omega (arith, places, small)) way asked)
 
-pub own_next : (l : Line) (o : Option Greeted) (now : Next) → GoesOn l o now → IsOwnNext l now
-own_next l o next.Call goes = tt
-own_next l o next.Collect goes = goes.0
-own_next l o next.TimeOut goes = tt
-own_next l o next.Over goes = tt
+-- a whole line has at most five
+pub few_line : (words : WordMap) (c : Client) (l : Line) (n : ℕ) → n ≤ ahead words c l next.Call → n ≤ 5
+few_line words c l n few = omega (arith, few, first_few words c l)
 
--- and behind the call it is a collect
-pub is_collecting : (c : Crowd) (k : ℕ) (l : Line) (now : Next) (frame : List ℕ) → asks c k l now ≡ Some frame → IsNoCall now → now ≡ next.Collect
-is_collecting c k l next.Call frame asked called = absurd called
-is_collecting c k l next.Collect frame asked called = refl
-is_collecting c k l next.TimeOut frame asked called = cc
-is_collecting c k l next.Over frame asked called = cc
+-- what stands behind what was there before
+drop_front : (a xs : List Item) → drop (length a) (a ++ xs) ≡ xs
+drop_front [] xs = refl
+drop_front (x ∷ a) xs = drop_front a xs
 
-pub none_behind : (c : Crowd) (k : ℕ) (l : Line) (now : Next) → IsLast now → asks c k l now ≡ None
-none_behind c k l next.Call last = absurd last
-none_behind c k l next.Collect last = absurd last
-none_behind c k l next.TimeOut last = refl
-none_behind c k l next.Over last = refl
-
-pub last_behind : (c new : Crowd) (k : ℕ) (l : Line) (frame : List ℕ) (r : Option Reply) (behind : Next) → hears c k l next.Collect frame r ≡ (new, behind) → IsSome (client_at c k).session → IsLast behind
-last_behind c new k l frame r behind e has = subst IsLast (sym (behind_is c new k l next.Collect frame r behind e)) (heard_last c.words c.settings (client_at c k) l frame r has)
+pub behind_front : (a xs ys : List Item) (k : ℕ) → ys ≡ a ++ xs → k ≡ length a → take (length ys - k) (drop k ys) ≡ xs
+behind_front a xs ys k is long =
+    let rest : length (a ++ xs) - length a ≡ length xs = omega (arith, length-append a xs) in
+    (λ i. take (length (is i) - long i) (drop (long i) (is i))) ∙ (λ i. take (rest i) (drop_front a xs i)) ∙ take-length xs
 
 -- ---- the items of a line
 
--- nothing is sent, and nothing times out
-pub silent_line : {V : Type 0} (G : Ghosts V) (c : Crowd) (n : NodeState V) (k : ℕ) (l : NumberedLine) (now : Next) → InStep G c n → asks c k l.line now ≡ None → times_out c k now ≡ None → Did G c c n n k l now [] None
-silent_line G c n k l now step none no_end = record {
-  step = step;
-  goes = λ f free. goes_none G n f step.on free;
-  number = tt;
-  sends = (none, sym no_end, refl);
-  said = λ front short h. subst (HasSaid n.kept k (client_at c k)) (sym (append-nil front)) h;
-  others = λ j away. refl;
-}
-
 -- a frame of a line, and what comes behind it
-pub more_line : {V : Type 0} (G : Ghosts V) (c d e : Crowd) (n m z : NodeState V) (k : ℕ) (l : NumberedLine) (now : Next) (frame : List ℕ) (behind : Next) (x : Item) (xs : List Item) (t : Option TransId) → asks c k l.line now ≡ Some frame
+pub more_line : {V : Type 0} (G : Ghosts V) (c d e : Crowd) (n m z : NodeState V) (k : ℕ) (l : NumberedLine) (now : Next) (frame : Addressed) (behind : Next) (x : Item) (xs : List Item) (t : Option (ℕ × TransId)) → asks c k l.line now ≡ Some frame
     → Exchanged G c d n m k l now frame behind x → Did G d e m z k l behind xs t → Did G c e n z k l now (x ∷ xs) t
 more_line G c d e n m z k l now frame behind x xs t asked h rest = record {
   step = rest.step;
-  goes = λ f free. (let one : Goes G f (sent_it k x ∷ []) f n m = h.goes f free in goes_then G n m z f f f (sent_it k x ∷ []) (happened k xs t) one (rest.goes f one.free));
+  goes = λ f free. (let one : Goes G f (sent_it k x ∷ []) f n m = h.goes f free in goes_then G n m z f f f (sent_it k x ∷ []) (happened k xs (trans_of t)) one (rest.goes f one.free));
   number = (h.number, rest.number);
   sends = (frame, asked, h.sent, subst (λ (q : Crowd × Next). Sends q.0 k l.line q.1 xs t e) (sym h.heard) rest.sends);
   said = λ front short said. subst (HasSaid z.kept k (client_at e k)) (append_assoc front (item_of x ∷ []) (list_map item_of xs))
@@ -213,12 +123,12 @@ pub timed_later : {V : Type 0} (G : Ghosts V) (n m : NodeState V) (t : Option Tr
 timed_later G n m t on timed = (timed_goes G n m t on timed true (λ e. cc)).later
 
 -- a line behind its last frame
-pub ended_line : {V : Type 0} (G : Ghosts V) (c : Crowd) (n m : NodeState V) (k : ℕ) (l : NumberedLine) (now : Next) → InStep G c n → asks c k l.line now ≡ None → HasTimed G n m (times_out c k now) → Did G c c n m k l now [] (times_out c k now)
+pub ended_line : {V : Type 0} (G : Ghosts V) (c : Crowd) (n m : NodeState V) (k : ℕ) (l : NumberedLine) (now : Next) → InStep G c n → asks c k l.line now ≡ None → HasTimed G n m (trans_of (times_out c k now)) → Did G c c n m k l now [] (times_out c k now)
 ended_line G c n m k l now step none h =
-    let later : IsLater G n m = timed_later G n m (times_out c k now) step.on h in
+    let later : IsLater G n m = timed_later G n m (trans_of (times_out c k now)) step.on h in
     record {
       step = in_step_later G c n m step later;
-      goes = timed_goes G n m (times_out c k now) step.on h;
+      goes = timed_goes G n m (trans_of (times_out c k now)) step.on h;
       number = tt;
       sends = (none, refl, refl);
       said = λ front short said. subst (HasSaid m.kept k (client_at c k)) (sym (append-nil front)) (said_later n.kept m.kept k (client_at c k) (client_at c k) front (later.reached k) refl refl refl refl said);
@@ -374,9 +284,9 @@ own_other l k j xs away = elim (eqb_tells k j) [
 ]
 
 -- behind it each client has said what it had, and this one the items of the turn
-pub said_turn : {V : Type 0} (G : Ghosts V) (n m : NodeState V) (c d : Crowd) (l : NumberedLine) (k : ℕ) (xs : List Item) → IsLater G n m → length xs ≤ 3
+pub said_turn : {V : Type 0} (G : Ghosts V) (n m : NodeState V) (c d : Crowd) (l : NumberedLine) (k : ℕ) (xs : List Item) → IsLater G n m → length xs ≤ 5
     → ((front : List items.Item) → length front + length xs + 4 < 2 ^ 32 → HasSaid n.kept k (client_at c k) front → HasSaid m.kept k (client_at d k) (front ++ list_map item_of xs)) → ((j : ℕ) → j ≢ k → client_at d j ≡ client_at c j)
-    → (j : ℕ) (front : List items.Item) → length front + 8 < 2 ^ 32 → HasSaid n.kept j (client_at c j) front → HasSaid m.kept j (client_at d j) (front ++ list_map item_of (own_in j (turn_at l k xs ∷ [])))
+    → (j : ℕ) (front : List items.Item) → length front + 10 < 2 ^ 32 → HasSaid n.kept j (client_at c j) front → HasSaid m.kept j (client_at d j) (front ++ list_map item_of (own_in j (turn_at l k xs ∷ [])))
 said_turn G n m c d l k xs later few own others j front short said = go (eqb_tells j k)
   where
     go : (((j == k) ≡ true) × (j ≡ k)) ⊎ (((j == k) ≡ false) × (j ≢ k)) → HasSaid m.kept j (client_at d j) (front ++ list_map item_of (own_in j (turn_at l k xs ∷ [])))
@@ -389,12 +299,12 @@ said_turn G n m c d l k xs later few own others j front short said = go (eqb_tel
         (subst (HasSaid m.kept j (client_at d j)) (sym (append-nil front))
         (subst (λ (z : Client). HasSaid m.kept j z front) (sym (others j away.1)) (said_goes G n m c later j front said)))
 
-pub few_turn : (l : NumberedLine) (k : ℕ) (xs : List Item) → length xs ≤ 3 → (j : ℕ) → length (own_in j (turn_at l k xs ∷ [])) ≤ 3
+pub few_turn : (l : NumberedLine) (k : ℕ) (xs : List Item) → length xs ≤ 5 → (j : ℕ) → length (own_in j (turn_at l k xs ∷ [])) ≤ 5
 few_turn l k xs few j = go (eqb_tells j k)
   where
-    go : (((j == k) ≡ true) × (j ≡ k)) ⊎ (((j == k) ≡ false) × (j ≢ k)) → length (own_in j (turn_at l k xs ∷ [])) ≤ 3
-    go (inl same) = subst (λ (i : ℕ). length (own_in i (turn_at l k xs ∷ [])) ≤ 3) (sym same.1) (subst (λ (ys : List Item). length ys ≤ 3) (sym (own_same l k xs)) few)
-    go (inr away) = subst (λ (ys : List Item). length ys ≤ 3) (sym (own_other l k j xs away.1)) (omega arith)
+    go : (((j == k) ≡ true) × (j ≡ k)) ⊎ (((j == k) ≡ false) × (j ≢ k)) → length (own_in j (turn_at l k xs ∷ [])) ≤ 5
+    go (inl same) = subst (λ (i : ℕ). length (own_in i (turn_at l k xs ∷ [])) ≤ 5) (sym same.1) (subst (λ (ys : List Item). length ys ≤ 5) (sym (own_same l k xs)) few)
+    go (inr away) = subst (λ (ys : List Item). length ys ≤ 5) (sym (own_other l k j xs away.1)) (omega arith)
 
 -- at the line the others stand as before
 pub at_others : (c : Crowd) (k : ℕ) (l : Line) → (j : ℕ) → j ≢ k → client_at (at_line c k l) j ≡ client_at c j
@@ -418,18 +328,18 @@ starts_own G (line.Restart server pick) k n m named = absurd (restart_unnamed se
 starts_own G line.Settle k n m named = absurd (settle_unnamed k named)
 starts_own G l k n m named = tt
 
-pub adds_item : {V : Type 0} (G : Ghosts V) (f : Bool) (c d : Crowd) (n m : NodeState V) (l : NumberedLine) (k : ℕ) (xs : List Item) (t : Option TransId) (lists : List (Vec Item Global)) (v : Vec Item Global) (text now : List ℕ) → client_named l.line ≡ Some k → k ≤ 16
-    → length c.places ≡ 17 → length lists ≡ 17 → IsFree G f n → length xs ≤ 3 → v.items ≡ lists_in lists k ++ xs → now ≡ text ++ turns_text (turn_at l k xs ∷ []) → Did G (at_line c k l.line) d n m k l next.Call xs t
+pub adds_item : {V : Type 0} (G : Ghosts V) (f : Bool) (c d : Crowd) (n m : NodeState V) (l : NumberedLine) (k : ℕ) (xs : List Item) (t : Option (ℕ × TransId)) (lists : List (Vec Item Global)) (v : Vec Item Global) (text now : List ℕ) → client_named l.line ≡ Some k → k ≤ 16
+    → length c.places ≡ 17 → length lists ≡ 17 → IsFree G f n → length xs ≤ 5 → v.items ≡ lists_in lists k ++ xs → now ≡ text ++ turns_text (turn_at l k xs ∷ []) → Did G (at_line c k l.line) d n m k l next.Call xs t
     → Adds G f c d n m l lists (slice_set lists k v) text now
 adds_item G f c d n m l k xs t lists v text now named small places many free few is told did =
-    let goes : Goes G f (happened k xs t) f n m = did.goes f free in
+    let goes : Goes G f (happened k xs (trans_of t)) f n m = did.goes f free in
     record {
       step = did.step;
       after_fused = f;
       turns = turn_at l k xs ∷ [];
-      happened_now = happened k xs t;
+      happened_now = happened k xs (trans_of t);
       goes = goes;
-      plays = subst (λ (o : Option ℕ). PlaysLine c l o (turn_at l k xs ∷ []) (happened k xs t) d) (sym named) (xs, t, refl, refl, did.number, did.sends);
+      plays = subst (λ (o : Option ℕ). PlaysLine c l o (turn_at l k xs ∷ []) (happened k xs (trans_of t)) d) (sym named) (xs, t, refl, refl, did.number, did.sends);
       again = starts_own G l.line k n m named;
       places = set_many lists k v;
       lists = λ j. left j (eqb_tells j k);

@@ -2,6 +2,9 @@
 use Rattle.std.specs.Prelude.{◌==◌, true, false, Bool, cond, filter, map as list_map, Option, None, Some, IfSome, Vec, replicate}
 use Rattle.std.specs.Global.{Global}
 use Rattle.std.specs.List.{AllByRecursion}
+use Rattle.std.specs.FinMap.{get-empty}
+use Rattle.std.specs.Ordering.{nat_cmp}
+use Rattle.std.specs.Option.{option_map}
 use Rattle.std.proofs.Common.{inl, inr, ◌≡◌, ℕ, zero, suc, ◌+◌, ◌*◌, ◌<◌, ◌≤◌, ◌^◌, List, [], ◌∷◌, ◌++◌, length, take, get_or, refl, sym, ◌∙◌, ap, subst, arith, append_assoc, append-nil, length-append}
 use Rattle.std.proofs.lemmas.List.{take_more, map-append, length-replicate, length-map}
 use Rattle.std.proofs.lemmas.Grind.{flat_map-append}
@@ -27,18 +30,18 @@ use Rattle.alp_session.specs.Crowd.{Crowd}
 use Rattle.alp_session.specs.Crowds.{new_crowd, client_at}
 use Rattle.alp_session.specs.Frames.{IsRequestOf}
 use Rattle.alp_session.specs.declared.client.Client.{Client}
-use Rattle.alp_session.specs.declared.client.Greeted.{Greeted}
+use Rattle.alp_session.specs.declared.frames.Addressed.{Addressed}
 use Rattle.alp_session.specs.declared.frames.Frames.{Frames}
 use Rattle.alp_vault.specs.declared.vault.Vault.{Ghosts}
 use Rattle.alp_node.specs.Nodes.{start_in}
 use Rattle.alp_node.specs.NodeStates.{NodeState}
 use Rattle.alp_node.specs.declared.server_state.ServerState.{ServerState}
-use Rattle.alp_cluster.specs.Come.{none_come}
+use Rattle.alp_cluster.specs.Come.{Come, none_come}
 use Rattle.alp_cluster.specs.Happens.{Happening, sent_it, timed_out, ticked, forced, stop_set, restarted, lifts, finds, first_stand, AreRecorded, settling}
-use Rattle.alp_cluster.specs.Plays.{Due, timeouts_in, happened, sent_of, IsSettling, GivesLine, PlaysLine, Plays, ArePlayed, IsBegun, BeginsLine}
+use Rattle.alp_cluster.specs.Plays.{Due, timeouts_in, trans_of, happened, sent_of, IsSettling, GivesLine, PlaysLine, Plays, ArePlayed, IsBegun, BeginsLine}
 use Rattle.alp_cluster.specs.Runs.{HasPlayed, HasPlayedOut, HasEndedEarly, HasSettled, SettlesSome}
 use Rattle.alp_cluster.specs.Servers.{IsOn, IsIdle, stand_of}
-use Rattle.alp_cluster.specs.Steps.{HasReached, SpellsPast, IsWithin, HasSentFor, IsToldOf, SpellsOfTold, HasSaid, Adds, AddsSome}
+use Rattle.alp_cluster.specs.Steps.{come_in, session_of, HasReached, SpellsPast, IsWithin, HasSentFor, IsToldOf, SpellsOfTold, HasSaid, Adds, AddsSome}
 use Rattle.alp_cluster.specs.Turns.{Turn, lists_in, own_in, sent_in, turn_of, turns_of, turns_text}
 use Rattle.alp_cluster.specs.declared.fault.RunFault.{RunFault}
 use Rattle.alp_cluster.proofs.GoLemmas.{recorded_append}
@@ -113,7 +116,7 @@ in_line_sent : (c d : Crowd) (l : NumberedLine) (o : Option ℕ) (own : List Tur
 in_line_sent c d l None own mine h = gives_none c l.line mine h.1 ∙ ap sent_in (sym h.0)
 in_line_sent c d l (Some client) own mine h =
     let (xs, t, is, are, at, sends) = h in
-    ap sent_of are ∙ line_sent client xs t ∙ sym (append-nil (list_map (λ (x : Item). (client, x)) xs)) ∙ ap sent_in (sym is)
+    ap sent_of are ∙ line_sent client xs (trans_of t) ∙ sym (append-nil (list_map (λ (x : Item). (client, x)) xs)) ∙ ap sent_in (sym is)
 
 sent_in-append : (ts us : List Turn) → sent_in (ts ++ us) ≡ sent_in ts ++ sent_in us
 sent_in-append ts us = flat_map-append (λ (t : Turn). list_map (λ (x : Item). (t.client, x)) t.items) ts us
@@ -148,7 +151,7 @@ said_more : {V : Type 0} (s : ServerState V) (k : ℕ) (c : Client) (turns own :
 said_more s k c turns own said = subst (HasSaid s k c) (sym (map-append item_of (own_in k turns) (own_in k own)) ∙ ap (list_map item_of) (sym (own_append k turns own))) said
 
 -- its list is short, since the script is
-short_front : (n : ℕ) (xs : List Item) → n < 2 ^ 30 → length xs ≤ 3 * n → length (list_map item_of xs) + 8 < 2 ^ 32
+short_front : (n : ℕ) (xs : List Item) → n < 2 ^ 29 → length xs ≤ 5 * n → length (list_map item_of xs) + 10 < 2 ^ 32
 short_front n xs few many = (let same : length (list_map item_of xs) ≡ length xs = length-map xs item_of in omega (arith, few, many, same))
 
 module _ {V : Type 0} (G : Ghosts V) (ls : List NumberedLine) (c : Crowd) (n m : NodeState V) (lists : List (Vec Item Global)) (text : List ℕ) (h : HasPlayed G ls c n lists text) where
@@ -161,7 +164,7 @@ module _ {V : Type 0} (G : Ghosts V) (ls : List NumberedLine) (c : Crowd) (n m :
       (subst (λ (js : List Entry). AreRecorded (G.tells n.kept.vault) (first_stand (start_in G n)) (h.happened ++ mine) js (stand_of G f m)) (sym journal)
       (recorded_append (G.tells n.kept.vault) (first_stand (start_in G n)) (stand_of G h.is_fused n) (stand_of G f m) h.happened mine n.journal entries h.recorded more)))
 
-  said_front : (k : ℕ) → length ls < 2 ^ 30 → length (list_map item_of (own_in k h.turns)) + 8 < 2 ^ 32
+  said_front : (k : ℕ) → length ls < 2 ^ 29 → length (list_map item_of (own_in k h.turns)) + 10 < 2 ^ 32
   said_front k low = short_front (length ls) (own_in k h.turns) low (h.few k)
 
   pub played_more : (l : NumberedLine) (d : Crowd) (now : List (Vec Item Global)) (told : List ℕ) → Adds G h.is_fused c d n m l lists now text told → HasPlayed G (ls ++ l ∷ []) d m now told
@@ -177,13 +180,13 @@ module _ {V : Type 0} (G : Ghosts V) (ls : List NumberedLine) (c : Crowd) (n m :
     few = λ k. (
         let both : length (own_in k (h.turns ++ a.turns)) ≡ length (own_in k h.turns) + length (own_in k a.turns) = ap (λ (xs : List Item). length xs) (own_append k h.turns a.turns) ∙ length-append (own_in k h.turns) (own_in k a.turns) in
         let one : length (ls ++ l ∷ []) ≡ length ls + 1 = length-append ls (l ∷ []) in
-        let before : length (own_in k h.turns) ≤ 3 * length ls = h.few k in
-        let mine : length (own_in k a.turns) ≤ 3 = a.few k in
+        let before : length (own_in k h.turns) ≤ 5 * length ls = h.few k in
+        let mine : length (own_in k a.turns) ≤ 5 = a.few k in
         omega (arith, both, one, before, mine)
         );
     said = λ low k. (
         let one : length (ls ++ l ∷ []) ≡ length ls + 1 = length-append ls (l ∷ []) in
-        let less : length ls < 2 ^ 30 = omega (arith, low, one) in
+        let less : length ls < 2 ^ 29 = omega (arith, low, one) in
         said_more m.kept k (client_at d k) h.turns a.turns (a.said k (list_map item_of (own_in k h.turns)) (said_front k less) (h.said less k))
         );
     text = a.text ∙ ap (λ (xs : List ℕ). xs ++ turns_text a.turns) h.text ∙ sym (flat_map-append (λ (t : Turn). line_text t.line t.items) h.turns a.turns);
@@ -193,7 +196,7 @@ module _ {V : Type 0} (G : Ghosts V) (ls : List NumberedLine) (c : Crowd) (n m :
   -- ---- a run that ends before its script does
 
   -- in a line
-  pub line_ended : (lines : List NumberedLine) (l : NumberedLine) (later : List NumberedLine) (known : Crowd) (f : RunFault) → lines ≡ ls ++ l ∷ later → length ls < 2 ^ 30 → AddsSome G f h.is_fused c known n m l → HasEndedEarly G lines f m
+  pub line_ended : (lines : List NumberedLine) (l : NumberedLine) (later : List NumberedLine) (known : Crowd) (f : RunFault) → lines ≡ ls ++ l ∷ later → length ls < 2 ^ 29 → AddsSome G f h.is_fused c known n m l → HasEndedEarly G lines f m
   line_ended lines l later known f are low s = record {
     on = s.goes.later.on;
     clients = known;
@@ -229,7 +232,7 @@ module _ {V : Type 0} (G : Ghosts V) (ls : List NumberedLine) (c : Crowd) (n m :
   }
 
   -- or behind all lines
-  pub end_ended : (f : RunFault) → length ls < 2 ^ 30 → SettlesSome G f h.is_fused n m → HasEndedEarly G ls f m
+  pub end_ended : (f : RunFault) → length ls < 2 ^ 29 → SettlesSome G f h.is_fused n m → HasEndedEarly G ls f m
   end_ended f low s = record {
     on = s.goes.later.on;
     clients = c;
@@ -251,7 +254,7 @@ module _ {V : Type 0} (G : Ghosts V) (ls : List NumberedLine) (c : Crowd) (n m :
 
   -- ---- all of it
 
-  pub played_out : length ls < 2 ^ 30 → HasSettled G h.is_fused n m → HasPlayedOut G ls m lists text
+  pub played_out : length ls < 2 ^ 29 → HasSettled G h.is_fused n m → HasPlayedOut G ls m lists text
   played_out low s = record {
     on = s.goes.later.on;
     up = s.up;
@@ -389,13 +392,16 @@ new_list [] k h = refl
 new_list (v ∷ vs) zero h = h.0
 new_list (v ∷ vs) (suc k) h = new_list vs k h.1
 
+none_at : session_of new_client ≡ None
+none_at = ap (option_map come_in) (get-empty nat_cmp 1)
+
 -- nobody knows a session, and nobody was told a thing
-new_session : (k : ℕ) → (client_at new_crowd k).session ≡ None
+new_session : (k : ℕ) → session_of (client_at new_crowd k) ≡ None
 new_session k = go 17 k
   where
-    go : (n k : ℕ) → (get_or (replicate n new_client) k new_client).session ≡ None
-    go zero k = refl
-    go (suc n) zero = refl
+    go : (n k : ℕ) → session_of (get_or (replicate n new_client) k new_client) ≡ None
+    go zero k = none_at
+    go (suc n) zero = none_at
     go (suc n) (suc k) = go n k
 
 new_told : (k : ℕ) → (client_at new_crowd k).told.ts ≡ 0
@@ -424,10 +430,10 @@ new_frames k = go 17 k
     go (suc n) (suc k) = go n k
 
 -- what holds of every frame holds of those that it keeps
-no_last : (P : List ℕ → Type 0) (c : Client) → c.frames ≡ no_frames → IfSome c.frames.last P
+no_last : (P : Addressed → Type 0) (c : Client) → c.frames ≡ no_frames → IfSome c.frames.last P
 no_last P c is = subst (λ (f : Frames). IfSome f.last P) (sym is) tt
 
-no_before : (P : List ℕ → Type 0) (c : Client) → c.frames ≡ no_frames → IfSome c.frames.before P
+no_before : (P : Addressed → Type 0) (c : Client) → c.frames ≡ no_frames → IfSome c.frames.before P
 no_before P c is = subst (λ (f : Frames). IfSome f.before P) (sym is) tt
 
 -- the epoch that it was started in is its own
@@ -447,14 +453,14 @@ module _ {V : Type 0} (G : Ghosts V) (n : NodeState V) (on : IsOn G n) (idle : I
   said_none : (k : ℕ) → HasSaid n.kept k (client_at new_crowd k) []
   said_none k = record {
     numbered = tt;
-    within = subst (λ (o : Option Greeted). IsWithin o none_come) (sym (new_session k)) tt;
+    within = subst (λ (o : Option Come). IsWithin o none_come) (sym (new_session k)) tt;
     reached = inl on.kept.ready.raised;
-    many = subst (λ (o : Option Greeted). HasSentFor 0 o) (sym (new_session k)) tt;
+    many = subst (λ (o : Option Come). HasSentFor 0 o) (sym (new_session k)) tt;
     told = tt;
     seen = tt;
     begun = subst (λ (o : Option TransId). IfSome o (λ t. IsToldOf t [])) (sym (new_begun k)) tt;
-    last = no_last (SpellsOfTold []) (client_at new_crowd k) (new_frames k);
-    before = no_before (SpellsOfTold []) (client_at new_crowd k) (new_frames k);
+    last = no_last (λ f. SpellsOfTold [] f.bytes) (client_at new_crowd k) (new_frames k);
+    before = no_before (λ f. SpellsOfTold [] f.bytes) (client_at new_crowd k) (new_frames k);
     outcomes = tt;
   }
 
@@ -464,12 +470,12 @@ module _ {V : Type 0} (G : Ghosts V) (n : NodeState V) (on : IsOn G n) (idle : I
       on = on;
       places = length-replicate 17 new_client;
       each = λ k. record {
-        session = subst (λ (o : Option Greeted). HasReached n.kept k o) (sym (new_session k)) tt;
+        session = subst (λ (o : Option Come). HasReached n.kept k o) (sym (new_session k)) tt;
         told = (let low : (client_at new_crowd k).told.ts ≡ 0 = new_told k in omega (arith, low));
-        frames = record { last = no_last (IsRequestOf k) (client_at new_crowd k) (new_frames k); before = no_before (IsRequestOf k) (client_at new_crowd k) (new_frames k) };
+        frames = record { last = no_last (λ f. IsRequestOf k f.bytes) (client_at new_crowd k) (new_frames k); before = no_before (λ f. IsRequestOf k f.bytes) (client_at new_crowd k) (new_frames k) };
         past = record {
-          last = no_last (SpellsPast n.kept k (client_at new_crowd k).session) (client_at new_crowd k) (new_frames k);
-          before = no_before (SpellsPast n.kept k (client_at new_crowd k).session) (client_at new_crowd k) (new_frames k);
+          last = no_last (λ f. SpellsPast n.kept k (session_of (client_at new_crowd k)) f.bytes) (client_at new_crowd k) (new_frames k);
+          before = no_before (λ f. SpellsPast n.kept k (session_of (client_at new_crowd k)) f.bytes) (client_at new_crowd k) (new_frames k);
         };
       };
     };

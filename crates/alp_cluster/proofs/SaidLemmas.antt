@@ -9,13 +9,13 @@ use Rattle.alp_files.specs.declared.call.Call.TheVariants as call
 use Rattle.alp_files.specs.declared.reply.Reply.{Reply}
 use Rattle.alp_files.specs.declared.reply.Reply.TheVariants as reply
 use Rattle.alp_session.specs.declared.client.Client.{Client}
-use Rattle.alp_session.specs.declared.client.Greeted.{Greeted}
+use Rattle.alp_session.specs.declared.frames.Addressed.{Addressed}
 use Rattle.alp_session.specs.declared.frames.Frames.{Frames}
 use Rattle.alp_history.specs.Items.{Item, Mark, Own, Repeated, Raw, Sent, stamps_told, stamps_by}
 use Rattle.alp_history.specs.Handed.{HaveSeen, HasSeen}
 use Rattle.alp_node.specs.declared.server_state.ServerState.{ServerState}
 use Rattle.alp_cluster.specs.Come.{Come, none_come, IsReached}
-use Rattle.alp_cluster.specs.Steps.{IsWithin, come_with, come_to, IsSentBy, AreNumbered, IsToldOf, AsksOfTold, SentOfTold, SpellsOfTold, HasSentFor, HasSaid, IsShort}
+use Rattle.alp_cluster.specs.Steps.{session_of, IsWithin, come_with, come_to, IsSentBy, AreNumbered, IsToldOf, AsksOfTold, SentOfTold, SpellsOfTold, HasSentFor, HasSaid, IsShort}
 
 pub all_push : {A : Type 0} (P : A → Type 0) (xs : List A) (x : A) → AllByRecursion P xs → P x → AllByRecursion P (xs ++ x ∷ [])
 all_push P [] x h k = (k, tt)
@@ -65,9 +65,9 @@ sent_left xs ys Own (Some s) h = asks_left xs ys s.call h
 sent_left xs ys Repeated None h = tt
 sent_left xs ys Repeated (Some s) h = asks_left xs ys s.call h
 
-spells_left : (xs ys : List Item) (o : Option (List ℕ)) → IfSome o (SpellsOfTold xs) → IfSome o (SpellsOfTold (xs ++ ys))
+spells_left : (xs ys : List Item) (o : Option Addressed) → IfSome o (λ f. SpellsOfTold xs f.bytes) → IfSome o (λ f. SpellsOfTold (xs ++ ys) f.bytes)
 spells_left xs ys None h = tt
-spells_left xs ys (Some bytes) h = λ r is. asks_left xs ys r.call (h r is)
+spells_left xs ys (Some f) h = λ r is. asks_left xs ys r.call (h r is)
 
 -- ---- what it has seen
 
@@ -93,22 +93,22 @@ item_at m k epoch number asked r place = record { server = 1; mark = m; sent = S
 -- whose outcomes the client may ask for: of its last begin, and again by its last frames
 pub record KnowsOf (c : Client) (xs : List Item) : Type 0 where
   pub begun : IfSome c.begun (λ t. IsToldOf t xs)
-  pub last : IfSome c.frames.last (SpellsOfTold xs)
-  pub before : IfSome c.frames.before (SpellsOfTold xs)
+  pub last : IfSome c.frames.last (λ f. SpellsOfTold xs f.bytes)
+  pub before : IfSome c.frames.before (λ f. SpellsOfTold xs f.bytes)
 
 -- what the client's knowledge comes to by an item: its call stands in its turn, and the server has come to it; it has seen what it
 -- had to, and the client knows what it is told now
 pub record IsNextItem {V : Type 0} (s t : ServerState V) (m : Mark) (k : ℕ) (c d : Client) (epoch number : ℕ) (asked : Call) (r : Option Reply) : Type 0 where
-  pub turn : (a : Come) (n : ℕ) → n + 4 < 2 ^ 32 → HasSentFor n c.session → IsWithin c.session a → IsReached s k a → IsSentBy k a m (Some (record { client = k; epoch = epoch; number = number; call = asked }))
-  pub within : (a : Come) → IsWithin c.session a → IsReached s k a → IsWithin d.session (come_with a m (Some (record { client = k; epoch = epoch; number = number; call = asked })))
-  pub reached : (a : Come) → IsWithin c.session a → IsReached s k a → IsReached t k (come_with a m (Some (record { client = k; epoch = epoch; number = number; call = asked })))
-  pub many : (n : ℕ) → HasSentFor n c.session → HasSentFor (n + 1) d.session
+  pub turn : (a : Come) (n : ℕ) → n + 4 < 2 ^ 32 → HasSentFor n (session_of c) → IsWithin (session_of c) a → IsReached s k a → IsSentBy k a m (Some (record { client = k; epoch = epoch; number = number; call = asked }))
+  pub within : (a : Come) → IsWithin (session_of c) a → IsReached s k a → IsWithin (session_of d) (come_with a m (Some (record { client = k; epoch = epoch; number = number; call = asked })))
+  pub reached : (a : Come) → IsWithin (session_of c) a → IsReached s k a → IsReached t k (come_with a m (Some (record { client = k; epoch = epoch; number = number; call = asked })))
+  pub many : (n : ℕ) → HasSentFor n (session_of c) → HasSentFor (n + 1) (session_of d)
   pub told : c.told.ts ≤ d.told.ts
   pub stamps : AllByRecursion (λ (s : Stamp). s.ts ≤ d.told.ts) (stamps_by m r)
   pub seen : (all : List Stamp) → AllByRecursion (λ (s : Stamp). s.ts ≤ c.told.ts) all → HasSeen all m (Some (record { client = k; epoch = epoch; number = number; call = asked }))
   pub begun : (d.begun ≡ c.begun) ⊎ ((u : TransId) × (r ≡ Some (reply.Begun u)) × (d.begun ≡ Some u))
-  pub last : (xs : List Item) → KnowsOf c xs → IfSome d.frames.last (SpellsOfTold xs)
-  pub before : (xs : List Item) → KnowsOf c xs → IfSome d.frames.before (SpellsOfTold xs)
+  pub last : (xs : List Item) → KnowsOf c xs → IfSome d.frames.last (λ f. SpellsOfTold xs f.bytes)
+  pub before : (xs : List Item) → KnowsOf c xs → IfSome d.frames.before (λ f. SpellsOfTold xs f.bytes)
   pub outcome : (xs : List Item) → KnowsOf c xs → SentOfTold xs m (Some (record { client = k; epoch = epoch; number = number; call = asked }))
 
 begun_push : (c d : Client) (xs : List Item) (x : Item) → IfSome c.begun (λ t. IsToldOf t xs) → (d.begun ≡ c.begun) ⊎ ((u : TransId) × (x.reply ≡ Some (reply.Begun u)) × (d.begun ≡ Some u)) → IfSome d.begun (λ t. IsToldOf t (xs ++ x ∷ []))
@@ -134,9 +134,9 @@ said_more s t m k c d epoch number asked r place xs n short h =
     let knows : KnowsOf c xs = record { begun = h.begun; last = h.last; before = h.before } in
     record {
       numbered = numbered_push k none_come xs x h.numbered (n.turn a (length xs) short h.many h.within h.reached);
-      within = subst (IsWithin d.session) (sym now) (n.within a h.within h.reached);
+      within = subst (IsWithin (session_of d)) (sym now) (n.within a h.within h.reached);
       reached = subst (IsReached t k) (sym now) (n.reached a h.within h.reached);
-      many = subst (λ (j : ℕ). HasSentFor j d.session) (sym (long_push xs x)) (n.many (length xs) h.many);
+      many = subst (λ (j : ℕ). HasSentFor j (session_of d)) (sym (long_push xs x)) (n.many (length xs) h.many);
       told = told_push xs x c.told.ts d.told.ts n.told h.told n.stamps;
       seen = seen_push [] xs x c.told.ts tt h.told h.seen n.seen;
       begun = begun_push c d xs x h.begun n.begun;
@@ -147,7 +147,7 @@ said_more s t m k c d epoch number asked r place xs n short h =
 
 -- ---- an item of a raw line, and none
 
-one_more_sent : (n : ℕ) (o : Option Greeted) → HasSentFor n o → HasSentFor (n + 1) o
+one_more_sent : (n : ℕ) (o : Option Come) → HasSentFor n o → HasSentFor (n + 1) o
 one_more_sent n None h = tt
 one_more_sent n (Some g) h = omega (arith, h)
 
@@ -159,9 +159,9 @@ said_raw s t k c xs server sent r place on h =
     let now : come_to none_come (xs ++ x ∷ []) ≡ come_to none_come xs = come_to-push none_come xs x in
     record {
       numbered = numbered_push k none_come xs x h.numbered tt;
-      within = subst (IsWithin c.session) (sym now) h.within;
+      within = subst (IsWithin (session_of c)) (sym now) h.within;
       reached = subst (IsReached t k) (sym now) (on (come_to none_come xs) h.reached);
-      many = subst (λ (j : ℕ). HasSentFor j c.session) (sym (long_push xs x)) (one_more_sent (length xs) c.session h.many);
+      many = subst (λ (j : ℕ). HasSentFor j (session_of c)) (sym (long_push xs x)) (one_more_sent (length xs) (session_of c) h.many);
       told = told_push xs x c.told.ts c.told.ts (omega arith) h.told tt;
       seen = seen_push [] xs x c.told.ts tt h.told h.seen (λ all low. tt);
       begun = begun_push c c xs x h.begun (inl refl);
@@ -171,16 +171,16 @@ said_raw s t k c xs server sent r place on h =
     }
 
 -- the server goes on, and the client stays as it is in all that is asked
-pub said_later : {V : Type 0} (s t : ServerState V) (k : ℕ) (c d : Client) (xs : List Item) → ((a : Come) → IsReached s k a → IsReached t k a) → d.session ≡ c.session → d.told ≡ c.told → d.begun ≡ c.begun → d.frames ≡ c.frames → HasSaid s k c xs → HasSaid t k d xs
+pub said_later : {V : Type 0} (s t : ServerState V) (k : ℕ) (c d : Client) (xs : List Item) → ((a : Come) → IsReached s k a → IsReached t k a) → session_of d ≡ session_of c → d.told ≡ c.told → d.begun ≡ c.begun → d.frames ≡ c.frames → HasSaid s k c xs → HasSaid t k d xs
 said_later s t k c d xs on session told begun frames h = record {
   numbered = h.numbered;
-  within = subst (λ (o : Option Greeted). IsWithin o (come_to none_come xs)) (sym session) h.within;
+  within = subst (λ (o : Option Come). IsWithin o (come_to none_come xs)) (sym session) h.within;
   reached = on (come_to none_come xs) h.reached;
   many = subst (HasSentFor (length xs)) (sym session) h.many;
   told = subst (λ (u : Stamp). AllByRecursion (λ (y : Item). AllByRecursion (λ (z : Stamp). z.ts ≤ u.ts) (stamps_told y)) xs) (sym told) h.told;
   seen = h.seen;
   begun = subst (λ (o : Option TransId). IfSome o (λ t. IsToldOf t xs)) (sym begun) h.begun;
-  last = subst (λ (f : Frames). IfSome f.last (SpellsOfTold xs)) (sym frames) h.last;
-  before = subst (λ (f : Frames). IfSome f.before (SpellsOfTold xs)) (sym frames) h.before;
+  last = subst (λ (f : Frames). IfSome f.last (λ z. SpellsOfTold xs z.bytes)) (sym frames) h.last;
+  before = subst (λ (f : Frames). IfSome f.before (λ z. SpellsOfTold xs z.bytes)) (sym frames) h.before;
   outcomes = h.outcomes;
 }

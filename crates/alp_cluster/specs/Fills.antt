@@ -19,9 +19,9 @@ use Rattle.alp_cluster.specs.declared.fault.RunFault.TheVariants as fault
 
 -- ---- why a run goes no further
 
--- it makes an entry at a server that is up: a request of a client, or an event
+-- it makes an entry at the server where that is up: a request of a client, or an event
 abbrev pub IsStepDue : Due → Type 0
-IsStepDue (to_send client frame) = IsSome (whole request frame)
+IsStepDue (to_send client frame) = (frame.server ≡ 1) × IsSome (whole request frame.bytes)
 IsStepDue (to_come (timed_out t)) = Unit {0}
 IsStepDue (to_come ticked) = Unit {0}
 IsStepDue (to_come forced) = Unit {0}

@@ -10,6 +10,7 @@ use Rattle.alp_lines.specs.declared.line.Line.{Line}
 use Rattle.alp_lines.specs.declared.line.Line.TheVariants as line
 use Rattle.alp_session.specs.Crowd.{Crowd}
 use Rattle.alp_session.specs.Crowds.{new_crowd, client_at, asks, at_line, declares, hears, times_out, Sends}
+use Rattle.alp_session.specs.declared.frames.Addressed.{Addressed}
 use Rattle.alp_session.specs.declared.waiting.Next.{Next}
 use Rattle.alp_session.specs.declared.waiting.Next.TheVariants as next
 use Rattle.alp_session.specs.Frames.{IsOfFrame}
@@ -21,6 +22,11 @@ use Rattle.alp_cluster.specs.Happens.{Happening, sent_it, timed_out, ticked, for
 abbrev pub timeouts_in : Option TransId → List Happening
 timeouts_in None = []
 timeouts_in (Some t) = timed_out t ∷ []
+
+-- the transaction of what is due at a server: that of the run is the only one
+abbrev pub trans_of : Option (ℕ × TransId) → Option TransId
+trans_of None = None
+trans_of (Some due) = Some due.1
 
 -- the client sent these, and behind them its transaction may have timed out
 abbrev pub happened : ℕ → List Item → Option TransId → List Happening
@@ -52,7 +58,7 @@ GivesLine c l hs = hs ≡ []
 abbrev pub PlaysLine : Crowd → NumberedLine → Option ℕ → List Turn → List Happening → Crowd → Type 0
 PlaysLine c l None turns hs d = (turns ≡ []) × GivesLine c l.line hs × (d ≡ declares c l.line)
 PlaysLine c l (Some client) turns hs d =
-    (xs : List Item) × (t : Option TransId) × (turns ≡ record { line = l.number; client = client; items = xs } ∷ []) × (hs ≡ happened client xs t)
+    (xs : List Item) × (t : Option (ℕ × TransId)) × (turns ≡ record { line = l.number; client = client; items = xs } ∷ []) × (hs ≡ happened client xs (trans_of t))
     × AllByRecursion (λ (x : Item). x.line ≡ l.number) xs × Sends (at_line c client l.line) client l.line next.Call xs t d
 
 -- the turns are those of the script's lines, in order, each by what its client was handed before, and so is all that happens
@@ -75,7 +81,7 @@ pub record ArePlayed (lines : List NumberedLine) (turns : List Turn) (hs : List 
 
 -- what was to come next: a frame of a client, or something else
 pub data Due : Type 0 where
-  to_send : (client : ℕ) (frame : List ℕ) → Due
+  to_send : (client : ℕ) (frame : Addressed) → Due
   to_come : (h : Happening) → Due
 
 -- of what happens by a line or a settling this much happened, and that was to come next
@@ -89,9 +95,9 @@ pub record IsBegun (P : List Happening → Type 0) (hs : List Happening) (due : 
 -- then
 abbrev pub SendsMore : Crowd → ℕ → Line → Next → List Item → Due → Crowd → Type 0
 SendsMore c k l n [] due d =
-    (((frame : List ℕ) × (asks c k l n ≡ Some frame) × (due ≡ to_send k frame)) ⊎ ((t : TransId) × (times_out c k n ≡ Some t) × (due ≡ to_come (timed_out t)))) × (d ≡ c)
+    (((frame : Addressed) × (asks c k l n ≡ Some frame) × (due ≡ to_send k frame)) ⊎ ((t : ℕ × TransId) × (times_out c k n ≡ Some t) × (due ≡ to_come (timed_out t.1)))) × (d ≡ c)
 SendsMore c k l n (x ∷ xs) due d =
-    (frame : List ℕ) × (asks c k l n ≡ Some frame) × IsOfFrame l frame x × SendsMore (hears c k l n frame x.reply).0 k l (hears c k l n frame x.reply).1 xs due d
+    (frame : Addressed) × (asks c k l n ≡ Some frame) × IsOfFrame l frame x × SendsMore (hears c k l n frame x.reply).0 k l (hears c k l n frame x.reply).1 xs due d
 
 -- a line that is not over, with its turn so far
 abbrev pub BeginsLine : Crowd → NumberedLine → Option ℕ → List Turn → List Happening → Due → Crowd → Type 0

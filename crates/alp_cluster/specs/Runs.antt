@@ -52,8 +52,8 @@ pub record HasPlayed {V : Type 0} (G : Ghosts V) (lines : List NumberedLine) (c 
   pub plays : Plays new_crowd lines turns happened c
   pub places : length vs ≡ 17
   pub lists : (k : ℕ) → lists_in vs k ≡ own_in k turns
-  pub few : (k : ℕ) → length (own_in k turns) ≤ 3 * length lines
-  pub said : length lines < 2 ^ 30 → (k : ℕ) → HasSaid n.kept k (client_at c k) (list_map item_of (own_in k turns))
+  pub few : (k : ℕ) → length (own_in k turns) ≤ 5 * length lines
+  pub said : length lines < 2 ^ 29 → (k : ℕ) → HasSaid n.kept k (client_at c k) (list_map item_of (own_in k turns))
   pub text : printed ≡ turns_text turns
   pub recorded : AreRecorded (G.tells n.kept.vault) (first_stand (start_in G n)) happened n.journal (stand_of G is_fused n)
 

@@ -1,7 +1,9 @@
 -- The clients and their server in step: what each knows of the other, and what a line does to them.
 use Rattle.std.specs.Prelude.{◌≡◌, ◌≢◌, ◌⊎◌, ℕ, ◌+◌, ◌<◌, ◌≤◌, ◌^◌, Bool, true, List, ◌∷◌, [], ◌++◌, length, map as list_map, Option, None, Some, IfSome, IsSome, Vec}
 use Rattle.std.specs.Global.{Global}
+use Rattle.std.specs.FinMap as map
 use Rattle.std.specs.List.{AllByRecursion}
+use Rattle.std.specs.Option.{option_map}
 use Rattle.alp_base.specs.declared.ids.Stamp.{Stamp}
 use Rattle.alp_base.specs.declared.ids.TransId.{TransId}
 use Rattle.alp_files.specs.declared.call.Call.{Call}
@@ -21,7 +23,8 @@ use Rattle.alp_lines.specs.Named.{client_named}
 use Rattle.alp_lines.specs.declared.line.Line.{Line}
 use Rattle.alp_lines.specs.declared.line.Line.TheVariants as line
 use Rattle.alp_session.specs.declared.client.Client.{Client}
-use Rattle.alp_session.specs.declared.client.Greeted.{Greeted}
+use Rattle.alp_session.specs.declared.frames.Addressed.{Addressed}
+use Rattle.alp_session.specs.declared.greeted.Greeted.{Greeted}
 use Rattle.alp_session.specs.Frames.{mark_of, IsOfFrame, KeepsRequests}
 use Rattle.alp_session.specs.Crowd.{Crowd}
 use Rattle.alp_session.specs.Crowds.{client_at, declares, hears, Sends}
@@ -34,7 +37,7 @@ use Rattle.alp_cluster.specs.Come.{Come, none_come, IsUpTo, IsBelow, further, Is
 use Rattle.alp_cluster.specs.Goes.{Goes, GoesSome}
 use Rattle.alp_cluster.specs.Turns.{Turn, lists_in, own_in, turns_text}
 use Rattle.alp_cluster.specs.Happens.{Happening, sent_it}
-use Rattle.alp_cluster.specs.Plays.{Due, happened, GivesLine, IsBegun, PlaysLine, SendsMore, BeginsLine}
+use Rattle.alp_cluster.specs.Plays.{Due, happened, trans_of, GivesLine, IsBegun, PlaysLine, SendsMore, BeginsLine}
 use Rattle.alp_cluster.specs.Rests.{RestsAgain}
 use Rattle.alp_cluster.specs.Servers.{IsOn, IsFree, StartsAgain}
 use Rattle.alp_cluster.specs.declared.fault.RunFault.{RunFault}
@@ -45,38 +48,42 @@ use Rattle.alp_cluster.specs.declared.fault.RunFault.{RunFault}
 abbrev pub come_in : Greeted → Come
 come_in g = record { epoch = g.epoch; number = g.last }
 
-abbrev pub HasReached : {V : Type 0} → ServerState V → ℕ → Option Greeted → Type 0
+-- how far the client's session with the server has come, if it has one
+abbrev pub session_of : Client → Option Come
+session_of c = option_map come_in (map.get c.sessions 1)
+
+abbrev pub HasReached : {V : Type 0} → ServerState V → ℕ → Option Come → Type 0
 HasReached k client None = Unit {0}
-HasReached k client (Some g) = (0 < g.epoch) × (g.last < 2 ^ 32) × IsReached k client (come_in g)
+HasReached k client (Some g) = (0 < g.epoch) × (g.number < 2 ^ 32) × IsReached k client g
 
 -- it does not go past the client's session, if it has one
-abbrev pub IsWithin : Option Greeted → Come → Type 0
+abbrev pub IsWithin : Option Come → Come → Type 0
 IsWithin None a = Unit {0}
-IsWithin (Some g) a = IsUpTo a (come_in g)
+IsWithin (Some g) a = IsUpTo a g
 
 -- ---- what a client may send again
 
 -- a greeting; or a call that is not past the client's session, and to which the server has come
-abbrev pub IsPastCall : {V : Type 0} → ServerState V → ℕ → Option Greeted → Come → Call → Type 0
+abbrev pub IsPastCall : {V : Type 0} → ServerState V → ℕ → Option Come → Come → Call → Type 0
 IsPastCall k client session a (call.Hello name) = Unit {0}
 IsPastCall k client session a c = (0 < a.epoch) × IsWithin session a × IsReached k client a
 
-abbrev pub IsPast : {V : Type 0} → ServerState V → ℕ → Option Greeted → Request → Type 0
+abbrev pub IsPast : {V : Type 0} → ServerState V → ℕ → Option Come → Request → Type 0
 IsPast k client session r = IsPastCall k client session (record { epoch = r.epoch; number = r.number }) r.call
 
 -- what the bytes spell is such a request
-abbrev pub SpellsPast : {V : Type 0} → ServerState V → ℕ → Option Greeted → List ℕ → Type 0
+abbrev pub SpellsPast : {V : Type 0} → ServerState V → ℕ → Option Come → List ℕ → Type 0
 SpellsPast k client session bytes = (r : Request) → whole request bytes ≡ Some r → IsPast k client session r
 
 -- no frame that the client may send again is a new call
 pub record KeepsPast {V : Type 0} (k : ServerState V) (client : ℕ) (c : Client) : Type 0 where
-  pub last : IfSome c.frames.last (SpellsPast k client c.session)
-  pub before : IfSome c.frames.before (SpellsPast k client c.session)
+  pub last : IfSome c.frames.last (λ f. SpellsPast k client (session_of c) f.bytes)
+  pub before : IfSome c.frames.before (λ f. SpellsPast k client (session_of c) f.bytes)
 
 -- The server has come to what a client takes for its session; no stamp that the client was told is one that clocks do not show; and
 -- the frames that it may send again are requests of its own that are past.
 pub record IsInStep {V : Type 0} (k : ServerState V) (number : ℕ) (c : Client) : Type 0 where
-  pub session : HasReached k number c.session
+  pub session : HasReached k number (session_of c)
   pub told : c.told.ts ≤ 2 ^ 62
   pub frames : KeepsRequests number c
   pub past : KeepsPast k number c
@@ -151,22 +158,22 @@ abbrev pub SpellsOfTold : List items.Item → List ℕ → Type 0
 SpellsOfTold xs bytes = (r : Request) → whole request bytes ≡ Some r → AsksOfTold xs r.call
 
 -- its session's last number is at most that of what it sent
-abbrev pub HasSentFor : ℕ → Option Greeted → Type 0
+abbrev pub HasSentFor : ℕ → Option Come → Type 0
 HasSentFor sent None = Unit {0}
-HasSentFor sent (Some g) = g.last ≤ sent
+HasSentFor sent (Some g) = g.number ≤ sent
 
 -- What it sent and was handed, as its machine and the server have it: calls in turn, which the server has come to; begins of its own
 -- that have seen all that it was told; and outcomes of what it was told began.
 pub record HasSaid {V : Type 0} (s : ServerState V) (k : ℕ) (c : Client) (xs : List items.Item) : Type 0 where
   pub numbered : AreNumbered k none_come xs
-  pub within : IsWithin c.session (come_to none_come xs)
+  pub within : IsWithin (session_of c) (come_to none_come xs)
   pub reached : IsReached s k (come_to none_come xs)
-  pub many : HasSentFor (length xs) c.session
+  pub many : HasSentFor (length xs) (session_of c)
   pub told : AllByRecursion (λ (x : items.Item). AllByRecursion (λ (s : Stamp). s.ts ≤ c.told.ts) (stamps_told x)) xs
   pub seen : HaveSeen [] xs
   pub begun : IfSome c.begun (λ t. IsToldOf t xs)
-  pub last : IfSome c.frames.last (SpellsOfTold xs)
-  pub before : IfSome c.frames.before (SpellsOfTold xs)
+  pub last : IfSome c.frames.last (λ f. SpellsOfTold xs f.bytes)
+  pub before : IfSome c.frames.before (λ f. SpellsOfTold xs f.bytes)
   pub outcomes : AllByRecursion (λ (x : items.Item). SentOfTold xs x.mark x.sent) xs
 
 -- a client's list is short of the last number that a call may have
@@ -180,27 +187,9 @@ abbrev pub IsOwnNext : Line → Next → Type 0
 IsOwnNext l next.Collect = mark_of l ≡ mark.Own
 IsOwnNext l n = Unit {0}
 
--- nothing more is sent
-abbrev pub IsLast : Next → Type 0
-IsLast next.Call = ⊥
-IsLast next.Collect = ⊥
-IsLast n = Unit {0}
-
--- the call of the line was sent
-abbrev pub IsNoCall : Next → Type 0
-IsNoCall next.Call = ⊥
-IsNoCall n = Unit {0}
-
--- what is known of a line behind a frame of it: the client has a session where it sends another, and a collect is of a line with a
--- frame of its own
-abbrev pub GoesOn : Line → Option Greeted → Next → Type 0
-GoesOn l o next.Call = IsSome o
-GoesOn l o next.Collect = (mark_of l ≡ mark.Own) × IsSome o
-GoesOn l o n = Unit {0}
-
 -- One item of a client: the frame went out, its entry stands last in the journal, if there is one, and the client heard what it was
 -- handed.
-pub record Exchanged {V : Type 0} (G : Ghosts V) (old new : Crowd) (before after : NodeState V) (k : ℕ) (l : NumberedLine) (now : Next) (frame : List ℕ) (behind : Next) (x : Item) : Type 0 where
+pub record Exchanged {V : Type 0} (G : Ghosts V) (old new : Crowd) (before after : NodeState V) (k : ℕ) (l : NumberedLine) (now : Next) (frame : Addressed) (behind : Next) (x : Item) : Type 0 where
   pub step : InStep G new after
   pub goes : (f : Bool) → IsFree G f before → Goes G f (sent_it k x ∷ []) f before after
   pub number : x.line ≡ l.number
@@ -210,9 +199,9 @@ pub record Exchanged {V : Type 0} (G : Ghosts V) (old new : Crowd) (before after
 
 -- Of a line's items, each with what came of it; and behind them its client's transaction may time out. `now` is what the client does
 -- first.
-pub record Did {V : Type 0} (G : Ghosts V) (old new : Crowd) (before after : NodeState V) (k : ℕ) (l : NumberedLine) (now : Next) (xs : List Item) (t : Option TransId) : Type 0 where
+pub record Did {V : Type 0} (G : Ghosts V) (old new : Crowd) (before after : NodeState V) (k : ℕ) (l : NumberedLine) (now : Next) (xs : List Item) (t : Option (ℕ × TransId)) : Type 0 where
   pub step : InStep G new after
-  pub goes : (f : Bool) → IsFree G f before → Goes G f (happened k xs t) f before after
+  pub goes : (f : Bool) → IsFree G f before → Goes G f (happened k xs (trans_of t)) f before after
   pub number : AllByRecursion (λ (x : Item). x.line ≡ l.number) xs
   pub sends : Sends old k l.line now xs t new
   pub said : (front : List items.Item) → length front + length xs + 4 < 2 ^ 32 → HasSaid before.kept k (client_at old k) front → HasSaid after.kept k (client_at new k) (front ++ list_map item_of xs)
@@ -262,8 +251,8 @@ pub record Adds {V : Type 0} (G : Ghosts V) (before_fused : Bool) (old new : Cro
   pub again : StartsBy G l.line before after
   pub places : length lists_after ≡ length lists_before
   pub lists : (k : ℕ) → lists_in lists_after k ≡ lists_in lists_before k ++ own_in k turns
-  pub few : (k : ℕ) → length (own_in k turns) ≤ 3
-  pub said : (k : ℕ) (front : List items.Item) → length front + 8 < 2 ^ 32 → HasSaid before.kept k (client_at old k) front → HasSaid after.kept k (client_at new k) (front ++ list_map item_of (own_in k turns))
+  pub few : (k : ℕ) → length (own_in k turns) ≤ 5
+  pub said : (k : ℕ) (front : List items.Item) → length front + 10 < 2 ^ 32 → HasSaid before.kept k (client_at old k) front → HasSaid after.kept k (client_at new k) (front ++ list_map item_of (own_in k turns))
   pub text : text_after ≡ text_before ++ turns_text turns
 
 -- some of it, and the rest could not come for that fault
@@ -273,5 +262,5 @@ pub record AddsSome {V : Type 0} (G : Ghosts V) (f : RunFault) (before_fused : B
   pub due : Due
   pub goes : GoesSome G f before_fused happened_now due before after
   pub begins : BeginsLine old l (client_named l.line) turns happened_now due new
-  pub few : (k : ℕ) → length (own_in k turns) ≤ 3
-  pub said : (k : ℕ) (front : List items.Item) → length front + 8 < 2 ^ 32 → HasSaid before.kept k (client_at old k) front → HasSaid after.kept k (client_at new k) (front ++ list_map item_of (own_in k turns))
+  pub few : (k : ℕ) → length (own_in k turns) ≤ 5
+  pub said : (k : ℕ) (front : List items.Item) → length front + 10 < 2 ^ 32 → HasSaid before.kept k (client_at old k) front → HasSaid after.kept k (client_at new k) (front ++ list_map item_of (own_in k turns))

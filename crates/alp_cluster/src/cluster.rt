@@ -6,7 +6,7 @@ ghost use Rattle.alp_lines.specs.Named.{client_named};
 ghost use Rattle.alp_node.specs.NodeStates.{NodeState};
 ghost use Rattle.alp_node.specs.DownStates.{DownState};
 ghost use Rattle.alp_node.specs.declared.start.StartFault.{StartFault as AStartFault};
-ghost use Rattle.alp_script.specs.Accepted.{IsAccepted};
+ghost use Rattle.alp_script.specs.Accepted.{IsAccepted, servers_said};
 ghost use Rattle.alp_script.specs.Order.{names_ours};
 ghost use Rattle.alp_session.specs.Crowd.{Crowd};
 ghost use Rattle.alp_cluster.specs.declared.fault.RunFault.TheVariants as run_fault;
@@ -102,7 +102,7 @@ impl<V: Vault> Cluster<V> {
     pub fn play_step(&mut self, line: &NumberedLine) -> Result<(), RunFault>
         requires playing { (p : TheParties V) × (self.old.standing ≡ playing p) × InStep V.Vault p.clients p.node }
         requires form { IsForm line.now.line }
-        requires ours { names_ours line.now.line ≡ true }
+        requires ours { names_ours 1 line.now.line ≡ true }
         requires places { length self.old.lists.items ≡ 17 }
         ensures gone { (p : TheParties V) → self.old.standing ≡ playing p → (v : V) × HasVault self.new.standing v × HasGone V.Vault (is_stop_line line.now.line ≡ false) p.node.kept.vault v result }
         ensures ended { OnEnd result (λ f. (p : TheParties V) → self.old.standing ≡ playing p → (b : Bool) → IsFree V.Vault b p.node → (n : NodeState V) × (known : Crowd) × EndsAt V.Vault self.new.standing f n × AddsSome V.Vault f b p.clients known p.node n line.now) }
@@ -264,6 +264,7 @@ impl<V: Vault> Cluster<V> {
     // Plays all lines on a server that did nothing yet.
     fn play(&mut self, lines: &[NumberedLine]) -> Result<(), RunFault>
         requires accepted { IsAccepted lines.now }
+        requires single { servers_said lines.now ≡ 1 }
         requires new { (p : TheParties V) × (self.old.standing ≡ playing p) × HasPlayed V.Vault [] p.clients p.node self.old.lists.items self.old.text.items }
         ensures gone { (p : TheParties V) → self.old.standing ≡ playing p → (v : V) × HasVault self.new.standing v × HasGone V.Vault (StopNone lines.now) p.node.kept.vault v result }
         ensures ended { OnEnd result (λ f. (p : TheParties V) → self.old.standing ≡ playing p → (n : NodeState V) × EndsAt V.Vault self.new.standing f n × (n.opening ≡ p.node.opening) × (V.tells n.kept.vault ≡ V.tells p.node.kept.vault) × HasEndedEarly V.Vault lines.now f n) }
@@ -279,6 +280,7 @@ impl<V: Vault> Cluster<V> {
     /// does not start again or memory is wanting, the rest is not played.
     pub fn play_out(&mut self, lines: &[NumberedLine]) -> Result<(), RunFault>
         requires accepted { IsAccepted lines.now }
+        requires single { servers_said lines.now ≡ 1 }
         requires new { (p : TheParties V) × (self.old.standing ≡ playing p) × HasPlayed V.Vault [] p.clients p.node self.old.lists.items self.old.text.items }
         ensures gone { (p : TheParties V) → self.old.standing ≡ playing p → (v : V) × HasVault self.new.standing v × HasGone V.Vault (StopNone lines.now) p.node.kept.vault v result }
         ensures ended { OnEnd result (λ f. (p : TheParties V) → self.old.standing ≡ playing p → (n : NodeState V) × EndsAt V.Vault self.new.standing f n × (n.opening ≡ p.node.opening) × (V.tells n.kept.vault ≡ V.tells p.node.kept.vault) × HasEndedEarly V.Vault lines.now f n) }

@@ -1,5 +1,5 @@
 //! The parties of a run: its server, and the clients of the script. They exchange frames.
-ghost use Rattle.std.specs.Prelude.{◌≡◌, ◌≤◌, [], ◌∷◌, ◌++◌, List, OnOk, IfOk, IfSome, IsSome, Option, None, Some, length, Bool, false};
+ghost use Rattle.std.specs.Prelude.{◌≡◌, ◌≤◌, [], ◌∷◌, ◌++◌, List, ℕ, OnOk, IfOk, IfSome, IsSome, Option, None, Some, length, Bool, false};
 ghost use Rattle.alp_base.specs.declared.ids.TransId.{TransId as ATrans};
 ghost use Rattle.alp_fields.specs.Forms.{whole};
 ghost use Rattle.alp_journal.specs.declared.log.Item.{Item as AnItem};
@@ -7,26 +7,28 @@ ghost use Rattle.alp_lines.specs.Forms.{IsForm};
 ghost use Rattle.alp_lines.specs.Named.{client_named};
 ghost use Rattle.alp_node.specs.Served.{IsServed};
 ghost use Rattle.alp_rpc.specs.Frames.{request};
+ghost use Rattle.alp_session.specs.Ahead.{ahead, IsOnItsWay};
 ghost use Rattle.alp_session.specs.Crowd.{Crowd};
 ghost use Rattle.alp_session.specs.Crowds.{client_at, request_next, times_out, asks};
 ghost use Rattle.alp_session.specs.Frames.{mark_of as mark_said};
 ghost use Rattle.alp_session.specs.declared.waiting.Next.TheVariants as next;
 ghost use Rattle.alp_cluster.specs.declared.fault.RunFault.TheVariants as run_fault;
+ghost use Rattle.alp_cluster.specs.Plays.{trans_of};
 ghost use Rattle.alp_cluster.specs.Runs.{is_stop_line, restarts};
 ghost use Rattle.alp_cluster.specs.Servers.{IsOn, IsFree, HasGone, HasTimed, HasComeTo, HasStopSet, HasNoRoom, OnFull};
-ghost use Rattle.alp_cluster.specs.Steps.{InStep, IsOwnNext, IsNoCall, GoesOn, Exchanged, Did, DidSome, AddsEvents, AddsSomeEvents};
+ghost use Rattle.alp_cluster.specs.Steps.{InStep, IsOwnNext, Exchanged, Did, DidSome, AddsEvents, AddsSomeEvents};
 ghost use Rattle.alp_cluster.specs.Turns.{turns_text};
 
-use crate::exchange::hand;
+use crate::exchange::{SERVER, hand};
 use crate::fault::RunFault;
 use crate::step::step;
-use alp_base::{Bytes, TransId};
+use alp_base::TransId;
 use alp_journal::{Event, Item, Mark};
 use alp_lines::Line;
 use alp_node::Node;
 use alp_report::put_line;
 use alp_script::NumberedLine;
-use alp_session::{Clients, Next};
+use alp_session::{Addressed, Clients, Next};
 use alp_vault::Vault;
 use std::alloc::Global;
 
@@ -46,6 +48,16 @@ fn mark_of(line: &Line) -> Mark
         Line::Repeat { .. } | Line::Old { .. } => Mark::Repeated,
         Line::Raw { .. } => Mark::Raw,
         _ => Mark::Own,
+    }
+}
+
+// The transaction of what is due at a server: a run of one server has no other.
+fn trans_due(due: Option<(u8, TransId)>) -> Option<TransId>
+    ensures { result ≡ trans_of due }
+{
+    match due {
+        Some((_, trans)) => Some(trans),
+        None => None,
     }
 }
 
@@ -83,7 +95,7 @@ impl<V: Vault> Parties<V> {
         client: u8,
         line: &NumberedLine,
         next: Next,
-        frame: Bytes,
+        frame: Addressed,
     ) -> Result<Next, RunFault>
         requires client { (1 ≤ client) × (client ≤ 16) }
         requires step { InStep V.Vault self.old.clients self.old.node }
@@ -92,10 +104,15 @@ impl<V: Vault> Parties<V> {
         requires fits { IfSome (request_next self.old.clients client line.now.line next) request.Fits }
         requires own { IsOwnNext line.now.line next }
         ensures gone { HasGone V.Vault (Unit {0}) self.old.node.kept.vault self.new.node.kept.vault result }
-        ensures filled { OnFull result (IsSome (whole request frame) × HasNoRoom self.old.node self.new.node) }
+        ensures filled { OnFull result ((frame.server ≡ 1) × IsSome (whole request frame.bytes) × HasNoRoom self.old.node self.new.node) }
         ensures sent { IfOk result (λ behind. (x : AnItem) × (items.new.items ≡ items.old.items ++ x ∷ []) × Exchanged V.Vault self.old.clients self.new.clients self.old.node self.new.node client line.now next frame behind x) }
     {
-        let handed = hand(self.alloc, &mut self.node, client, frame.as_slice())?;
+        // No server gives an id of another, and so no frame goes to another; but of a vault that does not tell what it holds no contract
+        // says so.
+        if frame.server != SERVER {
+            return Err(RunFault::OutOfMemory);
+        }
+        let handed = hand(self.alloc, &mut self.node, client, frame.bytes.as_slice())?;
         let behind = self
             .clients
             .hears(self.alloc, client, &line.line, next, frame, &handed.bytes)?;
@@ -112,80 +129,33 @@ impl<V: Vault> Parties<V> {
         ensures filled { OnFull result (DidSome V.Vault run_fault.JournalFull self.old.clients self.old.clients self.old.node self.new.node client line.now next []) }
         ensures did { OnOk result (Did V.Vault self.old.clients self.new.clients self.old.node self.new.node client line.now next [] (times_out self.old.clients client next)) }
     {
-        let due = self.clients.due(client, next);
+        let due = trans_due(self.clients.due(client, next));
         time_out(&mut self.node, due)
     }
 
-    // What a client sends for a line behind two frames, or behind its call: maybe the collect of a call that is to wait.
-    fn send_last(
-        &mut self,
-        items: &mut Vec<Item>,
-        client: u8,
-        line: &NumberedLine,
-        next: Next,
-    ) -> Result<(), RunFault>
-        requires client { (1 ≤ client) × (client ≤ 16) }
-        requires step { InStep V.Vault self.old.clients self.old.node }
-        requires form { IsForm line.now.line }
-        requires goes { GoesOn line.now.line (client_at self.old.clients client).session next }
-        requires called { IsNoCall next }
-        ensures gone { HasGone V.Vault (Unit {0}) self.old.node.kept.vault self.new.node.kept.vault result }
-        ensures filled { OnFull result ((xs : List AnItem) × (known : Crowd) × (length xs ≤ 1) × DidSome V.Vault run_fault.JournalFull self.old.clients known self.old.node self.new.node client line.now next xs) }
-        ensures did { OnOk result ((xs : List AnItem) × (t : Option ATrans) × (length xs ≤ 1) × (items.new.items ≡ items.old.items ++ xs) × Did V.Vault self.old.clients self.new.clients self.old.node self.new.node client line.now next xs t) }
-    {
-        let Some(frame) = self.clients.asks(self.alloc, client, &line.line, next)? else {
-            return self.end_line(client, line, next);
-        };
-        let behind = self.send(items, client, line, next, frame)?;
-        self.end_line(client, line, behind)
-    }
-
-    // What a client sends for a line behind its first frame: its call behind a greeting, or the collect of a call that is to wait.
-    fn send_more(
-        &mut self,
-        items: &mut Vec<Item>,
-        client: u8,
-        line: &NumberedLine,
-        next: Next,
-    ) -> Result<(), RunFault>
-        requires client { (1 ≤ client) × (client ≤ 16) }
-        requires step { InStep V.Vault self.old.clients self.old.node }
-        requires form { IsForm line.now.line }
-        requires goes { GoesOn line.now.line (client_at self.old.clients client).session next }
-        ensures gone { HasGone V.Vault (Unit {0}) self.old.node.kept.vault self.new.node.kept.vault result }
-        ensures filled { OnFull result ((xs : List AnItem) × (known : Crowd) × (length xs ≤ 2) × DidSome V.Vault run_fault.JournalFull self.old.clients known self.old.node self.new.node client line.now next xs) }
-        ensures did { OnOk result ((xs : List AnItem) × (t : Option ATrans) × (length xs ≤ 2) × (items.new.items ≡ items.old.items ++ xs) × Did V.Vault self.old.clients self.new.clients self.old.node self.new.node client line.now next xs t) }
-    {
-        let Some(frame) = self.clients.asks(self.alloc, client, &line.line, next)? else {
-            return self.end_line(client, line, next);
-        };
-        let behind = self.send(items, client, line, next, frame)?;
-        self.send_last(items, client, line, behind)
-    }
-
-    // What a client sends for a line, and is handed: a greeting maybe, its call, and the collect of that; and where its patience is at
-    // an end its transaction times out.
+    // What a client still sends for a line, and is handed: a greeting maybe, a `Join` maybe, its call, and the collects of those that
+    // are to wait; and where its patience is at an end its transaction times out.
     fn send_line(
         &mut self,
         items: &mut Vec<Item>,
         client: u8,
         line: &NumberedLine,
+        next: Next,
     ) -> Result<(), RunFault>
         requires client { (1 ≤ client) × (client ≤ 16) }
         requires step { InStep V.Vault self.old.clients self.old.node }
         requires form { IsForm line.now.line }
+        requires own { IsOwnNext line.now.line next }
+        requires way { IsOnItsWay self.old.clients.words (client_at self.old.clients client) line.now.line next }
         ensures gone { HasGone V.Vault (Unit {0}) self.old.node.kept.vault self.new.node.kept.vault result }
-        ensures filled { OnFull result ((xs : List AnItem) × (known : Crowd) × (length xs ≤ 3) × DidSome V.Vault run_fault.JournalFull self.old.clients known self.old.node self.new.node client line.now next.Call xs) }
-        ensures did { OnOk result ((xs : List AnItem) × (t : Option ATrans) × (length xs ≤ 3) × (items.new.items ≡ items.old.items ++ xs) × Did V.Vault self.old.clients self.new.clients self.old.node self.new.node client line.now next.Call xs t) }
+        ensures filled { OnFull result ((xs : List AnItem) × (known : Crowd) × (length xs ≤ ahead self.old.clients.words (client_at self.old.clients client) line.now.line next) × DidSome V.Vault run_fault.JournalFull self.old.clients known self.old.node self.new.node client line.now next xs) }
+        ensures did { OnOk result ((xs : List AnItem) × (t : Option (ℕ × ATrans)) × (length xs ≤ ahead self.old.clients.words (client_at self.old.clients client) line.now.line next) × (items.new.items ≡ items.old.items ++ xs) × Did V.Vault self.old.clients self.new.clients self.old.node self.new.node client line.now next xs t) }
     {
-        let Some(frame) = self
-            .clients
-            .asks(self.alloc, client, &line.line, Next::Call)?
-        else {
-            return Ok(());
+        let Some(frame) = self.clients.asks(self.alloc, client, &line.line, next)? else {
+            return self.end_line(client, line, next);
         };
-        let behind = self.send(items, client, line, Next::Call, frame)?;
-        self.send_more(items, client, line, behind)
+        let behind = self.send(items, client, line, next, frame)?;
+        self.send_line(items, client, line, behind)
     }
 
     /// The line of a client, with its line of the report.
@@ -200,11 +170,11 @@ impl<V: Vault> Parties<V> {
         requires step { InStep V.Vault self.old.clients self.old.node }
         requires form { IsForm line.now.line }
         ensures gone { HasGone V.Vault (Unit {0}) self.old.node.kept.vault self.new.node.kept.vault result }
-        ensures filled { OnFull result ((xs : List AnItem) × (known : Crowd) × (length xs ≤ 3) × DidSome V.Vault run_fault.JournalFull self.old.clients known self.old.node self.new.node client line.now next.Call xs) }
-        ensures did { OnOk result ((xs : List AnItem) × (t : Option ATrans) × (length xs ≤ 3) × (items.new.items ≡ items.old.items ++ xs) × (text.new.items ≡ text.old.items ++ turns_text (record { line = line.now.number; client = client; items = xs } ∷ [])) × Did V.Vault self.old.clients self.new.clients self.old.node self.new.node client line.now next.Call xs t) }
+        ensures filled { OnFull result ((xs : List AnItem) × (known : Crowd) × (length xs ≤ 5) × DidSome V.Vault run_fault.JournalFull self.old.clients known self.old.node self.new.node client line.now next.Call xs) }
+        ensures did { OnOk result ((xs : List AnItem) × (t : Option (ℕ × ATrans)) × (length xs ≤ 5) × (items.new.items ≡ items.old.items ++ xs) × (text.new.items ≡ text.old.items ++ turns_text (record { line = line.now.number; client = client; items = xs } ∷ [])) × Did V.Vault self.old.clients self.new.clients self.old.node self.new.node client line.now next.Call xs t) }
     {
         let before = items.len();
-        self.send_line(items, client, line)?;
+        self.send_line(items, client, line, Next::Call)?;
         put_line(text, line.number, &items[before..])?;
         Ok(())
     }

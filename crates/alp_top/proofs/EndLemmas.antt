@@ -24,6 +24,7 @@ use Rattle.alp_history.proofs.Promises.{promises}
 use Rattle.alp_history.specs.RunLogs as runs
 use Rattle.alp_history.specs.RunLogs.{item_of}
 use Rattle.alp_report.specs.Reports.{count_text, summary_text}
+use Rattle.alp_report.proofs.TextLemmas.{one_summary}
 use Rattle.alp_script.specs.declared.numbered.NumberedLine.{NumberedLine}
 use Rattle.alp_script.specs.Accepted.{RisesFrom}
 use Rattle.alp_session.specs.Crowds.{client_at, new_crowd}
@@ -49,15 +50,15 @@ use Rattle.alp_cluster.specs.declared.standing.Standing.TheVariants as standing
 use Rattle.alp_cluster.specs.declared.standing.Standing.TheVariants.{Playing}
 use Rattle.alp_cluster.specs.Plays.{ArePlayed, ranks_from}
 use Rattle.alp_cluster.specs.Runs.{HasPlayedOut}
-use Rattle.alp_cluster.specs.Servers.{IsOn, IsDone, StaysDown, state_of, stand_of}
+use Rattle.alp_cluster.specs.Servers.{IsOn, IsDone, StaysDown, state_of as node_state, stand_of}
 use Rattle.alp_cluster.specs.Turns.{Turn, lists_in, own_in, turns_of, turns_text}
 use Rattle.alp_cluster.proofs.RunLemmas.{turns_are, played_sent}
 use Rattle.alp_top.specs.Anywhere.{IsPlayedThrough}
-use Rattle.alp_top.specs.Endings.{IsEnding, IsServerLog, IsReported, IsEnded, IsVaultOf, IsVaultAt}
+use Rattle.alp_top.specs.Endings.{holding_of, IsEnding, IsServerLog, IsReported, IsEnded, IsVaultOf, IsVaultAt}
 use Rattle.alp_top.specs.Looks.{HasLooked}
 use Rattle.alp_top.specs.Headline.{IsRun, IsOfScript}
 use Rattle.alp_top.specs.Logs.{Log, ServerOfLog, openings, start_of, log_of, lists_of}
-use Rattle.alp_top.specs.Reports.{report_of, ending_text, end_of, files_text_of, owners_text_of, begun_at, counts_text}
+use Rattle.alp_top.specs.Reports.{holding_in, report_of, ending_text, end_of, files_text_of, owners_text_of, begun_at, counts_text}
 use Rattle.alp_top.specs.Tallies.{tally_in}
 use Rattle.alp_top.specs.declared.finish.Ending.{Ending}
 use Rattle.alp_top.proofs.BegunLemmas.{begun_of_run}
@@ -72,7 +73,7 @@ module _ {V : Type 0} (G : Ghosts V) (n : NodeState V) (on : IsOn G n) (up : n.k
   of_journal = on.kept.right told
 
   -- what the server keeps is what is printed of its journal's state
-  pub ending_is : (e : Ending) → IsEnding n e → summary_text e.server e.epoch e.clock (G.held n.kept.vault).cells e.committed e.aborted ≡ ending_text (state_of G n)
+  pub ending_is : (e : Ending) → IsEnding n e → summary_text (holding_of e (G.held n.kept.vault).cells ∷ []) e.committed e.aborted ≡ ending_text (node_state G n)
   unfolding ending_text
   ending_is e is =
       let r = of_journal in
@@ -81,12 +82,12 @@ module _ {V : Type 0} (G : Ghosts V) (n : NodeState V) (on : IsOn G n) (up : n.k
       let counts = tally_is (start_in G n) n.journal r.opening.ready r.opening.decisions r.lawful r.own r.caused.1 in
       let begun : (tally_in n.journal).begun ≡ length s.begun = counts.0 ∙ ap (λ (z : State). length z.begun) r.says in
       let committed : (tally_in n.journal).committed ≡ length s.holder.applied = counts.1 ∙ ap (λ (z : State). length z.holder.applied) r.says in
-      (λ i. summary_text ((is.server ∙ sym k.server) i) ((is.epoch ∙ sym k.epoch) i) ((is.clock ∙ sym k.clock) i) (k.cells up i) ((is.committed ∙ committed) i)
+      (λ i. summary_text (record { server = (is.server ∙ sym k.server) i; epoch = (is.epoch ∙ sym k.epoch) i; clock = (is.clock ∙ sym k.clock) i; cells = k.cells up i } ∷ []) ((is.committed ∙ committed) i)
       ((is.aborted ∙ (λ j. begun j - committed j)) i))
-      ∙ ap (λ (z : State). summary_text z.holder.server z.ids.epoch z.holder.clock z.holder.cells (length z.holder.applied) (length z.begun - length z.holder.applied)) (sym r.says)
+      ∙ ap (λ (z : State). summary_text (holding_in z ∷ []) (length z.holder.applied) (length z.begun - length z.holder.applied)) (sym r.says)
 
   -- its vault holds what its journal says
-  pub held_is : G.held n.kept.vault ≡ said_of (state_of G n)
+  pub held_is : G.held n.kept.vault ≡ said_of (node_state G n)
   held_is =
       let k = of_journal.kept in
       (λ i. record { cells = k.cells up i; notes = k.notes up i }) ∙ ap said_of (sym of_journal.says)
@@ -113,7 +114,8 @@ module _ {V : Type 0} (G : Ghosts V) where
       let texts : (f : State → List ℕ) → flat_map (λ (y : ServerOfLog V). f (end_of G (length log.servers.items) y)) log.servers.items ≡ f s =
       (λ f. ap (λ (xs : List (ServerOfLog V)). flat_map (λ (y : ServerOfLog V). f (end_of G (length xs) y)) xs) one ∙ append-nil (f (end_of G 1 x)) ∙ ap f same) in
       let counts : counts_text G log ≡ ends = (λ i. count_text (as_many i) (begun i - as_many i)) in
-      sym (append_assoc turns (files ++ owners) ends)
+      ap (λ (ts : List ℕ). turns ++ ts) (one_summary (holding_in s) (length s.holder.applied) (length s.begun - length s.holder.applied))
+      ∙ sym (append_assoc turns (files ++ owners) ends)
       ∙ ap (λ (ts : List ℕ). ts ++ ends) (sym (append_assoc turns files owners))
       ∙ sym (λ i. turns ++ texts files_text_of i ++ texts owners_text_of i ++ counts i)
 
@@ -138,7 +140,7 @@ module _ {V : Type 0} (G : Ghosts V) (lines : List NumberedLine) (n : NodeState 
   turns_same : out.turns ≡ turns_of lines (lists_of G log)
   turns_same = turns_are new_crowd out.played.clients lines out.turns out.played.by_lines (lists_of G log) rises out.played.plays lists_are
 
-  ends_at : end_of G 1 x ≡ state_of G n
+  ends_at : end_of G 1 x ≡ node_state G n
   ends_at = (λ i. state_after next (opened (same i)) (servers.entries i))
 
   abbrev as_read : logs.ServerLog
@@ -170,6 +172,8 @@ module _ {V : Type 0} (G : Ghosts V) (lines : List NumberedLine) (n : NodeState 
     tells = G.tells n.kept.vault;
     script = of_script_by (G.tells n.kept.vault) refl;
     summary = is.summary.summary;
+    held = is.summary.held;
+    alone = is.summary.one;
     of_server = is.summary.server ∙ is.is.server ∙ out.on.first;
     epoch = is.summary.epoch ∙ is.is.epoch;
     committed = is.summary.committed ∙ is.is.committed ∙ ap (λ (js : List Entry). (tally_in js).committed) (sym servers.entries);
@@ -191,8 +195,6 @@ module _ {V : Type 0} (G : Ghosts V) (lines : List NumberedLine) (n : NodeState 
       lawful = subst (λ (o : Start). IsLawful o x.journal) (sym same) (subst (IsLawful (start_in G n)) (sym servers.entries) right.lawful);
       own = subst AreOwnEvents (sym servers.entries) right.own;
       ranks = servers.ranks ∙ ap (ranks_from 1) (sym servers.entries);
-      state = right.state;
-      says = ends_at ∙ right.says;
     }
 
     is_said : IsSaid as_read (runs.handed_of (lists_of G log)) out.turns n.kept (client_at out.played.clients)
@@ -232,11 +234,11 @@ module _ {V : Type 0} (G : Ghosts V) (lines : List NumberedLine) (n : NodeState 
           kept = promises (log_of G log) proper_log clients;
         }
 
-    report : text ++ ending_text (state_of G n) ≡ report_of G lines log
+    report : text ++ ending_text (node_state G n) ≡ report_of G lines log
     report =
-        let many : length (decided (log_of G log)) ≡ length (state_of G n).holder.applied =
+        let many : length (decided (log_of G log)) ≡ length (node_state G n).holder.applied =
         ap (λ (l : logs.Log). length (decided l)) log_single ∙ decided_many as_read (runs.handed_of (lists_of G log)) is_single ∙ ap (λ (s : State). length s.holder.applied) ends_at in
-        ap (λ (ts : List ℕ). ts ++ ending_text (state_of G n)) (out.text ∙ ap turns_text turns_same) ∙ report_is G lines log x (state_of G n) (length (decided (log_of G log))) servers.one ends_at refl many
+        ap (λ (ts : List ℕ). ts ++ ending_text (node_state G n)) (out.text ∙ ap turns_text turns_same) ∙ report_is G lines log x (node_state G n) (length (decided (log_of G log))) servers.one ends_at is_single.decisions many
 
     -- what is printed is the report, and the vault holds what the journal says
     pub run_over : (first : NodeState V) → n.opening ≡ first.opening → (v : V) → IsTrue (G.serves v) → G.held v ≡ G.held n.kept.vault → IsEnded G lines first v log printed
@@ -303,7 +305,7 @@ vault_down d x w is of = subst (λ (y : Server _). IsVaultOf y w) is of
 
 module _ {V : Type 0} (G : Ghosts V) where
   -- what a crash leaves of a server that has come to its last epoch
-  left_down : (n : NodeState V) (d : DownState V) (pick : ℕ) → StaysDown G pick n d start_fault.EpochEnd → IsTrue (G.tells d.vault) → (c : Contents) → G.may_leave d.vault c → IsLeftOf (state_of G n) c
+  left_down : (n : NodeState V) (d : DownState V) (pick : ℕ) → StaysDown G pick n d start_fault.EpochEnd → IsTrue (G.tells d.vault) → (c : Contents) → G.may_leave d.vault c → IsLeftOf (node_state G n) c
   left_down n d pick h told c may =
       let same : d.vault ≡ h.fallen.vault = h.stays.cause.1 in
       let began : start_down G h.fallen ≡ start_in G n = (λ i. node.start_by G (h.falls.server i) (h.falls.opening i).vault.value) in

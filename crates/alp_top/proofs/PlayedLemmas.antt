@@ -1,15 +1,19 @@
 -- the end of a run, as its status tells it
-use Rattle.std.specs.Prelude.{Option, None, Some, replicate, take}
+use Rattle.std.specs.Prelude.{◌==◌, Bool, true, false, cond, length, Option, None, Some, Result, Ok, replicate, take}
 use Rattle.std.specs.Option.{option_map}
 use Rattle.std.specs.Io.KnownBytes.{Appends}
-use Rattle.std.proofs.Common.{inl, inr, ◌⊎◌, ◌≡◌, ◌<◌, ℕ, zero, suc, List, refl, sym, ◌∙◌, ap, subst, arith}
+use Rattle.std.proofs.Common.{inl, inr, ◌⊎◌, ◌≡◌, ◌≢◌, ◌<◌, ◌≤◌, ℕ, zero, suc, List, [], ◌∷◌, refl, sym, ◌∙◌, ap, subst, arith}
+use Rattle.std.proofs.lemmas.Bool.Decides.{eqb_tells}
 use Rattle.alp_base.specs.Causes.{Rose}
 use Rattle.alp_base.specs.Pages.{zero_page}
 use Rattle.alp_base.specs.declared.faults.Sizes.{Sizes}
 use Rattle.alp_bay.specs.Bays.{IsTaken}
 use Rattle.alp_disk.specs.Disk.{Image, page}
 use Rattle.alp_disk.specs.declared.disk.Disk.{Ghosts}
+use Rattle.alp_script.specs.Accepted.{IsAccepted, servers_said}
 use Rattle.alp_script.specs.Reading.{GaveScript}
+use Rattle.alp_script.specs.Script.{script as script_said}
+use Rattle.alp_script.proofs.ReadingLemmas.{script-given}
 use Rattle.alp_script.specs.Volumes.{sizes_said}
 use Rattle.alp_script.specs.declared.numbered.NumberedLine.{NumberedLine}
 use Rattle.alp_store.specs.Starts.{IsNew}
@@ -18,9 +22,9 @@ use Rattle.alp_words.specs.Words.{folder_named, IsNamedBy}
 use Rattle.alp_words.specs.declared.command.Command.{Command}
 use Rattle.alp_words.specs.declared.command.Command.TheVariants as command
 use Rattle.alp_top.specs.Anywhere.{IsPlayedThrough, HasReported}
-use Rattle.alp_top.specs.Headline.{IsRunOf, IsPromised, IsPlayed, IsCutOff}
+use Rattle.alp_top.specs.Headline.{IsRunOf, IsPromised, IsPlayed, IsCutOff, SaysPlayable}
 use Rattle.alp_top.specs.Logs.{Log}
-use Rattle.alp_top.specs.Statuses.{IsLimit, OnTooLong, OnBadDisk, OnUntaken, OnFlaw, Kept, OnDone, OnWriteFault, OnCutShort, ended_by, folder_in, IsFolderTold, OnDiskFault, IsHandedOver, IsPlayedOrMemory}
+use Rattle.alp_top.specs.Statuses.{first_number, unplayable, GaveMore, IsLimit, OnTooLong, OnBadDisk, OnUntaken, OnFlaw, Kept, OnDone, OnWriteFault, OnCutShort, ended_by, folder_in, IsFolderTold, OnDiskFault, IsHandedOver, IsPlayedOrMemory}
 use Rattle.alp_script.specs.declared.fault.ScriptFault.{ScriptFault}
 use Rattle.alp_top.specs.Volumes.{pages_of, IsReturned, HasRunCause, IsFolderLeft, IsDiskFault, OnTakenFor, IsStartable, StartsOn}
 use Rattle.alp_top.specs.declared.fault.NoReport.{NoReport}
@@ -30,13 +34,14 @@ use Rattle.alp_top.specs.declared.status.Status.TheVariants as status
 
 -- ---- the report is written, or a part of it
 
-module _ {V D : Type 0} (G : VaultGhosts V) (g : Ghosts D) (old new : Option (List ℕ)) (before after : ℕ → Option D) (lines : List NumberedLine) (log : Log V) (text : List ℕ) (script : GaveScript old new lines)
+module _ {V D : Type 0} (G : VaultGhosts V) (g : Ghosts D) (old new : Option (List ℕ)) (before after : ℕ → Option D) (lines : List NumberedLine) (log : Log V) (text : List ℕ) (script : GaveScript old new lines) (single : servers_said lines ≡ 1)
     (x : IsReturned g (sizes_said lines 1) before after (IsRunOf G g (sizes_said lines 1) lines log text)) where
   -- the six points, where this was written of the text
   promised : (Written : List ℕ → Type 0) → Written text → IsPromised G g old new Written before after log
   promised Written out = record {
     lines = lines;
     script = script;
+    single = single;
     server = x.left.run.server;
     one = x.left.run.one;
     number = x.left.run.number;
@@ -55,15 +60,58 @@ module _ {V D : Type 0} (G : VaultGhosts V) (g : Ghosts D) (old new : Option (Li
   is_cut_off wrote written l same count out = subst (λ (l : Log V). IsCutOff G g old new wrote written before after l) (sym same) (promised (λ bytes. (count : ℕ) × Appends wrote written (take count bytes)) (count, out))
 
 -- what was written of any run
-module _ {V : Type 0} (G : VaultGhosts V) (old new : Option (List ℕ)) (lines : List NumberedLine) (log : Log V) (text : List ℕ) (script : GaveScript old new lines) (through : IsPlayedThrough G lines log text) where
+module _ {V : Type 0} (G : VaultGhosts V) (old new : Option (List ℕ)) (lines : List NumberedLine) (log : Log V) (text : List ℕ) (script : GaveScript old new lines) (single : servers_said lines ≡ 1) (through : IsPlayedThrough G lines log text) where
   pub has_reported : (wrote written : Option (List ℕ)) (l : Log V) → l ≡ log → Appends wrote written text → HasReported G old new (λ ts. Appends wrote written ts) l
   has_reported wrote written l same out =
-      subst (λ (l : Log V). HasReported G old new (λ ts. Appends wrote written ts) l) (sym same) (record { lines = lines; script = script; text = text; through = through; output = out })
+      subst (λ (l : Log V). HasReported G old new (λ ts. Appends wrote written ts) l) (sym same) (record { lines = lines; script = script; single = single; text = text; through = through; output = out })
 
   pub has_reported_part : (wrote written : Option (List ℕ)) (l : Log V) → l ≡ log → (count : ℕ) → Appends wrote written (take count text) → HasReported G old new (λ ts. (count : ℕ) × Appends wrote written (take count ts)) l
   has_reported_part wrote written l same count out =
       subst (λ (l : Log V). HasReported G old new (λ ts. (count : ℕ) × Appends wrote written (take count ts)) l) (sym same)
-      (record { lines = lines; script = script; text = text; through = through; output = (count, out) })
+      (record { lines = lines; script = script; single = single; text = text; through = through; output = (count, out) })
+
+-- ---- how many servers a script declares
+
+module _ (lines : List NumberedLine) (accepted : IsAccepted lines) where
+  some_number : first_number lines ≡ None → ⊥
+  some_number is = go lines is accepted.some
+    where
+      go : (ls : List NumberedLine) → first_number ls ≡ None → 0 < length ls → ⊥
+      go [] is some = omega (arith, some)
+      go (l ∷ ls) is some = cc
+
+  -- a script that is played declares one
+  pub plays_single : unplayable lines ≡ None → servers_said lines ≡ 1
+  plays_single = go (eqb_tells (servers_said lines) 1)
+    where
+      go : (((servers_said lines == 1) ≡ true) × (servers_said lines ≡ 1)) ⊎ (((servers_said lines == 1) ≡ false) × (servers_said lines ≢ 1)) → unplayable lines ≡ None → servers_said lines ≡ 1
+      go (inl one) is = one.1
+      go (inr more) is = absurd (some_number (sym (ap (λ (b : Bool). cond {A = Option ℕ} b None (first_number lines)) more.0) ∙ is))
+
+  -- and of another its first line is told
+  pub tells_more : (old new : Option (List ℕ)) (line : ℕ) → GaveScript old new lines → unplayable lines ≡ Some line → GaveMore old new line
+  tells_more old new line gave = go (eqb_tells (servers_said lines) 1)
+    where
+      go : (((servers_said lines == 1) ≡ true) × (servers_said lines ≡ 1)) ⊎ (((servers_said lines == 1) ≡ false) × (servers_said lines ≢ 1)) → unplayable lines ≡ Some line → GaveMore old new line
+      go (inl one) is = (let wrong : None ≡ Some line = sym (ap (λ (b : Bool). cond {A = Option ℕ} b None (first_number lines)) one.0) ∙ is in cc)
+      go (inr more) is = record {
+        lines = lines;
+        script = gave;
+        more = (let least : 1 ≤ servers_said lines = accepted.least in let other : servers_said lines ≢ 1 = more.1 in omega (arith, least, other));
+        first = sym (ap (λ (b : Bool). cond {A = Option ℕ} b None (first_number lines)) more.0) ∙ is;
+      }
+
+  -- which is not one that is to be played
+  pub not_playable : (old new : Option (List ℕ)) (line : ℕ) → GaveScript old new lines → unplayable lines ≡ Some line → SaysPlayable old → ⊥
+  not_playable old new line gave is says =
+      let all : script_said says.script.bytes ≡ Ok lines = script-given says.script.bytes new lines (subst (λ (o : Option (List ℕ)). GaveScript o new lines) says.script.left gave) in
+      let same : says.script.lines ≡ lines = same_ok says.script.lines lines (sym says.script.said ∙ all) in
+      let one : servers_said lines ≡ 1 = ap servers_said (sym same) ∙ says.single in
+      let wrong : Some line ≡ None = sym is ∙ ap (λ (n : ℕ). cond {A = Option ℕ} (n == 1) None (first_number lines)) one in
+      cc
+    where
+      same_ok : (xs ys : List NumberedLine) → ◌≡◌ {A = Result (List NumberedLine) ScriptFault} (Ok xs) (Ok ys) → xs ≡ ys
+      same_ok xs ys e = cc
 
 module _ {D : Type 0} {g : Ghosts D} where
   pub done_then : (s : Status D g) (P Q : Log (Kept D g) → Type 0) → ((log : Log (Kept D g)) → P log → Q log) → OnDone s P → OnDone s Q

@@ -45,8 +45,6 @@ module _ {V : Type 0} (G : Ghosts V) (lines : List NumberedLine) (f : RunFault) 
         lawful = right.lawful;
         own = right.own;
         ranks = refl;
-        state = right.state;
-        says = right.says;
       } in
       let is_said : IsSaid x handed h.turns n.kept (client_at h.clients) = record {
         server = h.on.first;

@@ -6,12 +6,13 @@ use Rattle.std.specs.Ordering.{is_lt}
 use Rattle.std.specs.declared.cmp.Ordering.{Ordering}
 use Rattle.std.specs.declared.cmp.Ordering.TheVariants.{Less, Equal, Greater}
 use Rattle.std.proofs.Math.Dec.{T}
-use Rattle.std.proofs.Common.{inl, inr, ◌≡◌, ℕ, zero, suc, ◌+◌, ◌<◌, ◌≤◌, ◌&&◌, List, [], ◌∷◌, ◌++◌, length, refl, sym, ◌∙◌, ap, subst, arith, eq-eqb}
+use Rattle.std.proofs.Common.{inl, inr, ◌⊎◌, ◌≡◌, ◌≢◌, ℕ, zero, suc, ◌+◌, ◌<◌, ◌≤◌, ◌&&◌, List, [], ◌∷◌, ◌++◌, length, refl, sym, ◌∙◌, ap, subst, arith, eq-eqb}
 use Rattle.std.proofs.lemmas.Bool.Decides.{eqb_tells}
 use Rattle.std.proofs.lemmas.Bool.{ne_eqb}
 use Rattle.alp_base.specs.Keys.{key_cmp}
 use Rattle.alp_base.specs.declared.ids.JoinNo.{JoinNo}
 use Rattle.alp_base.specs.declared.ids.Stamp.{Stamp}
+use Rattle.alp_base.specs.declared.ids.TransId.{TransId}
 use Rattle.alp_files.specs.Apart.{AreSized}
 use Rattle.alp_files.specs.History.{Decided}
 use Rattle.alp_files.specs.Sound.{AreSound}
@@ -21,17 +22,17 @@ use Rattle.alp_journal.specs.declared.entry.Entry.{Entry}
 use Rattle.alp_journal.specs.declared.event.Event.TheVariants as event
 use Rattle.alp_journal.specs.declared.message.Message.{Message}
 use Rattle.alp_journal.specs.Along.{state_after}
-use Rattle.alp_journal.specs.Account.{Account, state_of, IsOwnEvent, AreOwnEvents}
-use Rattle.alp_journal.specs.Coordinator.{joins_of}
+use Rattle.alp_journal.specs.Account.{IsOwnEvent, AreOwnEvents}
+use Rattle.alp_journal.specs.Coordinator.{joins_of, decision_in}
 use Rattle.alp_journal.specs.Ids.{stamp_cmp}
 use Rattle.alp_journal.specs.Laws.{IsLawful}
 use Rattle.alp_journal.specs.Moves.{next}
 use Rattle.alp_journal.specs.Opening.{ReadyNote, DecisionNote}
-use Rattle.alp_journal.specs.Participant.{Unseen, Applied}
 use Rattle.alp_journal.specs.State.{State, opened}
 use Rattle.alp_history.specs.Items.{Handed}
 use Rattle.alp_history.specs.Log.{ServerLog, Log, Decision, nobody, of, journal_of, opening_of, rank_at, final, IsIn, AreDistinct, noted, held, is_noted, start_of, own_of, decisions_of, decided, all_put}
-use Rattle.alp_history.specs.Theorems.{IsProper}
+use Rattle.alp_history.specs.Theorems.{IsProper, HasCommitted}
+use Rattle.alp_history.proofs.Agreed.{WasCommitted, committed-parts, applied-committed}
 use Rattle.alp_history.proofs.Decisions.{linked-end, here-end, tied-end}
 use Rattle.alp_cluster.specs.Plays.{ranks_from}
 
@@ -81,8 +82,6 @@ pub record IsSingle (s : ServerLog) : Type 0 where
   pub lawful : IsLawful s.opening s.journal
   pub own : AreOwnEvents s.journal
   pub ranks : s.ranks ≡ ranks_from 1 s.journal
-  pub state : Account
-  pub says : state_after next (opened s.opening) s.journal ≡ state_of state
 
 module _ (s : ServerLog) (h : Handed) (g : IsSingle s) where
   abbrev log : Log
@@ -152,16 +151,25 @@ module _ (s : ServerLog) (h : Handed) (g : IsSingle s) where
   final_is : final log s.opening.server ≡ last
   final_is = ap (λ (y : ServerLog). state_after next (opened y.opening) y.journal) (of_self s h)
 
+  -- a server that is none decides nothing
+  none_there : (m : ℕ) (t : TransId) → (s.opening.server ≡ m → ⊥) → decision_in ((final log m).fates t) ≡ None
+  none_there m t away = ap (λ (y : ServerLog). decision_in ((state_after next (opened y.opening) y.journal).fates t)) (of_away s h m away)
+
+  committed_own : (x : Stamp) (m : ℕ) (js : List JoinNo) → HasCommitted log m x js → x.trans.server ≡ s.opening.server
+  committed_own x m js c = go (eqb_tells s.opening.server m)
+    where
+      nothing : {A : Type 0} (a : A) → None ≡ Some a → ⊥
+      nothing a wrong = cc
+
+      go : (((s.opening.server == m) ≡ true) × (s.opening.server ≡ m)) ⊎ (((s.opening.server == m) ≡ false) × (s.opening.server ≢ m)) → x.trans.server ≡ s.opening.server
+      go (inl is) = (committed-parts log proper m x.trans (x, js) c).0 ∙ sym is.1
+      go (inr away) = absurd (nothing (x, js) (sym (none_there m x.trans away.1) ∙ c))
+
   own_all : (x : Stamp) (v : Decided) → IsIn (x, v) (final log s.opening.server).holder.applied → x.trans.server ≡ s.opening.server
   own_all x v i = elim (tied-end log proper s.opening.server x v i) [
     | inl a ↦ a.0
-    | inr a ↦
-        let unseen : (final log s.opening.server).phases a.0 ≡ Unseen = ap (λ (z : State). z.phases a.0) (final_is ∙ g.says) in
-        absurd (apart x (sym unseen ∙ a.1))
+    | inr a ↦ (let c : WasCommitted log proper x a.0 = (applied-committed log proper s.opening.server a.0 x.trans x a.1).1 in committed_own x c.0 c.1 c.2)
   ]
-    where
-      apart : (x : Stamp) → Unseen ≡ Applied x.trans x → ⊥
-      apart x e = cc
 
   all_pass : (p : Stamp × Decided → Bool) (xs : List (Stamp × Decided)) → ((x : Stamp × Decided) → IsIn x xs → p x ≡ true) → filter p xs ≡ xs
   all_pass p [] f = refl

@@ -1,5 +1,5 @@
 -- owners are charged for all pages: what is counted of the owners is what the files come to
-use Rattle.std.specs.Prelude.{true, false, Bool, cond, Some, sum, sum_by, map as list_map, codes}
+use Rattle.std.specs.Prelude.{true, false, Bool, cond, Some, sum, sum_by, flat_map, map as list_map, codes}
 use Rattle.std.specs.Fmt.{decimal}
 use Rattle.std.specs.List.{filter_map}
 use Rattle.std.specs.Ordering.{eq_by_cmp}
@@ -21,7 +21,8 @@ use Rattle.alp_base.specs.declared.cell.Props.{Props}
 use Rattle.alp_files.proofs.SameLemmas.{same_name-itself, other_name, same_key-itself}
 use Rattle.alp_files.proofs.SumLemmas.{sum_of, weight_at, sum_of-nothing, sum_of-single}
 use Rattle.alp_report.specs.Reports.{files_text, owners_text, count_text, summary_text}
-use Rattle.alp_report.specs.Sections.{charges_of, printed}
+use Rattle.alp_report.specs.Sections.{charges_of, held_text, owned_text, printed}
+use Rattle.alp_report.specs.declared.summary.Held.{Held}
 use Rattle.alp_report.specs.declared.summary.Summary.{Summary}
 
 abbrev Entry : Type 0
@@ -182,8 +183,10 @@ module _ (m : Cells) (sound : AreSound m) where
       ∙ sym (all_sizes es)
 
 -- what is printed of the counts and the owners is the summary of the cells
-pub printed_is : (s : Summary) (m : Cells) → AreSound m → s.files ≡ file_count_of m → s.owners.now ≡ owners_of m → printed s ≡ summary_text s.server s.epoch s.clock m s.committed s.aborted
-printed_is s m sound many owners =
-    let as_many : s.files ≡ length (sizes_of m) = many ∙ file_count m sound in
-    let pages : charges_of s.owners.now ≡ sum (sizes_of m) = ap charges_of owners ∙ charges_are_sizes m sound in
-    (λ i. (codes "server " ++ decimal s.server ++ codes " epoch " ++ decimal s.epoch ++ codes " clock " ++ decimal s.clock ++ files_text (as_many i) (pages i)) ++ owners_text s.server (owners i) ++ count_text s.committed s.aborted)
+pub printed_is : (s : Summary) (d : Held) (m : Cells) → AreSound m → s.servers.now ≡ d ∷ [] → d.files ≡ file_count_of m → d.owners.items ≡ owners_of m
+    → printed s ≡ summary_text (record { server = d.server; epoch = d.epoch; clock = d.clock; cells = m } ∷ []) s.committed s.aborted
+printed_is s d m sound one many owners =
+    let as_many : d.files ≡ length (sizes_of m) = many ∙ file_count m sound in
+    let pages : charges_of d.owners.items ≡ sum (sizes_of m) = ap charges_of owners ∙ charges_are_sizes m sound in
+    ap (λ (ds : List Held). flat_map held_text ds ++ flat_map owned_text ds ++ count_text s.committed s.aborted) one
+    ∙ (λ i. ((codes "server " ++ decimal d.server ++ codes " epoch " ++ decimal d.epoch ++ codes " clock " ++ decimal d.clock ++ files_text (as_many i) (pages i)) ++ []) ++ (owners_text d.server (owners i) ++ []) ++ count_text s.committed s.aborted)

@@ -4,7 +4,9 @@ use Rattle.std.specs.Io.KnownBytes.{Appends}
 use Rattle.alp_base.specs.Causes.{Rose}
 use Rattle.alp_disk.specs.declared.disk.Disk.{Ghosts as DiskGhosts}
 use Rattle.alp_report.specs.Sections.{printed}
+use Rattle.alp_report.specs.declared.summary.Held.{Held}
 use Rattle.alp_report.specs.declared.summary.Summary.{Summary}
+use Rattle.alp_script.specs.Accepted.{servers_said}
 use Rattle.alp_script.specs.Reading.{GaveScript}
 use Rattle.alp_script.specs.declared.numbered.NumberedLine.{NumberedLine}
 use Rattle.alp_vault.specs.declared.vault.Vault.{Ghosts}
@@ -25,16 +27,19 @@ pub record IsPlayedThrough {V : Type 0} (G : Ghosts V) (lines : List NumberedLin
   pub tells : Bool
   pub script : IsOfScript G tells lines log server
   pub summary : Summary
-  pub of_server : summary.server ≡ 1
-  pub epoch : summary.epoch ≡ script.last.epoch
+  pub held : Held
+  pub alone : summary.servers.now ≡ held ∷ []
+  pub of_server : held.server ≡ 1
+  pub epoch : held.epoch ≡ script.last.epoch
   pub committed : summary.committed ≡ (tally_in server.journal).committed
   pub aborted : summary.aborted ≡ (tally_in server.journal).begun - (tally_in server.journal).committed
   pub report : text ≡ turns_text (turns_of lines (lists_of G log)) ++ printed summary
 
--- the source gave a script, whose lines were played through, and this was written of the text
+-- the source gave a script of one server, whose lines were played through, and this was written of the text
 pub record HasReported {V : Type 0} (G : Ghosts V) (old new : Option (List ℕ)) (Written : List ℕ → Type 0) (log : Log V) : Type 0 where
   pub lines : List NumberedLine
   pub script : GaveScript old new lines
+  pub single : servers_said lines ≡ 1
   pub text : List ℕ
   pub through : IsPlayedThrough G lines log text
   pub output : Written text

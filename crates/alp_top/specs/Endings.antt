@@ -1,6 +1,7 @@
 -- A server at the end of its run: its numbers, its log, and what its vault holds.
 use Rattle.std.specs.Prelude.{◌≡◌, ℕ, ◌-◌, IsTrue, List, [], ◌∷◌, ◌++◌, Vec}
 use Rattle.std.specs.Global.{Global}
+use Rattle.alp_files.specs.Cells.{Cells}
 use Rattle.alp_journal.specs.declared.entry.Entry.{Entry}
 use Rattle.alp_journal.specs.declared.log.Item.{Item}
 use Rattle.alp_node.specs.Downs.{IsLeftOf}
@@ -8,8 +9,9 @@ use Rattle.alp_node.specs.Durable.{said_of}
 use Rattle.alp_node.specs.NodeStates.{NodeState}
 use Rattle.alp_node.specs.declared.opened.Opened.{Opened}
 use Rattle.alp_node.specs.declared.start.StartFault.TheVariants.{EpochEnd}
-use Rattle.alp_report.specs.Reports.{summary_text}
+use Rattle.alp_report.specs.Reports.{Holding, summary_text}
 use Rattle.alp_report.specs.Sections.{printed}
+use Rattle.alp_report.specs.declared.summary.Held.{Held}
 use Rattle.alp_report.specs.declared.summary.Summary.{Summary}
 use Rattle.alp_script.specs.declared.numbered.NumberedLine.{NumberedLine}
 use Rattle.alp_vault.specs.Contents.{Contents}
@@ -34,12 +36,18 @@ pub record IsEnding {V : Type 0} (n : NodeState V) (e : Ending) : Type 0 where
   pub committed : e.committed ≡ (tally_in n.journal).committed
   pub aborted : e.aborted ≡ (tally_in n.journal).begun - (tally_in n.journal).committed
 
+-- what the server of these numbers holds, with these cells
+abbrev pub holding_of : Ending → Cells → Holding
+holding_of e cells = record { server = e.server; epoch = e.epoch; clock = e.clock; cells = cells }
+
 -- the text of a summary of these numbers, of some files and owners
 pub record IsSummaryOf (e : Ending) (text : List ℕ) : Type 0 where
   pub summary : Summary
-  pub server : summary.server ≡ e.server
-  pub epoch : summary.epoch ≡ e.epoch
-  pub clock : summary.clock ≡ e.clock
+  pub held : Held
+  pub one : summary.servers.now ≡ held ∷ []
+  pub server : held.server ≡ e.server
+  pub epoch : held.epoch ≡ e.epoch
+  pub clock : held.clock ≡ e.clock
   pub committed : summary.committed ≡ e.committed
   pub aborted : summary.aborted ≡ e.aborted
   pub text_is : text ≡ printed summary
@@ -63,7 +71,7 @@ pub record IsReported {V : Type 0} (G : Ghosts V) (n : NodeState V) (lists : Lis
   pub more : List ℕ
   pub printed : printed_text ≡ text ++ more
   pub summary : IsSummaryOf ending more
-  pub told : IsTrue (G.tells n.kept.vault) → printed_text ≡ text ++ summary_text ending.server ending.epoch ending.clock (G.held n.kept.vault).cells ending.committed ending.aborted
+  pub told : IsTrue (G.tells n.kept.vault) → printed_text ≡ text ++ summary_text (holding_of ending (G.held n.kept.vault).cells ∷ []) ending.committed ending.aborted
 
 -- ---- the vault of a server
 

@@ -12,7 +12,8 @@ use Rattle.alp_journal.specs.State.{opened}
 use Rattle.alp_history.specs.Handed.{ArePromisesKept}
 use Rattle.alp_history.specs.Log as logs
 use Rattle.alp_history.specs.Theorems.{IsOneThread, AreWhole}
-use Rattle.alp_script.specs.Reading.{GaveScript}
+use Rattle.alp_script.specs.Accepted.{servers_said}
+use Rattle.alp_script.specs.Reading.{GaveScript, SaysScript}
 use Rattle.alp_script.specs.Volumes.{sizes_said}
 use Rattle.alp_script.specs.declared.numbered.NumberedLine.{NumberedLine}
 use Rattle.alp_vault.specs.declared.vault.Vault.{Ghosts}
@@ -88,10 +89,11 @@ pub record IsCharged (log : logs.Log) : Type 0 where
   pub each : logs.IsChargedAfterEach log (logs.starting_all log) (logs.decided log)
   pub last : (n : ℕ) → AreSound (logs.finish_of log n)
 
--- What holds of a run of a script that the source gave, which left this log, and of what was written of its report: in six points.
+-- What holds of a run of a script of one server that the source gave, which left this log, and of what was written of its report: in six points.
 pub record IsPromised {V D : Type 0} (G : Ghosts V) (g : DiskGhosts D) (old new : Option (List ℕ)) (Written : List ℕ → Type 0) (before after : ℕ → Option D) (log : Log V) : Type 0 where
   pub lines : List NumberedLine
   pub script : GaveScript old new lines
+  pub single : servers_said lines ≡ 1
   pub server : ServerOfLog V
   pub one : log.servers.items ≡ server ∷ []
   pub number : server.server ≡ 1
@@ -116,11 +118,17 @@ IsPlayed G g old new written_before written before after log = IsPromised G g ol
 abbrev pub IsCutOff : {V D : Type 0} → Ghosts V → DiskGhosts D → (old new written_before written : Option (List ℕ)) → (before after : ℕ → Option D) → Log V → Type 0
 IsCutOff G g old new written_before written before after log = IsPromised G g old new (λ text. (count : ℕ) × Appends written_before written (take count text)) before after log
 
--- It ended before its report: a script of the source was to be played, and the bay or a disk was the cause.
+-- It ended before its report: a script of the source, of one server, was to be played, and the bay or a disk was the cause.
 pub record HasCause {D : Type 0} (g : DiskGhosts D) (old new : Option (List ℕ)) (before after : ℕ → Option D) (bay_before bay_after : ℕ) (f : NoReport) : Type 0 where
   pub lines : List NumberedLine
   pub script : GaveScript old new lines
+  pub single : servers_said lines ≡ 1
   pub cause : HasRunCause g (sizes_said lines 1) lines before after bay_before bay_after f
+
+-- what the source has left is a script that declares one server
+pub record SaysPlayable (has : Option (List ℕ)) : Type 0 where
+  pub script : SaysScript has
+  pub single : servers_said script.lines ≡ 1
 
 -- the disk is one that a run of the script starts on, and did not fail
 abbrev pub StartsHere : {D : Type 0} → DiskGhosts D → (old new : Option (List ℕ)) → (before after : ℕ → Option D) → Type 0

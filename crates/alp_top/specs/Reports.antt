@@ -1,13 +1,12 @@
 -- The report of a run, by its script and its log.
-use Rattle.std.specs.Prelude.{ℕ, ◌-◌, List, ◌++◌, length, sum, flat_map, map as list_map}
+use Rattle.std.specs.Prelude.{ℕ, ◌-◌, List, [], ◌∷◌, ◌++◌, length, sum, flat_map, map as list_map}
 use Rattle.alp_journal.specs.Along.{state_after}
 use Rattle.alp_journal.specs.State.{State, opened}
 use Rattle.alp_journal.specs.Moves.{next}
 use Rattle.alp_vault.specs.declared.vault.Vault.{Ghosts}
 use Rattle.alp_history.specs.RunLogs.{start_in}
 use Rattle.alp_history.specs.Log.{decided}
-use Rattle.alp_report.specs.Reports.{server_text, owners_text, count_text, summary_text}
-use Rattle.alp_files.specs.Cells.{owners_of}
+use Rattle.alp_report.specs.Reports.{Holding, server_text, owned_by, count_text, summary_text}
 use Rattle.alp_script.specs.declared.numbered.NumberedLine.{NumberedLine}
 use Rattle.alp_top.specs.Logs.{Log, ServerOfLog, openings, log_of, lists_of}
 use Rattle.alp_cluster.specs.Turns.{turns_of, turns_text}
@@ -17,11 +16,14 @@ abbrev pub end_of : {V : Type 0} → Ghosts V → ℕ → ServerOfLog V → Stat
 end_of G servers x = state_after next (opened (start_in (openings G) servers x)) x.journal
 
 -- what a server holds then: how many files and pages, and what its owners are charged
+abbrev pub holding_in : State → Holding
+holding_in s = record { server = s.holder.server; epoch = s.ids.epoch; clock = s.holder.clock; cells = s.holder.cells }
+
 abbrev pub files_text_of : State → List ℕ
-files_text_of s = server_text s.holder.server s.ids.epoch s.holder.clock s.holder.cells
+files_text_of s = server_text (holding_in s)
 
 abbrev pub owners_text_of : State → List ℕ
-owners_text_of s = owners_text s.holder.server (owners_of s.holder.cells)
+owners_text_of s = owned_by (holding_in s)
 
 -- the transactions that it began in the run, all but those that earlier runs decided
 abbrev pub begun_at : {V : Type 0} → Ghosts V → ℕ → ServerOfLog V → ℕ
@@ -43,5 +45,4 @@ report_of G lines log =
 
 -- the summary of a run of one server
 unfoldable pub ending_text : State → List ℕ
-ending_text s =
-    summary_text s.holder.server s.ids.epoch s.holder.clock s.holder.cells (length s.holder.applied) (length s.begun - length s.holder.applied)
+ending_text s = summary_text (holding_in s ∷ []) (length s.holder.applied) (length s.begun - length s.holder.applied)

@@ -1,11 +1,14 @@
 -- How a run ended: its code, its text, and what holds where it ended so.
-use Rattle.std.specs.Prelude.{◌≡◌, ◌⊎◌, ℕ, Bool, true, false, IsTrue, List, [], ◌++◌, Option, None, codes, string_bytes}
+use Rattle.std.specs.Prelude.{◌≡◌, ◌⊎◌, ◌<◌, ◌==◌, ℕ, Bool, true, false, IsTrue, List, [], ◌∷◌, ◌++◌, Option, None, Some, codes, string_bytes, if◌then◌else◌}
 use Rattle.std.specs.Option.{option_map}
 use Rattle.std.specs.Fmt.{decimal}
 use Rattle.alp_base.specs.Causes.{Rose}
 use Rattle.alp_journal.specs.Answered.{entries_limit}
+use Rattle.alp_script.specs.Accepted.{servers_said}
+use Rattle.alp_script.specs.Reading.{GaveScript, GaveFlaw}
 use Rattle.alp_script.specs.declared.fault.ScriptFault.{ScriptFault}
 use Rattle.alp_script.specs.declared.fault.ScriptFault.TheVariants as flaw
+use Rattle.alp_script.specs.declared.numbered.NumberedLine.{NumberedLine}
 use Rattle.alp_script.specs.declared.numbered.TheConstants.{SCRIPT_LINES_MOST}
 use Rattle.alp_disk.specs.declared.disk.Disk.{Ghosts}
 use Rattle.alp_disk.specs.declared.fuse.Fuse.{Fuse}
@@ -186,3 +189,26 @@ folder_in (command.Play folder) = option_map string_bytes folder
 -- the words name no folder, or the bay tells what stands in it
 abbrev pub IsTold : List (List ℕ) → Bool → Type 0
 IsTold words tells = (folder_named words ≡ None) ⊎ IsTrue tells
+
+-- ---- scripts that are not played yet
+
+-- the number of the first line
+abbrev pub first_number : List NumberedLine → Option ℕ
+first_number [] = None
+first_number (l ∷ ls) = Some l.number
+
+-- the line that declares the servers, where these are more than one
+abbrev pub unplayable : List NumberedLine → Option ℕ
+unplayable lines = if servers_said lines == 1 then None else first_number lines
+
+-- the source gave a script, and this is its line that declares more servers than one
+pub record GaveMore (old new : Option (List ℕ)) (line : ℕ) : Type 0 where
+  pub lines : List NumberedLine
+  pub script : GaveScript old new lines
+  pub more : 1 < servers_said lines
+  pub first : first_number lines ≡ Some line
+
+-- the source gave this flaw; where that is a line, it may be one that declares more servers than one
+abbrev pub GaveBad : (old new : Option (List ℕ)) → ScriptFault → Type 0
+GaveBad old new (flaw.Bad line) = GaveFlaw old new (flaw.Bad line) ⊎ GaveMore old new line
+GaveBad old new f = GaveFlaw old new f

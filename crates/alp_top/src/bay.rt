@@ -2,7 +2,7 @@
 ghost use Rattle.std.specs.Prelude.{◌≡◌, ◌⊎◌, None, IsTrue, IfOk, IfErr};
 ghost use Rattle.std.specs.Option.{option_map};
 ghost use Rattle.alp_cluster.specs.Runs.{StopNone};
-ghost use Rattle.alp_script.specs.Accepted.{IsAccepted};
+ghost use Rattle.alp_script.specs.Accepted.{IsAccepted, servers_said};
 ghost use Rattle.alp_script.specs.Volumes.{sizes_said};
 ghost use Rattle.alp_top.specs.Anywhere.{IsPlayedThrough};
 ghost use Rattle.alp_top.specs.Headline.{IsRunOf};
@@ -38,6 +38,7 @@ pub fn run_bay<B: Bay>(
     bay: &mut B,
 ) -> Result<Ended<Store<Fuse<B::Device>>>, NoReport>
     requires accepted { IsAccepted lines.now }
+    requires single { servers_said lines.now ≡ 1 }
     ensures ran { (folder.entry ≡ None) ⊎ IsTrue (B.tells bay.new) → IfOk result (λ e. IsReturned B.Device.Disk (sizes_said lines.now 1) (B.at bay.old) (B.at bay.new) (IsRunOf ⟦<Store<Fuse<B::Device>> as Vault>⟧ B.Device.Disk (sizes_said lines.now 1) lines.now e.log e.text.items)) }
     ensures through { IfOk result (λ e. IsPlayedThrough ⟦<Store<Fuse<B::Device>> as Vault>⟧ lines.now e.log e.text.items) }
     ensures cause { (folder.entry ≡ None) ⊎ IsTrue (B.tells bay.new) → IfErr result (HasRunCause B.Device.Disk (sizes_said lines.now 1) lines.now (B.at bay.old) (B.at bay.new) (B.faults bay.old) (B.faults bay.new)) }

@@ -1,11 +1,11 @@
 //! The end of a run: its log and its report.
-ghost use Rattle.std.specs.Prelude.{◌≡◌, ◌++◌, ℕ, List, IsTrue, IfOk, OnOk, false};
+ghost use Rattle.std.specs.Prelude.{◌≡◌, [], ◌∷◌, ◌++◌, ℕ, List, IsTrue, IfOk, OnOk, false};
 ghost use Rattle.alp_base.specs.declared.allowance.Allowance.TheVariants.{Free};
 ghost use Rattle.alp_files.specs.Sound.{AreSound};
 ghost use Rattle.alp_report.specs.Reports.{summary_text};
-ghost use Rattle.alp_script.specs.Accepted.{IsAccepted};
+ghost use Rattle.alp_script.specs.Accepted.{IsAccepted, servers_said};
 ghost use Rattle.alp_top.specs.Anywhere.{IsPlayedThrough};
-ghost use Rattle.alp_top.specs.Endings.{IsEnding, IsServerLog, IsSummaryOf, IsReported, IsEnded, IsVaultOf, IsVaultAt};
+ghost use Rattle.alp_top.specs.Endings.{holding_of, IsEnding, IsServerLog, IsSummaryOf, IsReported, IsEnded, IsVaultOf, IsVaultAt};
 ghost use Rattle.alp_cluster.specs.Fills.{OnEnd};
 ghost use Rattle.alp_cluster.specs.Runs.{HasEndedEarly, StopNone};
 ghost use Rattle.alp_cluster.specs.Servers.{IsOn, IsIdle, HasGone};
@@ -18,7 +18,7 @@ use alp_base::OutOfMemory;
 use alp_cluster::{Cluster, RunFault, Server, ranks};
 use alp_journal::{Item, Journal, RunLog, ServerLog};
 use alp_node::{Node, Opened};
-use alp_report::{Summary, put_summary};
+use alp_report::{Held, Summary, put_summary};
 use alp_script::NumberedLine;
 use alp_vault::Vault;
 use std::alloc::Global;
@@ -65,16 +65,19 @@ fn put_ending<V: Vault>(
     ensures gone { HasGone V.Vault (Unit {0}) vault.old vault.new result }
     ensures looked { HasLooked V.Vault vault.old vault.new result }
     ensures printed { OnOk result ((more : List ℕ) × (text.new.items ≡ text.old.items ++ more) × IsSummaryOf ending more) }
-    ensures text { IsTrue (V.tells vault.old) → OnOk result (text.new.items ≡ text.old.items ++ summary_text ending.server ending.epoch ending.clock (V.held vault.old).cells ending.committed ending.aborted) }
+    ensures text { IsTrue (V.tells vault.old) → OnOk result (text.new.items ≡ text.old.items ++ summary_text (holding_of ending (V.held vault.old).cells ∷ []) ending.committed ending.aborted) }
 {
     let owners = owner_records(alloc, vault)?;
     vault.knows();
-    let summary = Summary {
+    let held = [Held {
         server: ending.server,
         epoch: ending.epoch,
         clock: ending.clock,
         files: vault.file_count(),
-        owners: &owners,
+        owners,
+    }];
+    let summary = Summary {
+        servers: &held,
         committed: ending.committed,
         aborted: ending.aborted,
     };
@@ -158,6 +161,7 @@ pub fn run_node<V: Vault>(
     node: Node<V>,
 ) -> (V, Result<Ended<V>, RunFault>)
     requires accepted { IsAccepted lines.now }
+    requires single { servers_said lines.now ≡ 1 }
     requires on { IsOn V.Vault node }
     requires idle { IsIdle V.Vault node }
     ensures gone { HasGone V.Vault (StopNone lines.now) node.kept.vault result.0 result.1 }

@@ -3,10 +3,10 @@ ghost use Rattle.std.specs.Prelude.{◌≡◌, ℕ, false, take, map, string_byt
 ghost use Rattle.std.specs.Io.KnownBytes.{Appends};
 ghost use Rattle.std.specs.Option.{option_map};
 ghost use Rattle.alp_base.specs.Causes.{Rose};
-ghost use Rattle.alp_script.specs.Reading.{GaveFlaw, GaveGoodLines, SaysScript};
+ghost use Rattle.alp_script.specs.Reading.{GaveGoodLines};
 ghost use Rattle.alp_top.specs.Anywhere.{IsToldAnywhere};
-ghost use Rattle.alp_top.specs.Headline.{IsPlayed, IsCutOff, HasCause, StartsHere};
-ghost use Rattle.alp_top.specs.Statuses.{AreWordsTold, IsTold, OnDone, OnBadWords, OnFlaw, OnReadFault, OnWriteFault, OnCutShort, OnUntaken, folder_in, IsReadFaultTold, IsWriteFaultTold, IsBayFaultTold, IsFolderTold, OnUnwritten, IsPlayedOrMemory, IsHandedOver};
+ghost use Rattle.alp_top.specs.Headline.{IsPlayed, IsCutOff, HasCause, SaysPlayable, StartsHere};
+ghost use Rattle.alp_top.specs.Statuses.{AreWordsTold, IsTold, OnDone, OnBadWords, OnFlaw, OnReadFault, OnWriteFault, OnCutShort, OnUntaken, folder_in, IsReadFaultTold, IsWriteFaultTold, IsBayFaultTold, IsFolderTold, OnUnwritten, IsPlayedOrMemory, IsHandedOver, GaveBad, unplayable as unplayable_said};
 ghost use Rattle.alp_words.specs.Words.{are_bad, folder_named};
 
 use crate::bay::run_bay;
@@ -16,7 +16,9 @@ use crate::write_all::write_all;
 use alp_base::{Sink, Source};
 use alp_bay::Bay;
 use alp_disk::{Disk, Fuse};
-use alp_script::{SCRIPT_LINES_MOST, ScriptFault, accepted_lines, read_script};
+use alp_script::{
+    NumberedLine, SCRIPT_LINES_MOST, ScriptFault, accepted_lines, read_script, servers_of,
+};
 use alp_store::Store;
 use alp_vault::Vault;
 use alp_words::{Command, WordsFault, read_command};
@@ -46,6 +48,19 @@ fn hand_over<D: Disk, K: Sink>(ended: &Ended<Store<Fuse<D>>>, out: &mut K) -> St
     }
 }
 
+// The line that declares more servers than one, if it does: such a script is not played yet.
+fn unplayable(lines: &[NumberedLine]) -> Option<u32>
+    ensures { result ≡ unplayable_said lines.now }
+{
+    if servers_of(lines) == 1 {
+        return None;
+    }
+    match lines {
+        [first, ..] => Some(first.number),
+        [] => None,
+    }
+}
+
 /// Plays the script on the disk that the bay has for server 1, in the folder that the words name or in memory, and writes the
 /// report, which is made whole before its first byte is written. The words come first, then the script to its first bad line,
 /// then the disk; the first event that ends the run gives its status. A disk that was taken is given back however the run ends.
@@ -65,8 +80,9 @@ pub fn run_alpine<S: Source, K: Sink, B: Bay>(
     ensures cut_off { IsTold (map string_bytes words.now) (B.tells bay.new) → OnWriteFault result (IsCutOff ⟦<Store<Fuse<B::Device>> as Vault>⟧ B.Device.Disk (S.left script.old) (S.left script.new) (K.written out.old) (K.written out.new) (B.at bay.old) (B.at bay.new)) }
     // The words are told bad just where the program's command line has no such words, and then nothing is read.
     ensures words { AreWordsTold (are_bad (map string_bytes words.now)) result × OnBadWords result (script.new ≡ script.old) }
-    // That line of what the source gave is the first outside the language, or the lines are too many.
-    ensures flaw { OnFlaw result (GaveFlaw (S.left script.old) (S.left script.new)) }
+    // That line of what the source gave is the first outside the language, or it declares more servers than one, which is not played
+    // yet; or the lines are too many.
+    ensures flaw { OnFlaw result (GaveBad (S.left script.old) (S.left script.new)) }
     // A source that fails behind a line outside the language is not asked that far.
     ensures good_lines { OnReadFault result (GaveGoodLines (S.left script.old) (S.left script.new)) }
     // A fault of a stream or of the bay is told just where it came in this call.
@@ -80,9 +96,9 @@ pub fn run_alpine<S: Source, K: Sink, B: Bay>(
     ensures folder { IsFolderTold result (B.chosen bay.old) (B.chosen bay.new) (folder_named (map string_bytes words.now)) }
     // No disk is asked for before the script is read.
     ensures untaken { OnUntaken result (bay.new ≡ bay.old) }
-    // A script of the language is played to its end on a disk that is new or the server's, where nothing fails, unless memory is
+    // A script of the language that declares one server is played to its end on a disk that is new or the server's, where nothing fails, unless memory is
     // wanting, the journal is full or the server has come to the last epoch.
-    ensures complete { are_bad (map string_bytes words.now) ≡ false → SaysScript (S.left script.old) → (Rose (S.faults script.old) (S.faults script.new) → ⊥) → (Rose (K.faults out.old) (K.faults out.new) → ⊥)
+    ensures complete { are_bad (map string_bytes words.now) ≡ false → SaysPlayable (S.left script.old) → (Rose (S.faults script.old) (S.faults script.new) → ⊥) → (Rose (K.faults out.old) (K.faults out.new) → ⊥)
         → (Rose (B.faults bay.old) (B.faults bay.new) → ⊥) → IsTold (map string_bytes words.now) (B.tells bay.new) → StartsHere B.Device.Disk (S.left script.old) (S.left script.new) (B.at bay.old) (B.at bay.new) → IsPlayedOrMemory result }
     // Nothing is written but the report.
     ensures unwritten { OnUnwritten result (out.new ≡ out.old) }
@@ -104,7 +120,11 @@ pub fn run_alpine<S: Source, K: Sink, B: Bay>(
         Err(ScriptFault::OutOfMemory) => return Status::OutOfMemory,
     };
     accepted_lines();
-    match run_bay(alloc, &lines, folder_of(&command), bay) {
+    let played: &[NumberedLine] = &lines;
+    if let Some(line) = unplayable(played) {
+        return Status::BadScript { line };
+    }
+    match run_bay(alloc, played, folder_of(&command), bay) {
         Ok(ended) => hand_over(&ended, out),
         Err(fault) => ended_by(fault),
     }

@@ -2,7 +2,7 @@
 ghost use Rattle.std.specs.Prelude.{◌≡◌, ◌≤◌, IsTrue, IfOk, IfErr};
 ghost use Rattle.alp_base.specs.declared.allowance.Allowance.TheVariants.{Free};
 ghost use Rattle.alp_cluster.specs.Runs.{StopNone};
-ghost use Rattle.alp_script.specs.Accepted.{IsAccepted};
+ghost use Rattle.alp_script.specs.Accepted.{IsAccepted, servers_said};
 ghost use Rattle.alp_top.specs.Anywhere.{IsPlayedThrough};
 ghost use Rattle.alp_top.specs.Headline.{IsRunOf};
 ghost use Rattle.alp_top.specs.Volumes.{HasDiskCause, IsDiskTold, IsOfDisk};
@@ -27,6 +27,7 @@ pub fn run_disk<D: Disk>(
     sizes: Sizes,
 ) -> (D, Result<Ended<Store<D>>, NoReport>)
     requires accepted { IsAccepted lines.now }
+    requires single { servers_said lines.now ≡ 1 }
     requires pages { 2 ≤ D.size disk }
     requires sizes { AreSizes sizes }
     requires free { D.allowance disk ≡ Free }

@@ -1,9 +1,10 @@
 use Rattle.std.specs.Prelude.{IsTrue}
-use Rattle.std.proofs.Common.{ℕ, List, ◌++◌, refl, sym, ◌∙◌, ap, subst}
+use Rattle.std.proofs.Common.{ℕ, List, [], ◌∷◌, ◌++◌, refl, sym, ◌∙◌, ap, subst}
 use Rattle.alp_files.specs.Counts.{file_count_of}
 use Rattle.alp_files.specs.Cells.{Cells}
 use Rattle.alp_files.specs.Sound.{AreSound}
 use Rattle.alp_report.specs.Sections.{printed}
+use Rattle.alp_report.specs.declared.summary.Held.{Held}
 use Rattle.alp_report.specs.declared.summary.Summary.{Summary}
 use Rattle.alp_vault.specs.Contents.{Contents}
 use Rattle.alp_cluster.specs.declared.fault.RunFault.TheVariants as fault
@@ -40,8 +41,9 @@ returns-clause-looked g c = record { held = c.in_ok-owners.ensures.looked.held; 
 
 pub returns-clause-printed : goal.returns-clause-printed
 returns-clause-printed g c =
-    let s : Summary = record { server = c.args.ending.server; epoch = c.args.ending.epoch; clock = c.args.ending.clock; files = c.file_count.result; owners = c.deref.result; committed = c.args.ending.committed; aborted = c.args.ending.aborted } in
-    (printed s, c.in_ok-put_summary.ensures, record { summary = s; server = refl; epoch = refl; clock = refl; committed = refl; aborted = refl; text_is = refl })
+    let d : Held = record { server = c.args.ending.server; epoch = c.args.ending.epoch; clock = c.args.ending.clock; files = c.file_count.result; owners = c.in_ok-owners.owners } in
+    let s : Summary = record { servers = record { ref_ptr = (0, 0); now = d ∷ [] }; committed = c.args.ending.committed; aborted = c.args.ending.aborted } in
+    (printed s, c.in_ok-put_summary.ensures, record { summary = s; held = d; one = refl; server = refl; epoch = refl; clock = refl; committed = refl; aborted = refl; text_is = refl })
 
 pub returns-clause-text : goal.returns-clause-text
 returns-clause-text g c tells =
@@ -49,7 +51,8 @@ returns-clause-text g c tells =
     let owners = c.in_ok-owners.ensures in
     let told = subst IsTrue (sym owners.gone.same.telling) tells in
     let sound : AreSound m = subst (λ (x : Contents). AreSound x.cells) owners.looked.held (c.knows.ensures.fitting _ told (c.knows.ensures.as_held told owners.looked.serves)).sound in
-    let s : Summary = record { server = c.args.ending.server; epoch = c.args.ending.epoch; clock = c.args.ending.clock; files = c.file_count.result; owners = c.deref.result; committed = c.args.ending.committed; aborted = c.args.ending.aborted } in
+    let d : Held = record { server = c.args.ending.server; epoch = c.args.ending.epoch; clock = c.args.ending.clock; files = c.file_count.result; owners = c.in_ok-owners.owners } in
+    let s : Summary = record { servers = record { ref_ptr = (0, 0); now = d ∷ [] }; committed = c.args.ending.committed; aborted = c.args.ending.aborted } in
     c.in_ok-put_summary.ensures
     ∙ ap (λ (ts : List ℕ). c.args.text.now.items ++ ts)
-    (printed_is s m sound (c.file_count.ensures told ∙ ap (λ (x : Contents). file_count_of x.cells) owners.looked.held) (c.deref.ensures.value ∙ owners.owners tells))
+    (printed_is s d m sound refl (c.file_count.ensures told ∙ ap (λ (x : Contents). file_count_of x.cells) owners.looked.held) (owners.owners tells))

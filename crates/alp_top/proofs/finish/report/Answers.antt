@@ -1,11 +1,11 @@
 use Rattle.std.specs.Prelude.{IsTrue, Err}
-use Rattle.std.proofs.Common.{◌≡◌, ◌++◌, refl, sym, ◌∙◌, ap, subst}
+use Rattle.std.proofs.Common.{◌≡◌, [], ◌∷◌, ◌++◌, refl, sym, ◌∙◌, ap, subst}
 use Rattle.alp_base.specs.declared.allowance.Allowance.TheVariants.{Free}
 use Rattle.alp_report.specs.Reports.{summary_text}
 use Rattle.alp_cluster.specs.Servers.{HasGone}
 use Rattle.alp_cluster.specs.declared.fault.RunFault.TheVariants as fault
 use Rattle.alp_cluster.proofs.GoneLemmas.{gone_err, gone_memory}
-use Rattle.alp_top.specs.Endings.{IsServerLog}
+use Rattle.alp_top.specs.Endings.{holding_of, IsServerLog}
 use Rattle.alp_top.specs.Looks.{HasLooked}
 use Rattle.alp_top.proofs.LookLemmas.{gone_as, looked_err}
 use Rattle.alp_top.proofs.finish.report.Goals as goal
@@ -55,7 +55,7 @@ returns-in-Ok-clause-reported g c =
       summary = summary;
       told = λ tells.
           put.text (subst (λ p. IsTrue (g.V.Vault.tells p.1)) (sym parts) tells)
-          ∙ ap (λ p. c.args.text.items ++ summary_text c.ending_of-ending.result.server c.ending_of-ending.result.epoch c.ending_of-ending.result.clock (g.V.Vault.held p.1).cells c.ending_of-ending.result.committed c.ending_of-ending.result.aborted) parts;
+          ∙ ap (λ p. c.args.text.items ++ summary_text (holding_of c.ending_of-ending.result (g.V.Vault.held p.1).cells ∷ []) c.ending_of-ending.result.committed c.ending_of-ending.result.aborted) parts;
     }
 
 pub returns-in-Err-server_logs-clause-gone : goal.returns-in-Err-server_logs-clause-gone

@@ -1,4 +1,5 @@
 use Rattle.std.specs.Prelude.{Ok, Err, true, false}
+use Rattle.std.specs.List.{AllByRecursion}
 use Rattle.std.proofs.Common.{◌≡◌, ◌<◌, ◌≤◌, ◌+◌, ◌^◌, ℕ, List, [], ◌∷◌, ◌++◌, take, drop, length, sym, subst, ◌∙◌, refl, arith}
 use Rattle.std.proofs.lemmas.List.{take_all}
 use Rattle.alp_lines.specs.Forms.{IsForm}
@@ -27,7 +28,8 @@ pub play_step-requires-clause-form : goal.play_step-requires-clause-form
 play_step-requires-clause-form g c = at_place (λ (l : NumberedLine). IsForm l.line) c.args.lines.now c.loop-line.line-index c.line-item.result c.requires.accepted.forms c.loop-line-test.true c.line-item.is
 
 pub play_step-requires-clause-ours : goal.play_step-requires-clause-ours
-play_step-requires-clause-ours g c = at_place (λ (l : NumberedLine). names_ours l.line ≡ true) c.args.lines.now c.loop-line.line-index c.line-item.result c.requires.accepted.ours c.loop-line-test.true c.line-item.is
+play_step-requires-clause-ours g c = at_place (λ (l : NumberedLine). names_ours 1 l.line ≡ true) c.args.lines.now c.loop-line.line-index c.line-item.result
+    (subst (λ (n : ℕ). AllByRecursion (λ (l : NumberedLine). names_ours n l.line ≡ true) c.args.lines.now) c.requires.single c.requires.accepted.ours) c.loop-line-test.true c.line-item.is
 
 pub play_step-requires-clause-places : goal.play_step-requires-clause-places
 play_step-requires-clause-places g c =
@@ -59,7 +61,7 @@ returns-in_err-play_step-clause-ended g c =
     let front : take (i + 1) ls ≡ take i ls ++ c.line-item.result ∷ [] = front_at ls i c.line-item.result c.loop-line-test.true c.line-item.is in
     let few : length ls ≤ 200000 = c.requires.accepted.few in
     let long : length (take i ls) ≤ length ls = front_long ls i in
-    let short : length (take i ls) < 2 ^ 30 = omega (arith, few, long) in
+    let short : length (take i ls) < 2 ^ 29 = omega (arith, few, long) in
     end_on c.in_err-play_step.field-0.0 c.from_residual.result _ _ (handed_on c.in_err-play_step.field-0.0 c.from_residual.result c.from_residual.ensures.0 c.from_residual.ensures.1)
     (λ f h.
     let (n, known, ends, some) = h q now played.is_fused played.free in

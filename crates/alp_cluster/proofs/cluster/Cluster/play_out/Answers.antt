@@ -43,7 +43,7 @@ returns-clause-gone g c = λ p is.
 pub returns-clause-ended : goal.returns-clause-ended
 returns-clause-ended g c =
     let few : length c.args.lines.now ≤ 200000 = c.requires.accepted.few in
-    let short : length c.args.lines.now < 2 ^ 30 = omega (arith, few) in
+    let short : length c.args.lines.now < 2 ^ 29 = omega (arith, few) in
     end_map c.settle.result _ _
     (λ f h p is.
     let (q, now, opening, telling, played) = c.in_ok-play.ensures.played p is in
@@ -54,7 +54,7 @@ returns-clause-ended g c =
 pub returns-clause-played : goal.returns-clause-played
 returns-clause-played g c =
     let few : length c.args.lines.now ≤ 200000 = c.requires.accepted.few in
-    let short : length c.args.lines.now < 2 ^ 30 = omega (arith, few) in
+    let short : length c.args.lines.now < 2 ^ 29 = omega (arith, few) in
     on_ok_weaker c.settle.result
     (λ h p is.
     let (q, now, opening, telling, played) = c.in_ok-play.ensures.played p is in

@@ -8,7 +8,7 @@ use Rattle.alp_cluster.proofs.StandLemmas.{for_all, gone_by, other_ended, other_
 use Rattle.alp_cluster.proofs.cluster.Cluster.play_step.Goals as goal
 
 pub play_own-requires-clause-client : goal.play_own-requires-clause-client
-play_own-requires-clause-client g c = ours-client c.args.line.now.line c.in-Some.client c.requires.ours (sym c.client.ensures ∙ c.in-Some.is)
+play_own-requires-clause-client g c = ours-client 1 c.args.line.now.line c.in-Some.client c.requires.ours (sym c.client.ensures ∙ c.in-Some.is)
 
 pub play_own-requires-clause-named : goal.play_own-requires-clause-named
 play_own-requires-clause-named g c = sym c.client.ensures ∙ c.in-Some.is

@@ -1,5 +1,5 @@
 use Rattle.std.specs.Prelude.{IsSome}
-use Rattle.std.proofs.Common.{ℕ, List, sym, subst}
+use Rattle.std.proofs.Common.{ℕ, List, sym, subst, arith}
 use Rattle.alp_fields.specs.Forms.{whole}
 use Rattle.alp_journal.specs.declared.log.Item.{Item}
 use Rattle.alp_rpc.specs.Frames.{request}
@@ -22,7 +22,7 @@ pub returns-in_err-handed-clause-filled : goal.returns-in_err-handed-clause-fill
 returns-in_err-handed-clause-filled g c =
     full_then _ _ c.in_err-handed.field-0.0 c.from_residual.result c.in_err-handed.ensures.filled
     (handed_on c.in_err-handed.field-0.0 c.from_residual.result c.from_residual.ensures.0 c.from_residual.ensures.1)
-    (λ room. (subst (λ (bytes : List ℕ). IsSome (whole request bytes)) c.as_slice.ensures room.0, room.1))
+    (λ room. (omega (arith, c.if-frame-ne-SERVER.false), subst (λ (bytes : List ℕ). IsSome (whole request bytes)) c.as_slice.ensures room.0, room.1))
 
 pub returns-in_err-behind-clause-gone : goal.returns-in_err-behind-clause-gone
 returns-in_err-behind-clause-gone g c =
@@ -51,7 +51,7 @@ returns-clause-sent g c =
       c.item.result,
       c.in_ok-push.ensures.items,
       subst (λ (x : Item). Exchanged g.V.Vault c.args.self.now.clients c.hears.new.self n m c.args.client c.args.line.now c.args.next c.args.frame c.in_ok-behind.behind x) (sym c.item.ensures)
-          (exchanged g.V.Vault c.args.self.now.clients n m c.args.client c.args.line.now c.args.next c.args.frame h c.requires.step c.requires.client.1 c.requires.form c.requires.asked c.requires.fits c.requires.own
+          (exchanged g.V.Vault c.args.self.now.clients n m c.args.client c.args.line.now c.args.next c.args.frame h c.requires.step c.requires.client.1 c.requires.form (omega (arith, c.if-frame-ne-SERVER.false)) c.requires.asked c.requires.fits c.requires.own
           (subst (λ (bytes : List ℕ). IsHanded g.V.Vault n m c.args.client bytes (whole request bytes) h) c.as_slice.ensures c.in_ok-handed.ensures.handed)
           c.hears.new.self c.in_ok-behind.behind c.mark_of.result c.in_ok-behind.ensures.ok c.mark_of.ensures),
     )
