@@ -60,7 +60,7 @@ use Rattle.alp_node.specs.declared.server_state.ServerState.{ServerState}
 use Rattle.alp_node.specs.declared.lives.Live.{Live}
 use Rattle.alp_node.proofs.BesideLemmas.{AreNamed, AreOthers, others_told, queue_beside, asked_beside}
 use Rattle.alp_node.proofs.MapLemmas.{put_twice, get_put, places_set}
-use Rattle.alp_node.proofs.KeptLemmas.{IsLive, session_of, session_then, live_there, same_live, alike_set, each_set, each_set_at, sessions_as}
+use Rattle.alp_node.proofs.KeptLemmas.{IsLive, session_of, session_then, live_there, same_live, alike_set, each_set, sessions_as}
 
 outcome_of : (tells : Bool) (cells : Cells) (id : FileId) (l : Live) (p : Part) (c : Call) (room : Room) (acts : List Act) (given : Result Reply CallFault) (r : Result Given CallFault) → IfOk given (Answered tells cells l.part p l.who id c room) → OnErr given (IsAsBefore l.part p)
     → IsAnswerTo given acts r → Outcome tells cells id l p c room acts r

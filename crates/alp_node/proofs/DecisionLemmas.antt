@@ -1,6 +1,6 @@
 -- decisions without joins stay so, as transactions begin, commit and end
 use Rattle.std.specs.Prelude.{cond, Bool, true, false}
-use Rattle.std.proofs.Common.{◌≡◌, ℕ, [], refl}
+use Rattle.std.proofs.Common.{ℕ, [], refl}
 use Rattle.alp_base.specs.declared.ids.Stamp.{Stamp}
 use Rattle.alp_base.specs.declared.ids.TransId.{TransId}
 use Rattle.alp_files.specs.declared.refusal.Cause.{Cause}

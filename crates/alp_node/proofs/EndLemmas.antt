@@ -42,7 +42,7 @@ use Rattle.alp_journal.specs.Counts.{lock_set}
 use Rattle.alp_journal.specs.Moves.{next_trans}
 use Rattle.alp_journal.specs.Answers.{too_many, is_counted, count_of_transactions, if_over}
 use Rattle.alp_journal.specs.Account.{Account, state_of, IsQuiet, IsPartOf, IsOfPart, Leads}
-use Rattle.alp_journal.proofs.IdLemmas.{same_trans-true, all-filter}
+use Rattle.alp_journal.proofs.IdLemmas.{all-filter}
 use Rattle.alp_journal.proofs.StandLemmas.{live_undecided}
 use Rattle.alp_journal.proofs.WaitLemmas.{all-stay}
 use Rattle.alp_journal.proofs.BeginCalls.{hello_entry, with_hello, hello_leads, with_begun, begin_leads, is_buried, unburied, is_decided, undecided, with_buried_as, buried_quiet, with_buried, begin_refused_leads}

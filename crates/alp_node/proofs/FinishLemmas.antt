@@ -1,12 +1,11 @@
 -- refusals and ends, as the server keeps them
-use Rattle.std.specs.Prelude.{cond, Bool, true, false, ◌==◌, ◌&&◌, ◌||◌, not, Option, None, Some, is_some, nat_lt, nat_le}
+use Rattle.std.specs.Prelude.{cond, Bool, true, false, ◌==◌, ◌&&◌, not, Option, None, Some, is_some}
 use Rattle.std.specs.List.{AllByRecursion}
 use Rattle.std.specs.FinMap as map
-use Rattle.std.proofs.Common.{◌≡◌, ℕ, ◌<◌, List, [], refl, sym, ◌∙◌, ap, subst, eq-eqb, arith}
+use Rattle.std.proofs.Common.{◌≡◌, ℕ, List, [], refl, sym, ◌∙◌, ap, subst, eq-eqb, arith}
 use Rattle.std.specs.List.Sorted.{IsPermutation}
 use Rattle.std.proofs.lemmas.List.Sorted.{IsPermutation-refl}
-use Rattle.std.proofs.lemmas.Bool.{eqb-true, ne_eqb, leb-true, ltb-true}
-use Rattle.alp_base.proofs.NameLemmas.{and_right}
+use Rattle.std.proofs.lemmas.Bool.{ne_eqb}
 use Rattle.alp_base.specs.declared.ids.TransId.{TransId}
 use Rattle.alp_files.specs.declared.call.Call.TheVariants as call
 use Rattle.alp_files.specs.declared.reply.Reply.{Reply}
@@ -19,9 +18,8 @@ use Rattle.alp_journal.specs.declared.event.Event.{Event}
 use Rattle.alp_journal.specs.declared.event.Event.TheVariants as event
 use Rattle.alp_journal.specs.Along.{Where}
 use Rattle.alp_journal.specs.Ids.{same_trans}
-use Rattle.alp_journal.specs.Coordinator.{Fate, Undrawn, Running}
+use Rattle.alp_journal.specs.Coordinator.{Undrawn}
 use Rattle.alp_journal.specs.Desk.{Session, file_trans, is_of_part, waiting_of, without}
-use Rattle.alp_journal.specs.Holder.{Life}
 use Rattle.alp_journal.specs.Messages.{Mail, on_tick}
 use Rattle.alp_journal.specs.Answers.{Part, NoPart, AtEnd, part_at, at_part, First, IsFinishAnswer, finish_reply}
 use Rattle.alp_journal.specs.Account.{Account, state_of, IsQuiet, Leads}
@@ -47,7 +45,7 @@ use Rattle.alp_node.specs.Standings.{standing_of}
 use Rattle.alp_node.specs.declared.served.Standing.TheVariants as standing
 use Rattle.alp_node.proofs.StandingLemmas.{part_of, EndsNone, none_running, part_is, finish_none, undrawn_elsewhere, dead_gone}
 use Rattle.alp_node.proofs.MapLemmas.{places_set}
-use Rattle.alp_node.proofs.OneServer.{others_none, none_open, none_joined, gone_rests, lone_runs}
+use Rattle.alp_node.proofs.OneServer.{others_none, none_open, none_joined, gone_rests}
 
 -- ---- what stays
 

@@ -86,15 +86,6 @@ each_set P t x lives all this u l = go (same_trans u t)
     go true is = this l is
     go false is = all u l is
 
--- the same of what is so of a transaction too
-pub each_set_at : (P : TransId → Life → Type 0) (t : TransId) (x : Option Life) (lives : TransId → Option Life) → ((u : TransId) (l : Life) → lives u ≡ Some l → P u l) → ((l : Life) → x ≡ Some l → P t l)
-    → (u : TransId) (l : Life) → cond {A = Option Life} (same_trans u t) x (lives u) ≡ Some l → P u l
-each_set_at P t x lives all this u l = go (same_trans u t) refl
-  where
-    go : (b : Bool) → same_trans u t ≡ b → cond {A = Option Life} b x (lives u) ≡ Some l → P u l
-    go true e is = subst (λ (v : TransId). P v l) (sym (same_trans-true u t e)) (this l is)
-    go false e is = all u l is
-
 -- times that go no further go no further than a later one
 pub earlier_more : (m n : ℕ) (ds : List (Stamp × Decided)) → m ≤ n → AreEarlier m ds → AreEarlier n ds
 earlier_more m n [] le h = tt

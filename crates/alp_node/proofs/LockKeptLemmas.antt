@@ -55,7 +55,7 @@ use Rattle.alp_node.proofs.ShapeLemmas.{count_none_done}
 use Rattle.alp_node.proofs.TotalLemmas.{same_room}
 use Rattle.alp_node.proofs.ConflictLemmas.{not_empty}
 use Rattle.alp_node.proofs.FinishLemmas.{turn_session, counts_as}
-use Rattle.alp_node.proofs.KeptLemmas.{session_of, IsLive, live_there, alike_under, alike_set, each_set, each_set_at, stands_timely, stepped_so}
+use Rattle.alp_node.proofs.KeptLemmas.{session_of, IsLive, live_there, alike_under, alike_set, each_set, stands_timely, stepped_so}
 use Rattle.alp_node.proofs.LockLemmas.{taken_other, taken_beside, taken_waiting}
 use Rattle.alp_node.proofs.LockCallLemmas.{locked_then}
 use Rattle.alp_node.proofs.LockDoneLemmas.{locks_now, asked, lock_left, first_held, lock_free, lock_why, grants_none, grants_some, under_held, still_locked, known_then, count_then, lock_performed}

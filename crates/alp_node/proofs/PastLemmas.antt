@@ -28,7 +28,7 @@ use Rattle.alp_journal.specs.Counts.{kept_locks}
 use Rattle.alp_journal.specs.State.{is_other_server}
 use Rattle.alp_journal.specs.Account.{Account, state_of, IsFateOf as IsToldFate, IsQuiet, IsTriedCommit, AreEarlier}
 use Rattle.alp_journal.specs.Restarts.{restarted_at, with_decided}
-use Rattle.alp_journal.proofs.IdLemmas.{all-append, same_trans-true}
+use Rattle.alp_journal.proofs.IdLemmas.{all-append}
 use Rattle.alp_journal.proofs.RestartLemmas.{IsNoted}
 use Rattle.alp_journal.proofs.StampLemmas.{put-last, AreEarlier-push}
 use Rattle.alp_coord.specs.Coordinators.{IsOf, fate_in}
@@ -48,10 +48,10 @@ use Rattle.alp_node.proofs.ToComeLemmas.{comes_after}
 -- ---- what stays
 
 pub past_of : {V : Type 0} (n : ℕ) (serves : Bool) (a : Account) (held : Contents) (k : ServerState V) (sizes : Sizes) → IsAs a held k → IsReady n serves k → k.sizes ≡ sizes → IsPast a k.server k.epoch sizes
-past_of n serves a held k sizes h ready volume = record {
+past_of n serves a held k sizes h ready sizes_same = record {
   number = h.server;
   lone = h.lone;
-  volume = h.sizes ∙ volume;
+  volume = h.sizes ∙ sizes_same;
   now = h.epoch;
   clock = omega (arith, h.clock, ready.clock);
   unborn = λ t l live. subst (λ (m : ℕ). PutNoneBeyond a.holder.server a.ids.epoch m l.edits) (sym h.files) (h.unborn t l live);
@@ -147,10 +147,10 @@ pub again_as : {V : Type 0} (old : ServerState V) (sizes : Sizes) (b : Account) 
     → ((n : ℕ) → is_other_server (state_of b) n ≡ false) → 0 < b.ids.epoch → b.sizes ≡ sizes → b.ids.epoch + 1 ≡ c.epoch → held.cells ≡ b.holder.cells → held.notes ≡ clock_notes c → IsVolumeOf sizes held.cells
     → IsNewCoordinator b.holder.server c.epoch old.coordinator → ((t : TransId) → IsPlain (b.fates t)) → ((t : TransId) → if_ready (b.holder.lives t) ≡ None) → AreMade b.holder.server b.ids.epoch b.ids.files b.holder.made → SeesNoneToCome b.holder.server b.ids.epoch b.ids.files (map.get b.holder.cells) → AreEarlier c.clock b.holder.applied
     → IsQuiet (restarted_at b c.clock) → IsAs (restarted_at b c.clock) held (new_kept old b.holder.server sizes c)
-again_as old sizes b c held lone some alike later cells notes volume fresh plain gone made born earlier quiet = record {
+again_as old sizes b c held lone some sizes_same later cells notes volume fresh plain gone made born earlier quiet = record {
   server = refl;
   lone = lone;
-  sizes = alike;
+  sizes = sizes_same;
   epoch = later;
   clock = refl;
   cells = λ _. cells;

@@ -2,7 +2,7 @@
 use Rattle.std.specs.Prelude.{cond, Bool, true, false, not, ◌==◌, IsTrue, Option, None, Some, is_some}
 use Rattle.std.specs.FinMap as map
 use Rattle.std.specs.List.{list_all, AllByRecursion}
-use Rattle.std.proofs.Common.{◌≡◌, ℕ, ◌+◌, ◌^◌, ◌<◌, ◌≤◌, List, [], ◌∷◌, ◌++◌, length, refl, sym, ◌∙◌, ap, subst, arith, le_refl}
+use Rattle.std.proofs.Common.{◌≡◌, ℕ, ◌+◌, ◌^◌, ◌<◌, ◌≤◌, List, [], length, refl, sym, ◌∙◌, ap, subst, arith, le_refl}
 use Rattle.alp_base.specs.declared.ids.TransId.{TransId}
 use Rattle.alp_base.specs.declared.key.Resource.{Resource}
 use Rattle.alp_base.specs.declared.key.Resource.TheVariants.{Whole}
@@ -27,7 +27,7 @@ use Rattle.alp_journal.specs.Coordinator.{client_of, decision_in}
 use Rattle.alp_journal.specs.Deeds.{Begins}
 use Rattle.alp_journal.proofs.IdLemmas.{same_trans-itself, same_trans-true}
 use Rattle.alp_coord.specs.declared.coordinator.Coordinator.{Coordinator}
-use Rattle.alp_coord.specs.Coordinators.{IsOf, IsAlong, Comes, Keeps, server_of, epoch_of, count_of, next_id, fate_in}
+use Rattle.alp_coord.specs.Coordinators.{IsOf, IsAlong, Comes, Keeps, server_of, epoch_of, count_of, next_id}
 use Rattle.alp_node.specs.Asks.{is_given}
 use Rattle.alp_node.specs.Dead.{without_client}
 use Rattle.alp_node.specs.Rooms.{IsWithin}

@@ -376,7 +376,7 @@ module _ {V : Type 0} (G : Ghosts V) (old : V) (only : Only (G.held old) (G.may_
     where
       seen : (c : Contents) → Besides G old (IsWritten p.intents k (G.held old)) c → IsKeptOrRaised (G.held old) c
       seen c (inl before) = inl (only c before)
-      seen c (inr (inl alike)) = inl alike
+      seen c (inr (inl kept)) = inl kept
       seen c (inr (inr w)) = (let cells : c.cells ≡ (G.held old).cells = w.cells ∙ no_change (G.held old).cells p none in inr (k, is, (λ i. record { cells = cells i; notes = w.notes i })))
 
 pub vault_same : (f g : VaultFault) → start_fault.Vault f ≡ start_fault.Vault g → f ≡ g

@@ -36,7 +36,7 @@ use Rattle.alp_coord.specs.Begun.{fate_settled}
 use Rattle.alp_coord.specs.Courses.{fate_at, is_standing}
 use Rattle.alp_coord.specs.Coordinators.{IsOf, IsAlong, Comes, Keeps, server_of, epoch_of, count_of, last_id, next_id, settled_in, course_in, fate_known, fate_in, open_ids, counted_of}
 use Rattle.alp_coord.specs.Likeness.{IsLike, same, finishing, committed, is_over, IsLikeOld, standing, nothing, IsFateOf}
-use Rattle.alp_coord.specs.Ticks.{has_trans, AreOnce, AreAll}
+use Rattle.alp_coord.specs.Ticks.{has_trans, AreOnce}
 use Rattle.alp_coord.proofs.FateLemmas.{IsPlaced, settled_placed, early_open, fate_by, none_by, next_fate}
 use Rattle.alp_coord.proofs.LikeLemmas.{like-after, like-joins}
 use Rattle.alp_coord.proofs.MapLemmas.{tied_same}

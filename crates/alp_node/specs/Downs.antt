@@ -1,5 +1,5 @@
 -- Servers that fell, and how they start again.
-use Rattle.std.specs.Prelude.{◌≡◌, ◌⊎◌, ℕ, ◌+◌, ◌<◌, ◌≤◌, ◌^◌, true, false, IsTrue, [], ◌∷◌, ◌++◌, None, Some}
+use Rattle.std.specs.Prelude.{◌≡◌, ◌⊎◌, ℕ, ◌+◌, ◌<◌, ◌≤◌, ◌^◌, false, IsTrue, [], ◌∷◌, ◌++◌, None, Some}
 use Rattle.std.specs.FinMap as map
 use Rattle.alp_base.specs.Crashes.{Either, NoMore, Adds}
 use Rattle.alp_base.specs.Faults.{HasFaultCause, IsCountKept, IsOfVolume}
