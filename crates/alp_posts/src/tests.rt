@@ -77,10 +77,15 @@ impl Pair {
         })
     }
 
-    // Each journal has one entry more.
-    fn send(&mut self, first: Entry, second: Entry) -> Result<(), OutOfMemory> {
-        self.first.push(first)?;
-        self.second.push(second)?;
+    // Server 1 has one entry more.
+    fn send_first(&mut self, entry: Entry) -> Result<(), OutOfMemory> {
+        self.first.push(entry)?;
+        Ok(())
+    }
+
+    // Server 2 has.
+    fn send_second(&mut self, entry: Entry) -> Result<(), OutOfMemory> {
+        self.second.push(entry)?;
         Ok(())
     }
 
@@ -118,13 +123,13 @@ fn two_journals_grow(rt: HostRuntime) -> Result<(), Fail> {
     let alloc = rt.alloc();
     let mut pair = Pair::new(alloc)?;
     assert_eq!(rt; pair.next(1, 2), 0);
-    let first = sending(alloc, &[(2, 1), (3, 2), (2, 3)])?;
-    pair.send(first, sending(alloc, &[(1, 4)])?)?;
+    pair.send_first(sending(alloc, &[(2, 1), (3, 2), (2, 3)])?)?;
+    pair.send_second(sending(alloc, &[(1, 4)])?)?;
     assert_eq!(rt; pair.next(1, 2), 1);
     assert_eq!(rt; pair.take(1, 2, 7), 1);
     assert_eq!(rt; pair.take(1, 2, 8), 3);
     assert_eq!(rt; pair.take(1, 2, 9), 0);
-    pair.send(sending(alloc, &[(2, 5)])?, sending(alloc, &[])?)?;
+    pair.send_first(sending(alloc, &[(2, 5)])?)?;
     assert_eq!(rt; pair.next(1, 2), 5);
     assert_eq!(rt; last(&pair.posts, 1, 2), (3, 8));
     assert_eq!(rt; pair.take(1, 3, 10), 2);
