@@ -175,6 +175,8 @@ module _ {V : Type 0} (k : ServerState V) (turn : Turn) (t : TransId) (l : Live)
       begun = h.begun;
       opens = h.opens;
       opened = h.opened;
+      callers = h.callers;
+      alive = h.alive;
       places = h.places;
       calls = h.calls;
       replies = h.replies;

@@ -34,7 +34,7 @@ use Rattle.alp_journal.proofs.QuietLemmas.{none_tried, quiet_without}
 use Rattle.alp_journal.proofs.WaitLemmas.{IsOnly, each-only, found-is}
 use Rattle.alp_turns.specs.Queues.{request_if, request_for, request_at, queue_of}
 use Rattle.alp_turns.proofs.MoveLemmas.{GoesIdle, queue_without}
-use Rattle.alp_node.specs.Dead.{is_dead}
+use Rattle.alp_node.specs.Dead.{cause_in}
 use Rattle.alp_node.specs.ServerState.{IsAs, IsReady, IsAskedAs, IsWaitingAs}
 use Rattle.alp_node.specs.Steps.{Stepped, IsTurn, counted_in, refused_answer}
 use Rattle.alp_node.specs.Waits.{waiting, waiting_calls, is_of, is_at, call_at, without_calls_of, asks_for, IsWaitingCall, IsOfOther, AreApart}
@@ -144,7 +144,7 @@ module _ {V : Type 0} (a : Account) (held : Contents) (k : ServerState V) (clien
 
   -- its part, if that lives no more
   pub dead_why : map.get k.lives w.trans ≡ None → a.dead client w.trans ≡ Some cause.TimedOut
-  dead_why none = go (is_dead client w.trans k.dead) (h.dead client w.trans) (subst (λ (x : Option Cause). IsSome x) (h.dead client w.trans) why)
+  dead_why none = go (cause_in k.dead client w.trans) (h.dead client w.trans) (subst (λ (x : Option Cause). IsSome x) (h.dead client w.trans) why)
     where
       gone : a.holder.lives w.trans ≡ None
       gone = none_live a.holder.cells k.locks.held (a.locked w.trans) w.trans (map.get k.lives w.trans) (a.holder.lives w.trans) none (h.lives w.trans)

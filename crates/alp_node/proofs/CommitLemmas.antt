@@ -54,7 +54,7 @@ use Rattle.alp_journal.proofs.CommitCalls.{with_commit, with_commit_given, commi
 use Rattle.alp_journal.proofs.HaltedCalls.{with_halt, commit_halt_leads, file_halt_leads}
 use Rattle.alp_turns.specs.Laws.{trans_in}
 use Rattle.alp_turns.specs.Queues.{queue_of}
-use Rattle.alp_node.specs.Dead.{is_dead}
+use Rattle.alp_node.specs.Dead.{cause_in}
 use Rattle.alp_node.specs.Decisions.{with_time, HaveEnds}
 use Rattle.alp_node.specs.Durable.{clock_notes, stored_by, said_by, Leaves, Besides, IsWritten}
 use Rattle.alp_node.specs.Eases.{new_blocks, eased}
@@ -446,7 +446,7 @@ halted_as a m held then k v ds is quiet h =
 
 -- a read is stopped, in a call of a part at work
 module _ {V : Type 0} (a : Account) (before now : ℕ) (held then : Contents) (k : ServerState V) (turn : Turn) (t : TransId) (v : V) where
-  pub file_halt_stepped : (c : Call) (x : Answer) → IsAs a held k → IsTurn k.sessions turn → k.is_down ≡ false → file_trans c ≡ Some t → standing_of turn.client (map.get k.lives t) (is_dead turn.client t k.dead) ≡ standing.Own → waiting_of (state_of a).desk turn.client t ≡ None
+  pub file_halt_stepped : (c : Call) (x : Answer) → IsAs a held k → IsTurn k.sessions turn → k.is_down ≡ false → file_trans c ≡ Some t → standing_of turn.client (map.get k.lives t) (cause_in k.dead turn.client t) ≡ standing.Work → waiting_of (state_of a).desk turn.client t ≡ None
       → x ≡ refused_answer refusal.Down (act.Stopped ∷ [])
       → Stepped a before now then (record k { is_down = true; vault = v }) (event.Call turn.client k.epoch turn.number c) x
   file_halt_stepped c x h is up named own idle so =

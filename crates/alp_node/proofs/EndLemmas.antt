@@ -46,7 +46,7 @@ use Rattle.alp_journal.proofs.StandLemmas.{live_undecided}
 use Rattle.alp_journal.proofs.WaitLemmas.{all-stay}
 use Rattle.alp_journal.proofs.BeginCalls.{hello_entry, with_hello, hello_leads, with_begun, begin_leads, is_buried, unburied, is_decided, undecided, with_buried_as, buried_quiet, with_buried, begin_refused_leads}
 use Rattle.alp_journal.proofs.CollectCalls.{none_dead}
-use Rattle.alp_node.specs.Dead.{dead_in, without_client}
+use Rattle.alp_node.specs.Dead.{cause_in, without_client}
 use Rattle.alp_node.specs.Decisions.{HaveEnds}
 use Rattle.alp_node.specs.Sessions.{session_at, with_session}
 use Rattle.alp_node.specs.ServerState.{IsAs, IsAlike, IsWaitingAs, PutNoneBeyond, trans_to, is_beyond}
@@ -264,10 +264,10 @@ module _ {V : Type 0} (a : Account) (held : Contents) (k : ServerState V) (clien
       each (v ∷ vs) p = (decided_none v p.0, each vs p.1)
 
 -- nobody's dead part of the client is left
-dead_buried : (client : ℕ) (ds : List DeadPart) (d : ℕ) (u : TransId) → cond {A = Option Cause} (d == client) None (dead_in ds d u) ≡ dead_in (without_client client ds) d u
+dead_buried : (client : ℕ) (ds : List DeadPart) (d : ℕ) (u : TransId) → cond {A = Option Cause} (d == client) None (cause_in ds d u) ≡ dead_in (without_client client ds) d u
 dead_buried client ds d u = go (d == client) refl
   where
-    go : (b : Bool) → (d == client) ≡ b → cond {A = Option Cause} b None (dead_in ds d u) ≡ dead_in (without_client client ds) d u
+    go : (b : Bool) → (d == client) ≡ b → cond {A = Option Cause} b None (cause_in ds d u) ≡ dead_in (without_client client ds) d u
     go true e = ap (λ (b : Bool). cond {A = Option Cause} b (Some cause.TimedOut) None) (sym (none_left ds d client u (eqb-true d client e)))
     go false e = ap (λ (b : Bool). cond {A = Option Cause} b (Some cause.TimedOut) None) (sym (others_left ds d client u e))
 

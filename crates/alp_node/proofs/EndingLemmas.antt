@@ -30,7 +30,7 @@ use Rattle.alp_journal.proofs.CallLemmas.{call_entry}
 use Rattle.alp_journal.proofs.OwnEnds.{with_end, with_end_given, abort_leads, against_leads}
 use Rattle.alp_journal.proofs.TimeoutLemmas.{timeout_entry, with_timeout, with_timeout_given, late_aborts, timeout_leads}
 use Rattle.alp_journal.proofs.WaitLemmas.{without-given}
-use Rattle.alp_node.specs.Dead.{dead_in, without_part}
+use Rattle.alp_node.specs.Dead.{cause_in, without_part}
 use Rattle.alp_node.specs.Releases.{granted_if, granted_one, granted_all, granted_behind, let_go}
 use Rattle.alp_node.specs.ServerState.{IsAs, IsReady}
 use Rattle.alp_node.specs.Steps.{Stepped, IsTimely, IsTurn, entry_of, counted_in, ended, told_answer, refused_answer}
@@ -167,7 +167,7 @@ module _ {V : Type 0} (a : Account) (before now : ℕ) (held : Contents) (k : Se
         (plain_moved a.fates t (fate.ended cause.TimedOut) (ended_plain cause.TimedOut) h.plain)
         (ends_moved a.holder.server a.ids.epoch k.drawn k.decisions a.fates t (fate.ended cause.TimedOut) (ended_still cause.TimedOut) h.ends) h.places h.sessions
         (λ d u. ap (cond {A = Option Cause} (d == life.client && same_trans u t) (Some cause.TimedOut)) (h.dead d u)
-        ∙ ap (λ (n : ℕ). cond {A = Option Cause} (d == n && same_trans u t) (Some cause.TimedOut) (dead_in k.dead d u)) its ∙ dead_then k.dead l.client t d u)
+        ∙ ap (λ (n : ℕ). cond {A = Option Cause} (d == n && same_trans u t) (Some cause.TimedOut) (cause_in k.dead d u)) its ∙ dead_then k.dead l.client t d u)
         g.all.waits g.all.asked g.queue (subst IsQuiet (sym late_state) quiet)))
 
   pub timeout_stepped : (l : Live) (x : Answer) → k.is_down ≡ false → map.get k.lives t ≡ Some l → x ≡ told_answer None (act.Released t ∷ grant_acts (granted_behind k t))

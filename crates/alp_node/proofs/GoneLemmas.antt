@@ -41,7 +41,7 @@ use Rattle.alp_turns.proofs.MoveLemmas.{GoesIdle, IsGone, StandsStill, queue_gon
 use Rattle.alp_turns.proofs.QueueLemmas.{gives_on}
 use Rattle.alp_turns.proofs.RequestLemmas.{tied_same}
 use Rattle.alp_node.specs.Decisions.{IsPlain, HaveEnds}
-use Rattle.alp_node.specs.Dead.{dead_in}
+use Rattle.alp_node.specs.Dead.{cause_in}
 use Rattle.alp_node.specs.Releases.{granted_if, granted_one, granted_all, granted_behind, let_go}
 use Rattle.alp_node.specs.Sessions.{session_at}
 use Rattle.alp_node.specs.ServerState.{IsAs, IsReady, IsLife, IsAlike, IsAskedAs, IsWaitingAs, PutNoneBeyond, is_beyond}
@@ -396,7 +396,7 @@ module _ {V : Type 0} (a : Account) (held : Contents) (k : ServerState V) (t : T
         server_told = record k { lives = server_then.lives; locks = record (released k.locks t) { woken = [] }; sessions = kept_sessions; dead = kept_dead; waits = kept_waits }
 
         pub gone_as : k.is_down ≡ false → ((u : TransId) → is_beyond a.holder.server a.ids.epoch k.drawn u ≡ true → fates u ≡ Undrawn) → ((u : TransId) → IsPlain (fates u)) → HaveEnds a.holder.server a.ids.epoch k.drawn k.decisions fates
-            → length kept_sessions.places ≡ 17 → ((client : ℕ) → sessions client ≡ session_at kept_sessions client) → ((client : ℕ) (u : TransId) → dead client u ≡ dead_in kept_dead client u)
+            → length kept_sessions.places ≡ 17 → ((client : ℕ) → sessions client ≡ session_at kept_sessions client) → ((client : ℕ) (u : TransId) → dead client u ≡ cause_in kept_dead client u)
             → waits ≡ waiting_calls kept_waits → AllByRecursion (IsWaitingAs state_then.holder state_then.locked) kept_waits → (released k.locks t).waiting ≡ queue_of state_then.holder (released k.locks t).held waits
             → IsQuiet state_told → IsAs state_told held server_told
         gone_as up undrawn plain ends places same_sessions same_dead same_waits asked queue quiet = subst (λ (x : Holder). IsAs (record state_told { holder = x }) held server_told) (sym rest) (record {

@@ -39,7 +39,7 @@ use Rattle.alp_node.specs.Halts.{HaveCauses}
 use Rattle.alp_node.specs.Asks.{asks_of, plan_of, acts_of}
 use Rattle.alp_node.specs.Calls.{IsServedCall}
 use Rattle.alp_node.specs.Covers.{AreHeld}
-use Rattle.alp_node.specs.Dead.{is_dead}
+use Rattle.alp_node.specs.Dead.{cause_in}
 use Rattle.alp_node.specs.Rooms.{IsWithin}
 use Rattle.alp_node.specs.Shapes.{shape_of, fresh_on, counts_then, too_locked, is_wait, may_wait}
 use Rattle.alp_node.specs.ServerState.{IsAs, IsLife}
@@ -184,7 +184,7 @@ module _ {V : Type 0} (a : Account) (before now : ℕ) (held : Contents) (k : Se
   locks_stepped f x h raised is up there own idle within served told shape many of so =
       let y : IsLive a.holder.cells k.locks.held (a.locked t) t l (a.holder.lives t) = live_there a.holder.cells k.locks.held (a.locked t) t (map.get k.lives t) (a.holder.lives t) l there (h.lives t) in
       let counted : IsCountRefusal f = too_locked_is k.sizes.area l.part.counts.cells then_counts.made f many in
-      first_stepped a before now held k turn t c f y.life x h is up of (own_standing turn.client (map.get k.lives t) (is_dead turn.client t k.dead) (subst (IsOf turn.client) (sym there) own)) idle y.is
+      first_stepped a before now held k turn t c f y.life x h is up of (own_standing turn.client (map.get k.lives t) (cause_in k.dead turn.client t) (subst (IsOf turn.client) (sym there) own)) idle y.is
       (go y.life y.alike (shape_cases a held k h raised t l y.life y.alike c served shape)) counted.now (count_none_done a t c f counted) so
     where
       go : (life : Life) (mine : IsLife a.holder.cells k.locks.held (a.locked t) t l life) → (shape_refusal (state_of a) life c ≡ None) ⊎ IsShut a held k h raised t l life mine c
@@ -201,7 +201,7 @@ module _ {V : Type 0} (a : Account) (before now : ℕ) (held : Contents) (k : Se
   conflict_stepped holder x h raised is up there own idle never served told shape few of sound named so =
       let y : IsLive a.holder.cells k.locks.held (a.locked t) t l (a.holder.lives t) = live_there a.holder.cells k.locks.held (a.locked t) t (map.get k.lives t) (a.holder.lives t) l there (h.lives t) in
       let r : Reply = reply.Refused (refusal.LockConflict holder) in
-      let mine : standing_of turn.client (map.get k.lives t) (is_dead turn.client t k.dead) ≡ standing.Own = own_standing turn.client (map.get k.lives t) (is_dead turn.client t k.dead) (subst (IsOf turn.client) (sym there) own) in
+      let mine : standing_of turn.client (map.get k.lives t) (cause_in k.dead turn.client t) ≡ standing.Work = own_standing turn.client (map.get k.lives t) (cause_in k.dead turn.client t) (subst (IsOf turn.client) (sym there) own) in
       let none : option_or (shape_refusal (state_of a) y.life c) (lock_refusal (state_of a) t y.life c) ≡ None =
       not_refused a held k t l c ns y.life h up y.alike served told (open_there y.life y.alike (shape_cases a held k h raised t l y.life y.alike c served shape)) few in
       refused_stepped a before now held k turn t c false (refusal.LockConflict holder) x h is up (λ e. cc) of refl refl

@@ -59,7 +59,7 @@ use Rattle.alp_node.specs.Rooms.{IsRoomOf, locks_given}
 use Rattle.alp_node.specs.Shapes.{shape_of, counts_then, too_locked}
 use Rattle.alp_node.specs.Totals.{totals_of}
 use Rattle.alp_node.specs.declared.lock_counts.LockCounts.{LockCounts}
-use Rattle.alp_node.specs.Dead.{is_dead}
+use Rattle.alp_node.specs.Dead.{cause_in}
 use Rattle.alp_node.specs.ServerState.{IsAs, IsReady, IsAlike, IsLife}
 use Rattle.alp_node.specs.Standings.{standing_of}
 use Rattle.alp_node.specs.Steps.{Stepped, IsTurn, IsOf, counted_in, seen_in, told_answer}
@@ -272,8 +272,8 @@ module _ {V : Type 0} (a : Account) (before now : ℕ) (held : Contents) (k : Se
         go (inl open_there) = subst (λ (x : Option Refusal). First x r (IsLocked (state_of a) t life c r)) (sym (passed open_there)) (IsLocked.performed r lock_free lock_threads)
         go (inr shut) = subst (λ (x : Option Refusal). First x r (IsLocked (state_of a) t life c r)) (sym (shut_first a held k t l c ns life h up mine served from ready.raised shut)) (shut_reply shut)
 
-    my_standing : standing_of turn.client (map.get k.lives t) (is_dead turn.client t k.dead) ≡ standing.Own
-    my_standing = own_standing turn.client (map.get k.lives t) (is_dead turn.client t k.dead) (subst (IsOf turn.client) (sym there) own)
+    my_standing : standing_of turn.client (map.get k.lives t) (cause_in k.dead turn.client t) ≡ standing.Work
+    my_standing = own_standing turn.client (map.get k.lives t) (cause_in k.dead turn.client t) (subst (IsOf turn.client) (sym there) own)
 
     pub lock_why : IsFileOf false (state_of a) turn.client c r (Some t)
     lock_why = work_why a before now held k turn t c false r life h my_standing idle_so live (inr lock_answer)

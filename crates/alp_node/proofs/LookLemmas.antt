@@ -35,7 +35,7 @@ use Rattle.alp_node.specs.Asks.{is_given}
 use Rattle.alp_node.specs.Rooms.{IsRoomOf, IsWithin}
 use Rattle.alp_node.specs.Totals.{LiveMap}
 use Rattle.alp_node.proofs.WithinLemmas.{within_same}
-use Rattle.alp_node.specs.Dead.{is_dead}
+use Rattle.alp_node.specs.Dead.{cause_in}
 use Rattle.alp_node.specs.ServerState.{IsAs, IsReady, IsNumbered}
 use Rattle.alp_node.specs.Standings.{standing_of}
 use Rattle.alp_node.specs.Steps.{IsStep, IsRefused, IsDown, IsTurn, IsOf, counted_in, refused_answer}
@@ -159,8 +159,8 @@ module _ {V : Type 0} (G : Ghosts V) (k : ServerState V) (m : LiveMap) (v : V) w
     pub ready : (n : ℕ) (on : Bool) → IsTrue on → IsReady n (G.serves k.vault) k → IsReady n on looked
 
   module _ (turn : Turn) (t : TransId) (c : Call) (unseen : IsUnseen turn t) (left : IsLeft G k.vault v) (is : IsTurn k.sessions turn) (up : k.is_down ≡ false) (named : file_trans c ≡ Some t) (calm : (a : Account) → IsAs a (G.held k.vault) k → waiting_of (state_of a).desk turn.client t ≡ None) where
-    own_there : standing_of turn.client (map.get m t) (is_dead turn.client t k.dead) ≡ standing.Own
-    own_there = own_standing turn.client (map.get m t) (is_dead turn.client t k.dead) (subst (IsOf turn.client) (sym unseen.there) unseen.own)
+    own_there : standing_of turn.client (map.get m t) (cause_in k.dead turn.client t) ≡ standing.Work
+    own_there = own_standing turn.client (map.get m t) (cause_in k.dead turn.client t) (subst (IsOf turn.client) (sym unseen.there) unseen.own)
 
     -- a read failed: the call is refused, and the server goes on
     failed_step : IsTrue (G.serves v) → Rose (G.faults k.vault) (G.faults v)

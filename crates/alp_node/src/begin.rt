@@ -4,7 +4,7 @@ ghost use Rattle.std.specs.FinMap as map;
 ghost use Rattle.alp_files.specs.declared.call.Call.TheVariants as call;
 ghost use Rattle.alp_journal.specs.declared.event.Event.TheVariants as event;
 ghost use Rattle.alp_trans.specs.Counting.{no_counts};
-ghost use Rattle.alp_node.specs.Releases.{buried, with_trans};
+ghost use Rattle.alp_node.specs.Releases.{buried, cleared, with_trans};
 ghost use Rattle.alp_node.specs.Sessions.{session_at};
 ghost use Rattle.alp_node.specs.ServerState.{IsReadyForMore};
 ghost use Rattle.alp_node.specs.Steps.{IsStep, IsStepAs, IsTurn};
@@ -52,7 +52,7 @@ impl<V: Vault> ServerState<V> {
         ensures { IsStep V.Vault self.old self.new (event.Call turn.now.client self.old.epoch turn.now.number (call.Begin seen)) result }
     {
         if self.lives.len() >= MOST_TRANSACTIONS {
-            self.bury(turn.client);
+            self.clear(turn.client);
             return Ok(self.refuse(
                 turn,
                 Refusal::TooMany {
@@ -73,14 +73,15 @@ impl<V: Vault> ServerState<V> {
         let answer = Answer::new(&reply, acts)?;
         let live = Live {
             client: turn.client,
-            who: turn.who,
+            who: Some(turn.who),
             part: Part::new(self.alloc),
             locks: 0,
+            join: None,
         };
         self.enter(trans, live)?;
         self.drawn = counter;
         self.clock = clock;
-        self.bury(turn.client);
+        self.clear(turn.client);
         self.sessions.count(turn, reply);
         Ok(answer)
     }
@@ -109,7 +110,15 @@ impl<V: Vault> ServerState<V> {
     pub fn bury(&mut self, client: u8)
         ensures { self.new ≡ buried self.old client }
     {
-        self.waits.bury(client, &self.lives);
+        self.waits.bury(client, &self.dead);
         self.dead.bury(client);
+    }
+
+    // Nor for a call of any other part that is not live.
+    fn clear(&mut self, client: u8)
+        ensures { self.new ≡ cleared self.old client }
+    {
+        self.bury(client);
+        self.waits.clear(client, &self.lives);
     }
 }

@@ -6,7 +6,7 @@ use Rattle.alp_files.specs.declared.refusal.Refusal.TheVariants as refusal
 use Rattle.alp_journal.specs.declared.event.Event.TheVariants as event
 use Rattle.std.specs.FinMap as map
 use Rattle.std.specs.Prelude.{None}
-use Rattle.alp_node.specs.Dead.{is_dead, without_part}
+use Rattle.alp_node.specs.Dead.{cause_in, without_part}
 use Rattle.alp_node.specs.Waits.{without_calls_of}
 use Rattle.alp_node.specs.ServerState.{IsReady}
 use Rattle.alp_node.specs.Steps.{Stepped, counted_in}
@@ -28,7 +28,7 @@ returns g c =
     let r = reply.Refused (refusal.Aborted cause.TimedOut) in
     let after : ServerState g.row.V.Denot = record k { sessions = counted_in k.sessions turn r; dead = without_part turn.client t k.dead; waits = without_calls_of turn.client t k.waits } in
     let same : c.refuse.new.self ≡ after = c.refuse.ensures.kept ∙ (λ i. record k { sessions = counted_in k.sessions turn r; dead = c.remove.ensures i; waits = c.remove_of.ensures i }) in
-    let none : map.get k.lives t ≡ None = dead_gone turn.client (map.get k.lives t) (is_dead turn.client t k.dead) c.requires.dead in
+    let none : map.get k.lives t ≡ None = dead_gone turn.client (map.get k.lives t) (cause_in k.dead turn.client t) c.requires.dead in
     plain_step G k c.refuse.new.self turn (call.Finish t c.args.commit) c.refuse.result r [] (ap (λ (y : ServerState _). y.vault) same) (ap (λ (y : ServerState _). y.server) same)
     (ap (λ (y : ServerState _). y.sizes) same) (ap (λ (y : ServerState _). y.epoch) same) c.requires.up (ap (λ (y : ServerState _). y.is_down) same ∙ c.requires.up) refl c.refuse.ensures.answer refl (λ m n b. tt)
     (λ n h. subst (λ (y : ServerState _). IsReady (n + 1) (G.serves k.vault) y) (sym same)
