@@ -122,6 +122,10 @@ module _ (h then : Holder) (parts others : Holders) (t : TransId) (cells : then.
 abbrev pub AreNamed : List WaitingCall → Type 0
 AreNamed ws = AllByRecursion IsNamed ws
 
+-- each is a file call
+abbrev pub AreFileCalls : List WaitingCall → Type 0
+AreFileCalls ws = AllByRecursion (λ (w : WaitingCall). is_some w.counts ≡ true) ws
+
 -- none is a file call of this transaction
 abbrev pub AreOthers : TransId → List WaitingCall → Type 0
 AreOthers t ws = AllByRecursion (λ (w : WaitingCall). node.is_file_on t w ≡ false) ws

@@ -86,7 +86,7 @@ use Rattle.alp_node.proofs.NoteLemmas.{put_again}
 use Rattle.alp_node.proofs.OneServer.{none_ready_here, lone_runs}
 use Rattle.alp_node.proofs.SeatLemmas.{leaves_as}
 use Rattle.alp_node.proofs.StandingLemmas.{part_of, part_is}
-use Rattle.alp_node.proofs.WaitLemmas.{named_all, none_waiting}
+use Rattle.alp_node.proofs.WaitLemmas.{named_all}
 use Rattle.alp_node.proofs.UnderLemmas.{edits_sized}
 
 -- ---- who has no call that waits
@@ -95,8 +95,7 @@ use Rattle.alp_node.proofs.UnderLemmas.{edits_sized}
 pub waits_none : {V : Type 0} (a : Account) (held : Contents) (k : ServerState V) (client : ℕ) (t : TransId) (l : Live) (n : ℕ) (serves : Bool) → IsAs a held k → IsReady n serves k → map.get k.lives t ≡ Some l → l.client ≡ client → has_waiting client t k.waits ≡ false
     → waiting_of (state_of a).desk client t ≡ None
 waits_none a held k client t l n serves h ready live own idle =
-    idle_told a client t k.waits h.waits (named_all k.server k.epoch k.given k.drawn k.sizes k.lives k.waits ready.waits.calls)
-    (none_waiting k.server k.epoch k.given k.drawn k.sizes k.lives client t l k.waits live own idle ready.waits.calls)
+    idle_told a client t k.waits h.waits (named_all k.server k.epoch k.given k.drawn k.sizes k.lives k.waits ready.waits.calls) idle
 
 -- ---- this server's own vote
 

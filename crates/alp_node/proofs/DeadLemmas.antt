@@ -84,7 +84,7 @@ alive_still false x y same none = sym same ∙ none
 
 -- one more
 
-turned_eq : (m n : ℕ) → (m == n) ≡ (n == m)
+pub turned_eq : (m n : ℕ) → (m == n) ≡ (n == m)
 turned_eq m n = go (m == n) (n == m) refl refl
   where
     go : (x y : Bool) → (m == n) ≡ x → (n == m) ≡ y → x ≡ y

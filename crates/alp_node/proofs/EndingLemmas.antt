@@ -153,31 +153,31 @@ module _ {V : Type 0} (a : Account) (before now : ℕ) (held : Contents) (k : Se
     abbrev late_dead : ℕ → TransId → Option Cause
     late_dead d u = cond {A = Option Cause} (d == life.client && same_trans u t) (Some cause.TimedOut) (a.dead d u)
 
-    late_state : state_told a held k t m on h ready g late_fates a.sessions late_dead (state_then a held k t m on h ready g).waits k.sessions (k.dead ++ (record { client = l.client; trans = t }) ∷ []) (server_then a held k t m on h ready g).waits
+    late_state : state_told a held k t m on h ready g late_fates a.sessions late_dead (state_then a held k t m on h ready g).waits k.sessions (k.dead ++ (record { client = l.client; trans = t; cause = cause.TimedOut }) ∷ []) (server_then a held k t m on h ready g).waits
         ≡ with_timeout_given a t life (granted_behind k t)
     late_state = ap (with_granted (with_timeout a t life)) (sym (ap (granted_calls a.waits) g.woken ∙ g.calls))
 
     late_as : life.client ≡ l.client → k.is_down ≡ false → IsQuiet (with_timeout_given a t life (granted_behind k t))
-        → IsAs (with_timeout_given a t life (granted_behind k t)) held (record (let_go k t) { dead = k.dead ++ (record { client = l.client; trans = t }) ∷ [] })
+        → IsAs (with_timeout_given a t life (granted_behind k t)) held (record (let_go k t) { dead = k.dead ++ (record { client = l.client; trans = t; cause = cause.TimedOut }) ∷ [] })
     late_as its up quiet =
-        subst (λ (z : ServerState V). IsAs (with_timeout_given a t life (granted_behind k t)) held z) (sym (ap (λ (z : ServerState V). record z { dead = k.dead ++ (record { client = l.client; trans = t }) ∷ [] }) (let_go_is a held k t m on h ready g)))
-        (subst (λ (x : Account). IsAs x held (server_told a held k t m on h ready g late_fates a.sessions late_dead (state_then a held k t m on h ready g).waits k.sessions (k.dead ++ (record { client = l.client; trans = t }) ∷ []) (server_then a held k t m on h ready g).waits)) late_state
-        (gone_as a held k t m on h ready g late_fates a.sessions late_dead (state_then a held k t m on h ready g).waits k.sessions (k.dead ++ (record { client = l.client; trans = t }) ∷ []) (server_then a held k t m on h ready g).waits up
+        subst (λ (z : ServerState V). IsAs (with_timeout_given a t life (granted_behind k t)) held z) (sym (ap (λ (z : ServerState V). record z { dead = k.dead ++ (record { client = l.client; trans = t; cause = cause.TimedOut }) ∷ [] }) (let_go_is a held k t m on h ready g)))
+        (subst (λ (x : Account). IsAs x held (server_told a held k t m on h ready g late_fates a.sessions late_dead (state_then a held k t m on h ready g).waits k.sessions (k.dead ++ (record { client = l.client; trans = t; cause = cause.TimedOut }) ∷ []) (server_then a held k t m on h ready g).waits)) late_state
+        (gone_as a held k t m on h ready g late_fates a.sessions late_dead (state_then a held k t m on h ready g).waits k.sessions (k.dead ++ (record { client = l.client; trans = t; cause = cause.TimedOut }) ∷ []) (server_then a held k t m on h ready g).waits up
         (still_undrawn a.holder.server a.ids.epoch k.drawn a.fates t (fate.ended cause.TimedOut) refl h.undrawn)
         (plain_moved a.fates t (fate.ended cause.TimedOut) (ended_plain cause.TimedOut) h.plain)
         (ends_moved a.holder.server a.ids.epoch k.drawn k.decisions a.fates t (fate.ended cause.TimedOut) (ended_still cause.TimedOut) h.ends) h.places h.sessions
         (λ d u. ap (cond {A = Option Cause} (d == life.client && same_trans u t) (Some cause.TimedOut)) (h.dead d u)
-        ∙ ap (λ (n : ℕ). cond {A = Option Cause} (d == n && same_trans u t) (Some cause.TimedOut) (cause_in k.dead d u)) its ∙ dead_then k.dead l.client t d u)
+        ∙ ap (λ (n : ℕ). cond {A = Option Cause} (d == n && same_trans u t) (Some cause.TimedOut) (cause_in k.dead d u)) its ∙ dead_then k.dead l.client t cause.TimedOut d u)
         g.all.waits g.all.asked g.queue (subst IsQuiet (sym late_state) quiet)))
 
   pub timeout_stepped : (l : Live) (x : Answer) → k.is_down ≡ false → map.get k.lives t ≡ Some l → x ≡ told_answer None (act.Released t ∷ grant_acts (granted_behind k t))
-      → Stepped a before now held (record (let_go k t) { dead = k.dead ++ (record { client = l.client; trans = t }) ∷ [] }) (event.Timeout t) x
+      → Stepped a before now held (record (let_go k t) { dead = k.dead ++ (record { client = l.client; trans = t; cause = cause.TimedOut }) ∷ [] }) (event.Timeout t) x
   timeout_stepped l x up live so = go (gone a held k t m on h ready)
     where
       y : IsLive a.holder.cells k.locks.held (a.locked t) t l (a.holder.lives t)
       y = live_there a.holder.cells k.locks.held (a.locked t) t (map.get k.lives t) (a.holder.lives t) l live (h.lives t)
 
-      go : Gone a held k t → Stepped a before now held (record (let_go k t) { dead = k.dead ++ (record { client = l.client; trans = t }) ∷ [] }) (event.Timeout t) x
+      go : Gone a held k t → Stepped a before now held (record (let_go k t) { dead = k.dead ++ (record { client = l.client; trans = t; cause = cause.TimedOut }) ∷ [] }) (event.Timeout t) x
       go g =
           let sent = timeout_leads a t y.life h.quiet (h.down ∙ up) y.is (no_join a h.lone h.quiet.settled.stands t y.life y.is) (granted_behind k t)
           (subst (λ (ts : List TransId). IsWalk (with_timeout a t y.life).holder (in_turn (with_timeout a t y.life).holder a.waits) ts) (sym g.woken) g.walk) in

@@ -6,6 +6,7 @@ use Rattle.alp_base.specs.declared.ids.TransId.{TransId}
 use Rattle.alp_base.specs.declared.key.Resource.{Resource}
 use Rattle.alp_files.specs.Cells.{Cells}
 use Rattle.alp_files.specs.declared.call.Call.TheVariants as call
+use Rattle.alp_files.specs.declared.refusal.Cause.{Cause}
 use Rattle.alp_files.specs.declared.reply.Reply.{Reply}
 use Rattle.alp_files.specs.declared.reply.Reply.TheVariants as reply
 use Rattle.alp_files.specs.declared.refusal.Refusal.TheVariants as refusal
@@ -39,12 +40,12 @@ use Rattle.alp_node.proofs.EndLemmas.{buried_kept, buried_as}
 use Rattle.alp_node.proofs.FinishLemmas.{turn_session, counts_as}
 use Rattle.alp_node.proofs.KeptLemmas.{session_of, stands_timely, IsLive, live_there, stepped_so}
 use Rattle.alp_node.proofs.OneServer.{life_works}
-use Rattle.alp_node.proofs.ReadyLemmas.{refused_ready}
+use Rattle.alp_node.proofs.ReadyLemmas.{buried_told_ready}
 use Rattle.alp_node.proofs.StepLemmas.{plain_step}
 use Rattle.alp_node.proofs.TurnLemmas.{counts_on}
 
 -- whose part lives is not kept from it
-own_lives : (cells : Cells) (locks : Holders) (rs : List Resource) (client : ℕ) (t : TransId) (o : Option Live) (x : Option Life) (b : Bool) → IsAlike cells locks rs t o x → (standing_of client o b ≡ standing.Work → ⊥) → (l : Life) → x ≡ Some l → l.client ≡ client → ⊥
+own_lives : (cells : Cells) (locks : Holders) (rs : List Resource) (client : ℕ) (t : TransId) (o : Option Live) (x : Option Life) (b : Option Cause) → IsAlike cells locks rs t o x → (standing_of client o b ≡ standing.Work → ⊥) → (l : Life) → x ≡ Some l → l.client ≡ client → ⊥
 own_lives cells locks rs client t (Some m) (Some life) b alike none l is own =
     let same : Some life ≡ Some l = is in
     let its : m.client ≡ client = sym alike.client ∙ ap (λ (y : Life). y.client) (one_life life l same) ∙ own in
@@ -103,5 +104,5 @@ pub buried_step : {V : Type 0} (G : Ghosts V) (k new : ServerState V) (turn : Tu
 buried_step G k new turn t x r kept is up calm keeps pages so steps =
     let after : ServerState _ = record (buried k turn.client) { sessions = counted_in k.sessions turn r } in
     subst (λ (y : ServerState _). IsStep G k y (event.Call turn.client k.epoch turn.number (call.Join t)) (Ok x)) (sym kept)
-    (plain_step G k after turn (call.Join t) x r [] refl refl refl refl up up calm so refl (λ before now allowance. tt) (λ n h. refused_ready n (G.serves k.vault) k turn r is keeps h) steps
+    (plain_step G k after turn (call.Join t) x r [] refl refl refl refl up up calm so refl (λ before now allowance. tt) (λ n h. buried_told_ready n (G.serves k.vault) k turn r is keeps h) steps
     (counts_on k after turn is (call.Join t) r keeps.inside (le_refl k.clock) keeps.times pages refl))

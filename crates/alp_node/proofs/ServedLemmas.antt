@@ -9,7 +9,7 @@ use Rattle.alp_files.specs.declared.reply.Reply.{Reply}
 use Rattle.alp_files.specs.declared.reply.Reply.TheVariants as reply
 use Rattle.alp_files.specs.declared.refusal.Refusal.{Refusal}
 use Rattle.alp_files.specs.declared.refusal.Refusal.TheVariants as refusal
-use Rattle.alp_files.specs.declared.refusal.Cause.TheVariants as cause
+use Rattle.alp_files.specs.declared.refusal.Cause.{Cause}
 use Rattle.alp_vault.specs.Contents.{Contents}
 use Rattle.alp_base.specs.Causes.{Rose}
 use Rattle.alp_journal.specs.declared.event.Event.TheVariants as event
@@ -62,12 +62,12 @@ module _ {V : Type 0} (a : Account) (before now : ℕ) (held : Contents) (k : Se
       let no : part_refusal (state_of a) turn.client t ≡ Some refusal.UnknownTrans = refuses_so (part_of standing.Unknown) refusal.UnknownTrans (part_is a held k turn.client t h ∙ ap part_of unknown) (λ b. refl) in
       refused_stepped false refusal.UnknownTrans x h is up (λ e. cc) named refl refl (part_why refusal.UnknownTrans no) (part_grants refusal.UnknownTrans no) so
 
-  pub dead_call_stepped : (x : Answer) → IsAs a held k → IsTurn k.sessions turn → k.is_down ≡ false → file_trans c ≡ Some t → standing_of turn.client (map.get k.lives t) (cause_in k.dead turn.client t) ≡ standing.Dead
-      → x ≡ refused_answer (refusal.Aborted cause.TimedOut) []
-      → Stepped a before now held (record k { sessions = counted_in k.sessions turn (reply.Refused (refusal.Aborted cause.TimedOut)) }) (event.Call turn.client k.epoch turn.number c) x
-  dead_call_stepped x h is up named dead so =
-      let no : part_refusal (state_of a) turn.client t ≡ Some (refusal.Aborted cause.TimedOut) = refuses_so (part_of standing.Dead) (refusal.Aborted cause.TimedOut) (part_is a held k turn.client t h ∙ ap part_of dead) (λ b. refl) in
-      refused_stepped false (refusal.Aborted cause.TimedOut) x h is up (λ e. cc) named refl refl (part_why (refusal.Aborted cause.TimedOut) no) (part_grants (refusal.Aborted cause.TimedOut) no) so
+  pub dead_call_stepped : (why : Cause) (x : Answer) → IsAs a held k → IsTurn k.sessions turn → k.is_down ≡ false → file_trans c ≡ Some t → standing_of turn.client (map.get k.lives t) (cause_in k.dead turn.client t) ≡ standing.Ended why
+      → x ≡ refused_answer (refusal.Aborted why) []
+      → Stepped a before now held (record k { sessions = counted_in k.sessions turn (reply.Refused (refusal.Aborted why)) }) (event.Call turn.client k.epoch turn.number c) x
+  dead_call_stepped why x h is up named dead so =
+      let no : part_refusal (state_of a) turn.client t ≡ Some (refusal.Aborted why) = refuses_so (part_of (standing.Ended why)) (refusal.Aborted why) (part_is a held k turn.client t h ∙ ap part_of dead) (λ b. refl) in
+      refused_stepped false (refusal.Aborted why) x h is up (λ e. cc) named refl refl (part_why (refusal.Aborted why) no) (part_grants (refusal.Aborted why) no) so
 
   -- a part at work of which no call waits refuses nothing at once
   at_work : IsAs a held k → standing_of turn.client (map.get k.lives t) (cause_in k.dead turn.client t) ≡ standing.Work → waiting_of (state_of a).desk turn.client t ≡ None → part_refusal (state_of a) turn.client t ≡ None

@@ -149,6 +149,10 @@ dead_cause client (Some l) b c e = go (l.client == client) e
     go true f = cc
     go false f = cc
 
+-- and it is not at work
+pub ended_not_work : (s : Standing) {c : Cause} → s ≡ standing.Ended c → s ≡ standing.Work → ⊥
+ended_not_work s {c} e f = let wrong : standing.Ended c ≡ standing.Work = sym e ∙ f in cc
+
 -- of what is to be told of something is known
 pub dead_known : (b : Option Cause) → IsSome b → ended_standing b ≡ standing.Unknown → ⊥
 dead_known None some e = let wrong : false ≡ true = some in cc

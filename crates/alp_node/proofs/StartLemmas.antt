@@ -307,11 +307,13 @@ new_ready steps old server sizes c serves up within later last area sound = reco
   halted = λ down. (let wrong : false ≡ true = down in cc);
   sound = sound;
   taken = refl;
-  waits = record { calls = tt; apart = tt; queued = tt };
+  waits = record { calls = tt; files = tt; apart = tt; queued = tt };
   known = λ t l is. (let wrong : None ≡ Some l = sym (none_live t) ∙ is in cc);
   begun = λ t l is. (let wrong : None ≡ Some l = sym (none_live t) ∙ is in cc);
   opens = λ t l is. (let wrong : None ≡ Some l = sym (none_live t) ∙ is in cc);
   opened = λ t l is. (let wrong : None ≡ Some l = sym (none_live t) ∙ is in cc);
+  callers = λ t l is. (let wrong : None ≡ Some l = sym (none_live t) ∙ is in cc);
+  alive = λ t l is. (let wrong : None ≡ Some l = sym (none_live t) ∙ is in cc);
   places = refl;
   calls = λ client w is. (let wrong : None ≡ Some w = sym (no_session client) ∙ is in cc);
   replies = λ client w is. (let wrong : None ≡ Some w = sym (no_session client) ∙ is in cc);

@@ -1,4 +1,4 @@
-use Rattle.std.specs.Prelude.{Some, Ok}
+use Rattle.std.specs.Prelude.{None, Some, Ok}
 use Rattle.std.specs.FinMap as map
 use Rattle.std.proofs.Common.{◌≡◌, ℕ, ◌+◌, ◌<◌, ◌≤◌, [], ◌∷◌, ◌++◌, sym, ap, ◌∙◌, subst, refl, arith}
 use Rattle.alp_base.specs.declared.ids.TransId.{TransId}
@@ -29,8 +29,8 @@ use Rattle.alp_node.proofs.BehindLemmas.{same_without}
 use Rattle.alp_node.proofs.KeptLemmas.{session_of}
 use Rattle.alp_node.proofs.ReadyLemmas.{next_new, begin_ready, refused_ready}
 use Rattle.alp_node.proofs.WaitLemmas.{named_all, none_newer}
-use Rattle.alp_node.specs.Releases.{buried, with_trans}
-use Rattle.alp_node.specs.Waits.{live_calls}
+use Rattle.alp_node.specs.Releases.{cleared, with_trans}
+use Rattle.alp_node.specs.Waits.{without_dead, live_calls}
 use Rattle.alp_calls.proofs.LookLemmas.{left_same}
 use Rattle.alp_node.proofs.SeatLemmas.{left_step}
 use Rattle.alp_node.proofs.server_state.ServerState.begin.Goals as goal
@@ -50,7 +50,7 @@ returns g c =
     let serves = G.serves k.vault in
     let turn = c.args.turn.now in
     let t : TransId = record { server = k.server; epoch = k.epoch; counter = k.drawn + 1 } in
-    let l : Live = record { client = turn.client; who = turn.who; part = c.new-2.result; locks = 0 } in
+    let l : Live = record { client = turn.client; who = Some turn.who; part = c.new-2.result; locks = 0; join = None } in
     let r : Reply = reply.Begun t in
     let e = event.Call turn.client k.epoch turn.number (call.Begin c.args.seen) in
     let x = c.in_ok-answer.answer in
@@ -66,22 +66,22 @@ returns g c =
       decisions = k.decisions ++ 0 ∷ [];
       dead = without_client turn.client k.dead;
       lives = map.insert k.lives t l;
-      waits = live_calls turn.client (map.insert k.lives t l) k.waits;
+      waits = live_calls turn.client (map.insert k.lives t l) (without_dead turn.client k.dead k.waits);
       locks = entered k.locks t;
     } in
     let on : record (c.enter.new.self) { drawn = k.drawn + 1; clock = c.max-clock.result } ≡ record (with_trans k t l) { drawn = k.drawn + 1; clock = c.max-clock.result } = (λ i. record (begun i) { drawn = k.drawn + 1; clock = c.max-clock.result }) in
-    let buried_now : c.bury-2.new.self ≡ buried (record (with_trans k t l) { drawn = k.drawn + 1; clock = c.max-clock.result }) turn.client = c.bury-2.ensures ∙ ap (λ (y : ServerState _). buried y turn.client) on in
-    let counted : c.count.new.self ≡ counted_in k.sessions turn r = c.count.ensures ∙ ap (λ (y : ServerState _). counted_in y.sessions turn r) buried_now in
-    let kept : record (c.bury-2.new.self) { sessions = c.count.new.self } ≡ after = (λ i. record (buried_now i) { sessions = counted i }) in
+    let cleared_now : c.clear-2.new.self ≡ cleared (record (with_trans k t l) { drawn = k.drawn + 1; clock = c.max-clock.result }) turn.client = c.clear-2.ensures ∙ ap (λ (y : ServerState _). cleared y turn.client) on in
+    let counted : c.count.new.self ≡ counted_in k.sessions turn r = c.count.ensures ∙ ap (λ (y : ServerState _). counted_in y.sessions turn r) cleared_now in
+    let kept : record (c.clear-2.new.self) { sessions = c.count.new.self } ≡ after = (λ i. record (cleared_now i) { sessions = counted i }) in
     let named : AreNamed k.waits = named_all k.server k.epoch k.given k.drawn k.sizes k.lives k.waits ready.waits.calls in
     let away : AreOthers t k.waits = none_newer k.server k.epoch k.given k.drawn k.sizes k.lives t k.waits (omega arith) ready.waits.calls in
     subst (λ (y : ServerState _). IsStep G k y e (Ok x)) (sym kept)
     (left_step G k after refl refl refl (left_same G k.vault) e x c.requires.up
     (λ told a h. subst (λ (n : ℕ). Stepped a faults faults held (record after { clock = n }) e x) (sym c.max-clock.ensures)
     (begin_stepped a held k turn.client turn.number (session_of turn c.requires.turn) c.args.seen c.new-2.result faults faults x (entered k.locks t) h c.requires.turn.client c.requires.up c.requires.turn.session c.requires.turn.number ready.raised few new
-    (λ u q. ap (λ y. map.get y q) (entering-keeps-held k.locks t u)) c.new-2.ensures.own c.new-2.ensures.intents c.new-2.ensures.counts ready.decisions.all named away refl (entering-keeps-held k.locks t) is))
+    (λ u q. ap (λ y. map.get y q) (entering-keeps-held k.locks t u)) c.new-2.ensures.own c.new-2.ensures.intents c.new-2.ensures.counts ready.decisions.all named ready.waits.files away refl (entering-keeps-held k.locks t) is))
     (reply_given k.server faults faults (G.allowance k.vault) k.is_down r (act.Drawn t ∷ []) x is (counts_none k.server faults faults k.is_down (Some r) refl refl c.requires.up) c.requires.up tt)
-    (λ n h. begin_ready n serves k turn t l c.max-clock.result c.requires.turn refl c.new-2.ensures.own (new_within k.sizes turn.client turn.who c.new-2.result c.new-2.ensures.intents c.new-2.ensures.counts h.sized) few (omega (arith, c.max-clock.ensures)) (omega (arith, c.max-clock.ensures, h.clock, c.requires.time)) h)
+    (λ n h. begin_ready n serves k turn t l c.max-clock.result c.requires.turn refl refl refl c.new-2.ensures.own (new_within k.sizes turn.client (Some turn.who) c.new-2.result c.new-2.ensures.intents c.new-2.ensures.counts h.sized) few (omega (arith, c.max-clock.ensures)) (omega (arith, c.max-clock.ensures, h.clock, c.requires.time)) h)
     (λ on. subst (λ (y : Answer). HasTurned (Some order.Next) k after e y.kept) (sym is) (counts_on k after turn c.requires.turn (call.Begin c.args.seen) r tt (omega (arith, c.max-clock.ensures)) tt tt refl)))
 
 pub returns-then-len-ge-MOST_TRANSACTIONS : goal.returns-then-len-ge-MOST_TRANSACTIONS
@@ -92,14 +92,14 @@ returns-then-len-ge-MOST_TRANSACTIONS g c =
     let many : 64 ≤ map.len k.lives = omega (arith, c.if-len-ge-MOST_TRANSACTIONS.true, c.len.ensures) in
     let e = event.Call turn.client k.epoch turn.number (call.Begin c.args.seen) in
     let f = refusal.TooMany what.Transactions 64 in
-    let kept : c.refuse.new.self ≡ record (buried k turn.client) { sessions = counted_in k.sessions turn (reply.Refused f) } =
-    c.refuse.ensures.kept ∙ ap (λ (y : ServerState _). record y { sessions = counted_in y.sessions turn (reply.Refused f) }) c.bury.ensures in
+    let kept : c.refuse.new.self ≡ record (cleared k turn.client) { sessions = counted_in k.sessions turn (reply.Refused f) } =
+    c.refuse.ensures.kept ∙ ap (λ (y : ServerState _). record y { sessions = counted_in y.sessions turn (reply.Refused f) }) c.clear.ensures in
     plain_step G k c.refuse.new.self turn (call.Begin c.args.seen) c.refuse.result (reply.Refused f) [] (ap (λ (y : ServerState _). y.vault) kept) (ap (λ (y : ServerState _). y.server) kept) (ap (λ (y : ServerState _). y.sizes) kept)
     (ap (λ (y : ServerState _). y.epoch) kept) c.requires.up (ap (λ (y : ServerState _). y.is_down) kept ∙ c.requires.up) refl c.refuse.ensures.answer refl (λ m n b. tt)
     (λ n h. subst (λ (y : ServerState _). IsReady (n + 1) (G.serves k.vault) y) (sym kept) (refused_ready n (G.serves k.vault) k turn (reply.Refused f) c.requires.turn (record { inside = tt; times = tt }) h))
     (λ told a h. subst (λ (y : ServerState _). Stepped a (G.faults k.vault) (G.faults k.vault) (G.held k.vault) y e c.refuse.result) (sym kept)
     (begin_refused_stepped a (G.held k.vault) k turn.client turn.number (session_of turn c.requires.turn) c.args.seen (G.faults k.vault) (G.faults k.vault) c.refuse.result h c.requires.turn.client c.requires.up c.requires.turn.session c.requires.turn.number many
-    (named_all k.server k.epoch k.given k.drawn k.sizes k.lives k.waits c.requires.ready.2.waits.calls) c.refuse.ensures.answer))
+    (named_all k.server k.epoch k.given k.drawn k.sizes k.lives k.waits c.requires.ready.2.waits.calls) c.requires.ready.2.waits.files c.refuse.ensures.answer))
     (counts_refused k c.refuse.new.self turn c.requires.turn (call.Begin c.args.seen) f tt (ap (λ (y : ServerState _). y.clock) kept) (ap (λ (y : ServerState _). y.sessions) kept))
 
 -- there is no room for it

@@ -10,7 +10,7 @@ use Rattle.alp_node.proofs.server_state.ServerState.perform.Goals as goal
 
 pub swap-requires-clause-there : goal.swap-requires-clause-there
 swap-requires-clause-there g c none =
-    let blank : Live = record { client = c.in-Some.found.now.client; who = c.in-Some.found.now.who; part = c.new.result; locks = c.in-Some.found.now.locks } in
+    let blank : Live = c.blank-blank.result in
     let wrong : None ≡ Some blank = sym none ∙ ap (λ (m : LiveMap). map.get m c.args.trans) c.swap-live.ensures.after ∙ put_there c.args.self.now.lives c.args.trans blank in
     cc
 
@@ -19,13 +19,13 @@ perform-given-requires-clause-ready g c = c.requires.ready c.swap-live.result c.
 
 pub swap-requires-clause-few : goal.swap-requires-clause-few
 swap-requires-clause-few g c =
-    let blank : Live = record { client = c.in-Some.found.now.client; who = c.in-Some.found.now.who; part = c.new.result; locks = c.in-Some.found.now.locks } in
-    subst (λ (m : LiveMap). AreFewTotals (totals_of m)) (sym c.swap-live.ensures.after) (blank_few c.args.self.now.lives c.args.trans c.swap-live.result blank c.swap-live.ensures.before c.new.ensures.counts c.requires.few)
+    let blank : Live = c.blank-blank.result in
+    subst (λ (m : LiveMap). AreFewTotals (totals_of m)) (sym c.swap-live.ensures.after) (blank_few c.args.self.now.lives c.args.trans c.swap-live.result blank c.swap-live.ensures.before c.blank-blank.ensures.idle c.requires.few)
 
 pub returns-clause-performed : goal.returns-clause-performed
 returns-clause-performed g c l there =
     let k = c.args.self.now in
-    let blank : Live = record { client = c.in-Some.found.now.client; who = c.in-Some.found.now.who; part = c.new.result; locks = c.in-Some.found.now.locks } in
+    let blank : Live = c.blank-blank.result in
     performed_so (g.V.Vault.tells k.vault) (g.V.Vault.held k.vault).cells k c.perform-given.new.vault c.args.trans l c.swap-live.result blank c.perform-given.new.part c.args.call.now c.args.locks c.room-room.result c.locks_given.result
     c.args.acts c.perform-given.result c.with_answer-result.result c.swap-live.new.self c.swap.new.self c.next_file-id.result c.next_file-id.ensures c.room-room.ensures c.perform-given.ensures.part c.locks_given.ensures there
     c.swap-live.ensures.before c.swap-live.ensures.after c.swap.ensures.after c.perform-given.ensures.answered c.perform-given.ensures.err c.with_answer-result.ensures

@@ -1,6 +1,7 @@
 use Rattle.std.specs.Prelude.{None}
 use Rattle.std.proofs.Common.{◌≡◌, ◌+◌, List, [], ◌∷◌, ◌++◌, refl, sym, ap, ◌∙◌, subst}
 use Rattle.std.specs.Option.{option_copied}
+use Rattle.alp_files.specs.declared.refusal.Cause.TheVariants as cause
 use Rattle.alp_journal.specs.declared.act.Act.{Act}
 use Rattle.alp_journal.specs.declared.act.Act.TheVariants as act
 use Rattle.alp_journal.specs.declared.event.Event.TheVariants as event
@@ -11,8 +12,8 @@ use Rattle.alp_node.specs.declared.dead.DeadPart.{DeadPart}
 use Rattle.alp_node.specs.declared.server_state.ServerState.{ServerState}
 use Rattle.alp_node.proofs.EndingLemmas.{timeout_stepped, let_go_aside}
 use Rattle.alp_node.proofs.FinishLemmas.{idle_stepped}
-use Rattle.alp_node.proofs.ReadyLemmas.{buried_ready, stepped_ready}
-use Rattle.alp_node.proofs.ReleaseLemmas.{let_go_of, let_go_ready, grants_go_on, grants_caused}
+use Rattle.alp_node.proofs.ReadyLemmas.{stepped_ready}
+use Rattle.alp_node.proofs.ReleaseLemmas.{let_go_of, late_ready, grants_go_on, grants_caused}
 use Rattle.alp_node.proofs.StepLemmas.{silent_step}
 use Rattle.alp_node.proofs.server_state.ServerState.time_out.Goals as goal
 
@@ -34,7 +35,7 @@ returns g c =
     let faults = G.faults k.vault in
     let t = c.args.trans in
     let l = c.in-Some.live.now in
-    let dead : List DeadPart = k.dead ++ (record { client = l.client; trans = t }) ∷ [] in
+    let dead : List DeadPart = k.dead ++ (record { client = l.client; trans = t; cause = cause.TimedOut }) ∷ [] in
     let after : ServerState g.row.V.Denot = record (let_go k t) { dead = dead } in
     let same : c.release.new.self ≡ after = c.release.ensures.after ∙ ap (λ (ds : List DeadPart). let_go (record k { dead = ds }) t) c.in_ok-add.ensures.ok ∙ let_go_aside k t dead in
     let so : c.silence-2.result ≡ told_answer None (act.Released t ∷ grant_acts (granted_behind k t)) =
@@ -42,7 +43,7 @@ returns g c =
     silent_step G k c.release.new.self (event.Timeout t) c.silence-2.result (act.Released t ∷ grant_acts (granted_behind k t)) (ap (λ (y : ServerState _). y.vault) same ∙ ap (λ (y : ServerState _). y.vault) (let_go_of k t)) (ap (λ (y : ServerState _). y.server) same ∙ ap (λ (y : ServerState _). y.server) (let_go_of k t))
     (ap (λ (y : ServerState _). y.sizes) same ∙ ap (λ (y : ServerState _). y.sizes) (let_go_of k t)) (ap (λ (y : ServerState _). y.epoch) same ∙ ap (λ (y : ServerState _). y.epoch) (let_go_of k t)) c.requires.up
     (ap (λ (y : ServerState _). y.is_down) same ∙ ap (λ (y : ServerState _). y.is_down) (let_go_of k t) ∙ c.requires.up) so (grants_go_on (granted_behind k t)) (λ m n b. grants_caused m n b (granted_behind k t))
-    (λ n h. subst (λ (y : ServerState _). IsReady (n + 1) (G.serves k.vault) y) (sym same) (stepped_ready n (G.serves k.vault) after (buried_ready n (G.serves k.vault) (let_go k t) dead (let_go_ready n (G.serves k.vault) k t h))))
+    (λ n h. subst (λ (y : ServerState _). IsReady (n + 1) (G.serves k.vault) y) (sym same) (stepped_ready n (G.serves k.vault) after (late_ready n (G.serves k.vault) k t l.client cause.TimedOut h)))
     (λ a h. subst (λ (y : ServerState _). Stepped a faults faults (G.held k.vault) y (event.Timeout t) c.silence-2.result) (sym same)
     (timeout_stepped a faults faults (G.held k.vault) k t c.requires.ready.0 (G.serves k.vault) h c.requires.ready.2 l c.silence-2.result c.requires.up (sym c.in-Some.ensures) so))
     (ap (λ (y : ServerState _). y.clock) same ∙ ap (λ (y : ServerState _). y.clock) (let_go_of k t)) (ap (λ (y : ServerState _). y.sessions) same ∙ ap (λ (y : ServerState _). y.sessions) (let_go_of k t))
