@@ -31,7 +31,7 @@ use Rattle.alp_node.specs.Covers.{AreHeld, AreSizedEdits}
 use Rattle.alp_node.specs.Releases.{lock_if, granted_if, granted_one, granted_all}
 use Rattle.alp_node.specs.ServerState.{IsCaller, IsAlike, IsAskedAs, IsWaitingAs}
 use Rattle.alp_node.specs.Totals.{HaveRoom, totals_of}
-use Rattle.alp_node.specs.Waits.{waiting, waiting_calls, is_file_on, asked_in, locks_in, grant_one, grant_of, IsNamed}
+use Rattle.alp_node.specs.Waits.{waiting, waiting_calls, is_file_on, count_asked, locks_in, grant_one, grant_of, IsNamed}
 use Rattle.alp_node.specs.declared.lives.Live.{Live}
 use Rattle.alp_node.specs.declared.lock_counts.LockCounts.{LockCounts}
 use Rattle.alp_node.specs.declared.server_state.ServerState.{ServerState}
@@ -235,7 +235,7 @@ module _ {V : Type 0} (P : TransId → Part → List Edit → Type 0) (cells : C
 
     pub granted_is : granted_one k t ≡ record k { waits = grant_of t k.waits; lives = map.insert k.lives t live_then }
     granted_is =
-        ap (λ (o : Option WaitingCall). granted_if k t (locks_in o)) x.found ∙ ap (λ (z : Option LockCounts). granted_if k t (asked_in z)) x.counted
+        ap (λ (o : Option WaitingCall). granted_if k t (locks_in o)) x.found ∙ ap (λ (z : Option LockCounts). granted_if k t (count_asked z)) x.counted
         ∙ ap (λ (o : Option Live). record k { waits = grant_of t k.waits; lives = lock_if k.lives t x.counts.asked o }) x.there
 
     under : (own : Own) → OpensRead (Reads life.held) own.opens → IsUnder (held_for a.holder life c) own life.edits

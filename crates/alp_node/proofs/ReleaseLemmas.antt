@@ -28,7 +28,7 @@ use Rattle.alp_node.specs.ServerState.{IsReady, IsNumbered}
 use Rattle.alp_node.specs.Steps.{IsTurn, counted_in, ended}
 use Rattle.alp_node.specs.Totals.{LiveMap}
 use Rattle.alp_node.specs.Turns.{IsKeepable}
-use Rattle.alp_node.specs.Waits.{is_file_on, asked_in, locks_in, locks_of, grant_of, without_calls_of, IsWithinLimits, IsFileCall, IsWaitingCall, IsOfCalls}
+use Rattle.alp_node.specs.Waits.{is_file_on, count_asked, locks_in, locks_of, grant_of, without_calls_of, IsWithinLimits, IsFileCall, IsWaitingCall, IsOfCalls}
 use Rattle.alp_node.specs.declared.lives.Live.{Live}
 use Rattle.alp_node.specs.declared.server_state.ServerState.{ServerState}
 use Rattle.alp_node.specs.declared.sessions.Turn.{Turn}
@@ -44,7 +44,7 @@ use Rattle.alp_node.proofs.WithinLemmas.{log_most}
 
 -- the call that is granted is one of those that wait
 abbrev pub IsGrant : List WaitingCall → TransId → ℕ → (WaitingCall → Type 0) → Type 0
-IsGrant ws t n P = (w : WaitingCall) × P w × (is_file_on t w ≡ true) × (asked_in w.counts ≡ Some n)
+IsGrant ws t n P = (w : WaitingCall) × P w × (is_file_on t w ≡ true) × (count_asked w.counts ≡ Some n)
 
 pub grant_found : (P : WaitingCall → Type 0) (ws : List WaitingCall) (t : TransId) (n : ℕ) → locks_of t ws ≡ Some n → AllByRecursion P ws → IsGrant ws t n P
 grant_found P ws t n is h = go (find (is_file_on t) ws) refl is
@@ -117,7 +117,7 @@ module _ {V : Type 0} (n : ℕ) (serves : Bool) (k : ServerState V) (t : TransId
       fits l there =
           let g = grant_found (IsWaitingCall k.server k.epoch k.given k.drawn k.sizes k.lives) k.waits t m found h.waits.calls in
           let z = counts_there g.0.counts (file_counts t g.0 g.2) in
-          let asked : z.0.asked ≡ m = same_count z.0.asked m (sym (ap asked_in z.1) ∙ g.3) in
+          let asked : z.0.asked ≡ m = same_count z.0.asked m (sym (ap count_asked z.1) ∙ g.3) in
           let limits : IsWithinLimits k.server k.epoch k.given k.sizes g.0 z.0 l = (g.1.file z.0 z.1).limits l (ap (map.get k.lives) (file_at t g.0 g.2) ∙ there) in
           record {
             part = (h.within t l there).part;

@@ -49,13 +49,13 @@ abbrev pub call_at : ℕ → ℕ → List WaitingCall → Option WaitingCall
 call_at client number ws = find (is_at client number) ws
 
 -- how many resources the part has locked once the call has its locks, where it is a file call
-abbrev pub asked_in : Option LockCounts → Option ℕ
-asked_in None = None
-asked_in (Some n) = Some n.asked
+abbrev pub count_asked : Option LockCounts → Option ℕ
+count_asked None = None
+count_asked (Some n) = Some n.asked
 
 abbrev pub locks_in : Option WaitingCall → Option ℕ
 locks_in None = None
-locks_in (Some w) = asked_in w.counts
+locks_in (Some w) = count_asked w.counts
 
 abbrev pub locks_of : TransId → List WaitingCall → Option ℕ
 locks_of t ws = locks_in (find (is_file_on t) ws)

@@ -2,7 +2,7 @@
 ghost use Rattle.std.specs.Prelude.{◌≡◌, ◌++◌, ◌∷◌, [], IfOk, OnOk, OnErr, List};
 ghost use Rattle.std.specs.Option.{option_copied as copied};
 ghost use Rattle.std.specs.FinMap as map;
-ghost use Rattle.alp_node.specs.Waits.{is_of as is_of_said, is_at as is_at_said, is_file_on, has_waiting, has_file_on, call_at, asked_in, locks_of as locks_of_said, grant_of, without_calls_of, without_call_at, without_dead, has_part as has_part_said, live_calls};
+ghost use Rattle.alp_node.specs.Waits.{is_of as is_of_said, is_at as is_at_said, is_file_on, has_waiting, has_file_on, call_at, count_asked, locks_of as locks_of_said, grant_of, without_calls_of, without_call_at, without_dead, has_part as has_part_said, live_calls};
 ghost use Rattle.alp_node.specs.declared.waits.WaitingCall.{WaitingCall as ACall};
 
 use crate::dead::{Dead, is_same};
@@ -152,7 +152,7 @@ impl Waits {
 impl WaitingCall {
     // How many resources the part has locked once it has the locks of the call, where it is a file call.
     fn asked(&self) -> Option<u32>
-        ensures { result ≡ asked_in self.now.counts }
+        ensures { result ≡ count_asked self.now.counts }
     {
         match &self.counts {
             Some(counts) => Some(counts.asked),
