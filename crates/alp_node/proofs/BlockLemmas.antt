@@ -201,6 +201,7 @@ module _ {V : Type 0} (k : ServerState V) (turn : Turn) (t : TransId) (l : Live)
       opened = h.opened;
       callers = h.callers;
       alive = h.alive;
+      causes = h.causes;
       places = h.places;
       calls = h.calls;
       replies = h.replies;

@@ -238,8 +238,8 @@ module _ {V : Type 0} (a : Account) (before now : ℕ) (held : Contents) (k : Se
     -- ---- the counts refuse it
 
     module _ (f : Refusal) (full : refused ≡ Some f) where
-      counted : IsCountRefusal f
-      counted = refused_is room l.part.counts given.after f full
+      refuses : IsCountRefusal f
+      refuses = refused_is room l.part.counts given.after f full
 
       as_refused : r ≡ reply.Refused f
       as_refused = given.said ∙ ap (unless_counts g) full
@@ -257,7 +257,7 @@ module _ {V : Type 0} (a : Account) (before now : ℕ) (held : Contents) (k : Se
       refused_stepped x then same so =
           let leads : Leads false a (call_entry a turn.client turn.number told (call.Collect n) (reply.Refused f) []) (record (counted_as a turn.client turn.number told (reply.Refused f)) { waits = uncollected a turn.client turn.number told n }) =
           collect_refused_leads a turn.client turn.number told n (waiting w) w.trans life false f h.quiet (h.down ∙ up) (turn_session a held k turn h is) is.number (found_here a held k turn.client n w m on ready found h) named granted live
-          counted.now (count_none_done a w.trans w.call f counted) (inr (subst (IsThreads (state_of a) w.trans life w.call) as_refused threads)) in
+          refuses.now (count_none_done a w.trans w.call f refuses) (inr (subst (IsThreads (state_of a) w.trans life w.call) as_refused threads)) in
           subst (λ (y : Reply). Stepped a before now then (left y) (event.Call turn.client k.epoch turn.number (call.Collect n)) x) (sym as_refused)
           (stepped_so a before now held then k (left (reply.Refused f)) turn.client turn.number told (call.Collect n) false (reply.Refused f) []
           (record (counted_as a turn.client turn.number told (reply.Refused f)) { waits = uncollected a turn.client turn.number told n }) x (so ∙ ap (λ (y : Reply). told_answer (Some y) []) as_refused) h leads (refused_as then same) (λ e. cc)

@@ -1,6 +1,7 @@
 -- who is remembered as dead, and why
+use Rattle.std.specs.List.{AllByRecursion}
 use Rattle.std.specs.Prelude.{cond, Bool, true, false, ◌==◌, ◌&&◌, not, filter, Option, None, Some}
-use Rattle.std.proofs.Common.{◌≡◌, ℕ, List, [], ◌∷◌, ◌++◌, refl, sym, ◌∙◌, ap, eq-eqb}
+use Rattle.std.proofs.Common.{◌≡◌, ℕ, List, [], ◌∷◌, ◌++◌, refl, sym, ◌∙◌, ap, subst, eq-eqb}
 use Rattle.std.proofs.lemmas.Bool.{eqb-true}
 use Rattle.alp_base.specs.declared.ids.TransId.{TransId}
 use Rattle.alp_files.specs.declared.refusal.Cause.{Cause}
@@ -19,28 +20,30 @@ module _ (gone : DeadPart → Bool) (d : ℕ) (u : TransId) where
   -- of those that all go none is left
   pub all_gone : ((x : DeadPart) → is_part d u x ≡ true → gone x ≡ true) → (ds : List DeadPart) (c : Option Cause) → cause_from c (filter (λ x. not (gone x)) ds) d u ≡ c
   all_gone each [] c = refl
-  all_gone each (x ∷ xs) c = go (gone x) refl
+  all_gone each (x ∷ xs) c = go (gone x) refl (λ y. all_gone each xs y)
     where
       here : gone x ≡ false → (b : Bool) → is_part d u x ≡ b → cond {A = Option Cause} b (Some x.cause) c ≡ c
       here e false f = refl
       here e true f = let wrong : false ≡ true = sym e ∙ each x f in cc
 
-      go : (b : Bool) → gone x ≡ b → cause_from c (cond {A = List DeadPart} (not b) (x ∷ filter (λ y. not (gone y)) xs) (filter (λ y. not (gone y)) xs)) d u ≡ c
-      go true e = all_gone each xs c
-      go false e = all_gone each xs (then_cause x c) ∙ here e (is_part d u x) refl
+      go : (b : Bool) → gone x ≡ b → ((y : Option Cause) → cause_from y (filter (λ z. not (gone z)) xs) d u ≡ y)
+          → cause_from c (cond {A = List DeadPart} (not b) (x ∷ filter (λ y. not (gone y)) xs) (filter (λ y. not (gone y)) xs)) d u ≡ c
+      go true e rest = rest c
+      go false e rest = rest (then_cause x c) ∙ here e (is_part d u x) refl
 
   -- of those of which none goes all are left
   pub none_gone : ((x : DeadPart) → is_part d u x ≡ true → gone x ≡ false) → (ds : List DeadPart) (c : Option Cause) → cause_from c (filter (λ x. not (gone x)) ds) d u ≡ cause_from c ds d u
   none_gone each [] c = refl
-  none_gone each (x ∷ xs) c = go (gone x) refl
+  none_gone each (x ∷ xs) c = go (gone x) refl (λ y. none_gone each xs y)
     where
       here : gone x ≡ true → (b : Bool) → is_part d u x ≡ b → c ≡ cond {A = Option Cause} b (Some x.cause) c
       here e false f = refl
       here e true f = let wrong : true ≡ false = sym e ∙ each x f in cc
 
-      go : (b : Bool) → gone x ≡ b → cause_from c (cond {A = List DeadPart} (not b) (x ∷ filter (λ y. not (gone y)) xs) (filter (λ y. not (gone y)) xs)) d u ≡ cause_from (then_cause x c) xs d u
-      go false e = none_gone each xs (then_cause x c)
-      go true e = none_gone each xs c ∙ ap (λ (y : Option Cause). cause_from y xs d u) (here e (is_part d u x) refl)
+      go : (b : Bool) → gone x ≡ b → ((y : Option Cause) → cause_from y (filter (λ z. not (gone z)) xs) d u ≡ cause_from y xs d u)
+          → cause_from c (cond {A = List DeadPart} (not b) (x ∷ filter (λ y. not (gone y)) xs) (filter (λ y. not (gone y)) xs)) d u ≡ cause_from (then_cause x c) xs d u
+      go false e rest = rest (then_cause x c)
+      go true e rest = rest c ∙ ap (λ (y : Option Cause). cause_from y xs d u) (here e (is_part d u x) refl)
 
 both : (x y : Bool) → x && y ≡ true → (x ≡ true) × (y ≡ true)
 both true y h = (refl, h)
@@ -102,3 +105,17 @@ pub dead_then : (ds : List DeadPart) (client : ℕ) (t : TransId) (c : Cause) (d
 dead_then ds client t c d u =
     (λ i. cond {A = Option Cause} (turned_eq d client i && turned u t i) (Some c) (cause_in ds d u))
     ∙ sym (more_dead ds None (record { client = client; trans = t; cause = c }) d u)
+
+-- ---- what holds of each
+
+same_cause : (a b : Cause) → Some a ≡ Some b → a ≡ b
+same_cause a b e = cc
+
+pub each_cause : (P : Cause → Type 0) (ds : List DeadPart) (c : Option Cause) (client : ℕ) (t : TransId) (x : Cause) → AllByRecursion (λ (d : DeadPart). P d.cause) ds → ((y : Cause) → c ≡ Some y → P y)
+    → cause_from c ds client t ≡ Some x → P x
+each_cause P [] c client t x all first is = first x is
+each_cause P (d ∷ ds) c client t x all first is = each_cause P ds (cond {A = Option Cause} (is_part client t d) (Some d.cause) c) client t x all.1 (go (is_part client t d)) is
+  where
+    go : (b : Bool) (y : Cause) → cond {A = Option Cause} b (Some d.cause) c ≡ Some y → P y
+    go true y e = subst P (same_cause d.cause y e) all.0
+    go false y e = first y e

@@ -141,6 +141,7 @@ eased_ready n serves k blocks ts h = record {
   opened = λ t l is. each_eased blocks (λ x. list_all (λ o. is_given k.server k.epoch k.given o.file) x.part.opens.items ≡ true) (λ x so. so) k.lives ts t (h.opened t) l is;
   callers = λ t l is. each_eased blocks (λ x. is_some x.who ≡ true) (λ x so. so) k.lives ts t (h.callers t) l is;
   alive = λ t l is. each_eased blocks (λ x. cause_in k.dead x.client t ≡ None) (λ x so. so) k.lives ts t (h.alive t) l is;
+  causes = h.causes;
   places = h.places;
   calls = h.calls;
   replies = h.replies;

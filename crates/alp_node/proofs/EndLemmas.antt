@@ -262,9 +262,9 @@ module _ {V : Type 0} (a : Account) (held : Contents) (k : ServerState V) (clien
   live_stays : (lives : LiveMap) → ((t : TransId) (l : Live) → map.get k.lives t ≡ Some l → map.get lives t ≡ Some l) → (v : WaitingCall) → IsPartHere v → is_some v.counts ≡ true → outlives client k.dead v ≡ true → stays client lives v ≡ true
   live_stays lives kept v here some out = by (v.client == client) refl out
     where
-      its_part : (life : Life) (o : Option Live) (x : Option Life) → x ≡ Some life → IsAlike a.holder.cells k.locks.held (a.locked v.trans) v.trans o x → (l : Live) × (o ≡ Some l) × (life.client ≡ l.client)
+      its_part : (life : Life) (o : Option Live) (x : Option Life) → x ≡ Some life → IsAlike a.holder.cells k.locks.held (a.locked v.trans) v.trans o x → (l : Live) × (o ≡ Some l) × (l.client ≡ life.client)
       its_part life None None is alike = let wrong : None ≡ Some life = is in cc
-      its_part life (Some l) (Some y) is alike = (l, refl, ap (λ (z : Life). z.client) (sym (same-some y life is)) ∙ alike.client)
+      its_part life (Some l) (Some y) is alike = (l, refl, sym alike.client ∙ ap (λ (z : Life). z.client) (same-some y life is))
       its_part life None (Some y) is alike = absurd alike
       its_part life (Some l) None is alike = absurd alike
 
@@ -275,7 +275,7 @@ module _ {V : Type 0} (a : Account) (held : Contents) (k : ServerState V) (clien
       live : (x : Option Life) → a.holder.lives v.trans ≡ x → IsPartOf v.client x (a.dead v.client v.trans) → v.client ≡ client → is_none (cause_in k.dead client v.trans) ≡ true → has_part client (map.get lives v.trans) ≡ true
       live (Some life) at p own none =
           let part = its_part life (map.get k.lives v.trans) (a.holder.lives v.trans) at (h.lives v.trans) in
-          ap (has_part client) (kept v.trans part.0 part.1) ∙ eq-eqb part.0.client client (sym part.2 ∙ sym p ∙ own)
+          ap (has_part client) (kept v.trans part.0 part.1) ∙ eq-eqb part.0.client client (part.2 ∙ sym p ∙ own)
       live None at p own none = absurd (told (cause_in k.dead client v.trans) none (subst (λ (x : Option Cause). IsSome x) (ap (λ (n : ℕ). a.dead n v.trans) own ∙ h.dead client v.trans) p))
 
       by : (b : Bool) → (v.client == client) ≡ b → (not b || is_none (cause_in k.dead client v.trans)) ≡ true → (not b || has_part client (map.get lives v.trans)) ≡ true

@@ -189,6 +189,7 @@ granted_ready m serves k w count more low prepared free idle others h = record {
   opened = λ u l is. opens_later k.server k.epoch k.given count more l.part.opens.items (h.opened u l is);
   callers = h.callers;
   alive = h.alive;
+  causes = h.causes;
   places = h.places;
   calls = h.calls;
   replies = h.replies;

@@ -93,6 +93,7 @@ module _ {V : Type 0} (n : ℕ) (before serves : Bool) (k : ServerState V) (t : 
     opened = λ u x is. opened_so u (same_trans u t) x (sym (get_put k.lives t (record l { part = p; locks = b }) u) ∙ is);
     callers = λ u x is. callers_so u (same_trans u t) x (sym (get_put k.lives t (record l { part = p; locks = b }) u) ∙ is);
     alive = λ u x is. alive_so u (same_trans u t) refl x (sym (get_put k.lives t (record l { part = p; locks = b }) u) ∙ is);
+    causes = h.causes;
     places = h.places;
     calls = λ c w is. (let before_now : w.last ≤ n = h.calls c w is in omega arith);
     replies = h.replies;

@@ -29,7 +29,7 @@ use Rattle.alp_node.specs.Dead.{cause_in, without_client}
 use Rattle.alp_node.specs.Rooms.{IsWithin}
 use Rattle.alp_node.specs.Sessions.{session_at, with_session}
 use Rattle.alp_node.specs.Decisions.{with_time}
-use Rattle.alp_node.specs.ServerState.{IsReady, IsNumbered}
+use Rattle.alp_node.specs.ServerState.{IsReady, IsNumbered, IsCalm}
 use Rattle.alp_node.specs.Releases.{buried, cleared}
 use Rattle.alp_node.specs.Steps.{IsTurn, counted_in}
 use Rattle.alp_node.specs.Turns.{TellsUpTo, IsKeepable}
@@ -134,6 +134,7 @@ module _ {V : Type 0} (n : ℕ) (serves : Bool) (k : ServerState V) where
     opened = h.opened;
     callers = h.callers;
     alive = h.alive;
+    causes = h.causes;
     places = places_set k.sessions client (record { who = name; last = 1; reply = reply.Welcome k.epoch }) h.places;
     calls = calls_set k.sessions client (record { who = name; last = 1; reply = reply.Welcome k.epoch }) n h.places le h.calls (omega arith);
     replies = replies_set k.sessions client (record { who = name; last = 1; reply = reply.Welcome k.epoch }) k.clock k.clock h.places le (le_refl k.clock) h.replies (record { inside = tt; times = tt });
@@ -164,6 +165,7 @@ module _ {V : Type 0} (n : ℕ) (serves : Bool) (k : ServerState V) where
     opened = h.opened;
     callers = h.callers;
     alive = h.alive;
+    causes = h.causes;
     places = places_set k.sessions turn.client (record { who = turn.who; last = turn.number; reply = r }) h.places;
     calls = calls_set k.sessions turn.client (record { who = turn.who; last = turn.number; reply = r }) n h.places is.client h.calls (turn_within k.sessions turn n is h.calls);
     replies = replies_set k.sessions turn.client (record { who = turn.who; last = turn.number; reply = r }) k.clock k.clock h.places is.client (le_refl k.clock) h.replies keeps;
@@ -194,6 +196,7 @@ module _ {V : Type 0} (n : ℕ) (serves : Bool) (k : ServerState V) where
     opened = h.opened;
     callers = h.callers;
     alive = h.alive;
+    causes = h.causes;
     places = h.places;
     calls = λ c w is. (let low : w.last ≤ n = h.calls c w is in omega arith);
     replies = h.replies;
@@ -236,6 +239,7 @@ module _ {V : Type 0} (n : ℕ) (serves : Bool) (k : ServerState V) where
     opened = λ u l is. kept u (same_trans u t) l (λ there. h.opened u l there) (sym (get_gone k.lives t u) ∙ is);
     callers = λ u l is. kept u (same_trans u t) l (λ there. h.callers u l there) (sym (get_gone k.lives t u) ∙ is);
     alive = λ u l is. kept u (same_trans u t) l (λ there. h.alive u l there) (sym (get_gone k.lives t u) ∙ is);
+    causes = h.causes;
     places = h.places;
     calls = h.calls;
     replies = h.replies;
@@ -306,6 +310,7 @@ module _ {V : Type 0} (n : ℕ) (serves : Bool) (k : ServerState V) where
       opened = λ u x there. opened_so u (same_trans u t) x (sym (get_put k.lives t l u) ∙ there);
       callers = λ u x there. callers_so u (same_trans u t) x (sym (get_put k.lives t l u) ∙ there);
       alive = λ u x there. alive_so u (same_trans u t) x (sym (get_put k.lives t l u) ∙ there);
+      causes = each-filter (IsCalm k.server) (λ (d : DeadPart). not (d.client == turn.client)) k.dead h.causes;
       places = places_set k.sessions turn.client (record { who = turn.who; last = turn.number; reply = reply.Begun t }) h.places;
       calls = calls_set k.sessions turn.client (record { who = turn.who; last = turn.number; reply = reply.Begun t }) n h.places is.client h.calls (turn_within k.sessions turn n is h.calls);
       replies = replies_set k.sessions turn.client (record { who = turn.who; last = turn.number; reply = reply.Begun t }) k.clock clock h.places is.client later h.replies (record { inside = tt; times = tt });
@@ -388,6 +393,7 @@ module _ {V : Type 0} (n : ℕ) (serves : Bool) (k : ServerState V) where
     opened = h.opened;
     callers = h.callers;
     alive = h.alive;
+    causes = h.causes;
     places = h.places;
     calls = h.calls;
     replies = h.replies;
@@ -455,8 +461,8 @@ module _ {V : Type 0} (n : ℕ) (serves : Bool) (k : ServerState V) where
   }) h
 
   -- whom else it remembers as dead does not matter
-  pub buried_ready : (ds : List DeadPart) → ((t : TransId) (l : Live) → map.get k.lives t ≡ Some l → cause_in ds l.client t ≡ None) → IsReady n serves k → IsReady n serves (record k { dead = ds })
-  buried_ready ds alive h = record {
+  pub buried_ready : (ds : List DeadPart) → ((t : TransId) (l : Live) → map.get k.lives t ≡ Some l → cause_in ds l.client t ≡ None) → AllByRecursion (IsCalm k.server) ds → IsReady n serves k → IsReady n serves (record k { dead = ds })
+  buried_ready ds alive causes h = record {
     serving = h.serving;
     halted = h.halted;
     sound = h.sound;
@@ -468,6 +474,7 @@ module _ {V : Type 0} (n : ℕ) (serves : Bool) (k : ServerState V) where
     opened = h.opened;
     callers = h.callers;
     alive = alive;
+    causes = causes;
     places = h.places;
     calls = h.calls;
     replies = h.replies;
@@ -501,6 +508,7 @@ ready_with n before serves k v on up h = record {
   opened = h.opened;
   callers = h.callers;
   alive = h.alive;
+  causes = h.causes;
   places = h.places;
   calls = h.calls;
   replies = h.replies;
@@ -534,6 +542,7 @@ down_ready n before serves k v off h =
       opened = c.opened;
       callers = c.callers;
       alive = c.alive;
+      causes = c.causes;
       places = c.places;
       calls = c.calls;
       replies = c.replies;
@@ -568,6 +577,7 @@ commit_ready n before serves k v turn t on up is early h =
       opened = c.opened;
       callers = c.callers;
       alive = c.alive;
+      causes = c.causes;
       places = places_set k.sessions turn.client w h.places;
       calls = calls_set k.sessions turn.client w n h.places is.client h.calls (turn_within k.sessions turn n is h.calls);
       replies = replies_set k.sessions turn.client w k.clock (k.clock + 1) h.places is.client (omega arith) h.replies (record { inside = tt; times = le_refl (k.clock + 1) });
@@ -590,6 +600,7 @@ pub buried_told_ready : {V : Type 0} (n : ℕ) (serves : Bool) (k : ServerState 
 buried_told_ready n serves k turn r is keeps h =
     buried_ready (n + 1) serves (record k { sessions = counted_in k.sessions turn r; waits = without_dead turn.client k.dead k.waits }) (without_client turn.client k.dead)
     (λ t l there. alive_still (l.client == turn.client) (cause_in k.dead l.client t) (cause_in (without_client turn.client k.dead) l.client t) (dead_buried turn.client k.dead l.client t) (h.alive t l there))
+    (each-filter (IsCalm k.server) (λ (d : DeadPart). not (d.client == turn.client)) k.dead h.causes)
     (counted_ready n serves (record k { waits = without_dead turn.client k.dead k.waits }) turn r is keeps (undead_calls_ready n serves k turn.client h))
 
 -- and so do those that are of no live part, where its begin is refused
@@ -599,4 +610,5 @@ refused_ready n serves k turn r is keeps h =
     let left : List WaitingCall = without_dead turn.client k.dead k.waits in
     buried_ready (n + 1) serves (record k { sessions = counted_in k.sessions turn r; waits = live_calls turn.client k.lives left }) (without_client turn.client k.dead)
     (λ t l there. alive_still (l.client == turn.client) (cause_in k.dead l.client t) (cause_in (without_client turn.client k.dead) l.client t) (dead_buried turn.client k.dead l.client t) (h.alive t l there))
+    (each-filter (IsCalm k.server) (λ (d : DeadPart). not (d.client == turn.client)) k.dead h.causes)
     (counted_ready n serves (record k { waits = live_calls turn.client k.lives left }) turn r is keeps (live_calls_ready n serves (record k { waits = left }) turn.client (undead_calls_ready n serves k turn.client h)))

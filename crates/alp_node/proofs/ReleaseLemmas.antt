@@ -1,5 +1,5 @@
 -- a server stays ready where locks go and others get them
-use Rattle.std.specs.Prelude.{cond, Bool, true, false, ◌==◌, ◌&&◌, find, IsTrue, Option, None, Some, is_some}
+use Rattle.std.specs.Prelude.{cond, Bool, true, false, not, ◌==◌, ◌&&◌, find, IsTrue, Option, None, Some, is_some}
 use Rattle.std.specs.FinMap as map
 use Rattle.std.specs.List.{list_all, list_any, AllByRecursion}
 use Rattle.std.proofs.Common.{◌≡◌, ℕ, ◌+◌, ◌^◌, ◌<◌, ◌≤◌, List, [], ◌∷◌, ◌++◌, refl, sym, ◌∙◌, ap, subst, arith, le_refl}
@@ -12,23 +12,24 @@ use Rattle.alp_files.specs.declared.reply.Reply.TheVariants as reply
 use Rattle.alp_journal.specs.Counts.{log_need}
 use Rattle.alp_journal.specs.Ids.{same_trans}
 use Rattle.alp_journal.specs.Moves.{is_stop}
-use Rattle.alp_journal.proofs.IdLemmas.{same_trans-itself, same_trans-true}
+use Rattle.alp_journal.proofs.IdLemmas.{all-append, same_trans-itself, same_trans-true}
 use Rattle.alp_locks.specs.Releases.{released}
-use Rattle.alp_locks.proofs.SoundLemmas.{each-more, each-both}
+use Rattle.alp_locks.proofs.SoundLemmas.{each-more, each-both, each-filter}
 use Rattle.alp_locks.proofs.WakeLemmas.{IsNoneOf, released-others}
 use Rattle.alp_queue.specs.Order.{is_of as is_waiter_of}
 use Rattle.alp_queue.specs.declared.waiter.Waiter.{Waiter}
 use Rattle.alp_node.specs.Asks.{is_given}
-use Rattle.alp_node.specs.Dead.{cause_in, without_part}
+use Rattle.alp_node.specs.Dead.{cause_in, is_part, without_part}
 use Rattle.alp_node.specs.Halts.{HaveCauses}
 use Rattle.alp_node.specs.Releases.{grant_acts, with_locks, granted_if, granted_one, granted_all, let_go}
 use Rattle.alp_node.specs.Rooms.{IsWithin}
 use Rattle.alp_node.specs.Decisions.{with_time}
-use Rattle.alp_node.specs.ServerState.{IsReady, IsNumbered}
+use Rattle.alp_node.specs.ServerState.{IsReady, IsNumbered, IsCalm}
 use Rattle.alp_node.specs.Steps.{IsTurn, counted_in, ended}
 use Rattle.alp_node.specs.Totals.{LiveMap}
 use Rattle.alp_node.specs.Turns.{IsKeepable}
 use Rattle.alp_node.specs.Waits.{is_file_on, count_asked, locks_in, locks_of, grant_of, without_calls_of, IsWithinLimits, IsFileCall, IsWaitingCall, IsOfCalls}
+use Rattle.alp_node.specs.declared.dead.DeadPart.{DeadPart}
 use Rattle.alp_node.specs.declared.lives.Live.{Live}
 use Rattle.alp_node.specs.declared.server_state.ServerState.{ServerState}
 use Rattle.alp_node.specs.declared.sessions.Turn.{Turn}
@@ -75,6 +76,7 @@ module _ {V : Type 0} (n : ℕ) (serves : Bool) (k : ServerState V) (t : TransId
     opened = locked_each k.lives t m (λ u l. list_all (λ (o : Open). is_given k.server k.epoch k.given o.file) l.part.opens.items ≡ true) h.opened (λ l there. h.opened t l there);
     callers = locked_each k.lives t m (λ u l. is_some l.who ≡ true) h.callers (λ l there. h.callers t l there);
     alive = locked_each k.lives t m (λ u l. cause_in k.dead l.client u ≡ None) h.alive (λ l there. h.alive t l there);
+    causes = h.causes;
     places = h.places;
     calls = h.calls;
     replies = h.replies;
@@ -183,9 +185,9 @@ pub let_go_of : {V : Type 0} (k : ServerState V) (t : TransId) → let_go k t �
 let_go_of k t = granted_of (record k { lives = map.remove k.lives t; locks = record (released k.locks t) { woken = [] } }) (released k.locks t).woken
 
 -- it is let go, and its client is to be told
-pub late_ready : {V : Type 0} (n : ℕ) (serves : Bool) (k : ServerState V) (t : TransId) (client : ℕ) (c : Cause) → IsReady n serves k
+pub late_ready : {V : Type 0} (n : ℕ) (serves : Bool) (k : ServerState V) (t : TransId) (client : ℕ) (c : Cause) → IsCalm k.server (record { client = client; trans = t; cause = c }) → IsReady n serves k
     → IsReady n serves (record (let_go k t) { dead = k.dead ++ (record { client = client; trans = t; cause = c }) ∷ [] })
-late_ready {V} n serves k t client c h = buried_ready n serves (let_go k t) (k.dead ++ (record { client = client; trans = t; cause = c }) ∷ []) alive (let_go_ready n serves k t h)
+late_ready {V} n serves k t client c calm h = buried_ready n serves (let_go k t) (k.dead ++ (record { client = client; trans = t; cause = c }) ∷ []) alive causes (let_go_ready n serves k t h)
   where
     off : (u : TransId) (l : Live) → map.get (let_go k t).lives u ≡ Some l → (b : Bool) → same_trans u t ≡ b → b ≡ false
     off u l there false e = refl
@@ -194,6 +196,10 @@ late_ready {V} n serves k t client c h = buried_ready n serves (let_go k t) (k.d
     neither : (b d : Bool) → d ≡ false → (b && d) ≡ false
     neither true d e = e
     neither false d e = refl
+
+    causes : AllByRecursion (IsCalm (let_go k t).server) (k.dead ++ (record { client = client; trans = t; cause = c }) ∷ [])
+    causes = subst (λ (y : ServerState V). AllByRecursion (IsCalm y.server) (k.dead ++ (record { client = client; trans = t; cause = c }) ∷ [])) (sym (let_go_of k t))
+        (all-append (IsCalm k.server) k.dead ((record { client = client; trans = t; cause = c }) ∷ []) h.causes (calm, tt))
 
     alive : (u : TransId) (l : Live) → map.get (let_go k t).lives u ≡ Some l → cause_in (k.dead ++ (record { client = client; trans = t; cause = c }) ∷ []) l.client u ≡ None
     alive u l there =
@@ -222,6 +228,7 @@ module _ {V : Type 0} (n : ℕ) (k : ServerState V) (turn : Turn) (t : TransId) 
       subst (λ (y : ServerState V). IsReady (n + 1) serves y)
       (ap (λ (y : ServerState V). record y { waits = without_calls_of turn.client t (let_go k t).waits; sessions = counted_in k.sessions turn r; dead = without_part turn.client t k.dead }) (sym (let_go_of k t)))
       (buried_ready (n + 1) serves (record gone { waits = without_calls_of turn.client t (let_go k t).waits; sessions = counted_in k.sessions turn r }) (without_part turn.client t k.dead) (alive_then serves h)
+      (each-filter (IsCalm k.server) (λ (d : DeadPart). not (is_part turn.client t d)) k.dead h.causes)
       (counted_ready n serves (record gone { waits = without_calls_of turn.client t (let_go k t).waits }) turn r is keeps
       (without_ready n serves gone turn.client t (live_others n serves gone t (let_go_none k t) (gone_so serves h)) (gone_so serves h))))
 

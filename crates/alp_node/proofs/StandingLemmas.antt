@@ -7,6 +7,8 @@ use Rattle.alp_base.specs.declared.key.Resource.{Resource}
 use Rattle.alp_files.specs.declared.reply.Reply.{Reply}
 use Rattle.alp_files.specs.declared.refusal.Cause.{Cause}
 use Rattle.alp_files.specs.declared.refusal.Cause.TheVariants as cause
+use Rattle.alp_files.specs.declared.refusal.Refusal.TheVariants as refusal
+use Rattle.alp_files.specs.declared.reply.Reply.TheVariants as reply
 use Rattle.alp_locks.specs.Tables.{Holders}
 use Rattle.alp_vault.specs.Contents.{Contents}
 use Rattle.alp_journal.specs.Coordinator.{Fate, Undrawn, Running, Finishing, Committed, Forgotten, Ended}
@@ -15,10 +17,12 @@ use Rattle.alp_journal.specs.Desk.{Desk, waiting_of}
 use Rattle.alp_journal.specs.Deeds.{Deed, Finishes, Ends}
 use Rattle.alp_journal.specs.Moves.{finishes, ends_by}
 use Rattle.alp_journal.specs.Messages.{Mail, on_finish}
+use Rattle.alp_journal.specs.Answered.{is_fault_reply}
 use Rattle.alp_journal.specs.Answers.{Part, NoPart, AtWork, AtEnd, own_part, ended_part, part_at}
 use Rattle.alp_journal.specs.Account.{Account, state_of}
 use Rattle.alp_node.specs.Dead.{cause_in}
-use Rattle.alp_node.specs.ServerState.{IsAs, IsAlike}
+use Rattle.alp_node.specs.Halts.{says_shut}
+use Rattle.alp_node.specs.ServerState.{IsAs, IsAlike, IsReady}
 use Rattle.alp_node.specs.Standings.{ended_standing, standing_of}
 use Rattle.alp_node.specs.Steps.{IsOf}
 use Rattle.alp_node.specs.declared.lives.Live.{Live}
@@ -28,6 +32,7 @@ use Rattle.alp_node.specs.declared.server_state.ServerState.{ServerState}
 use Rattle.std.proofs.lemmas.Bool.{eqb-true}
 use Rattle.alp_files.specs.Cells.{Cells}
 use Rattle.alp_journal.proofs.PartLemmas.{own_part_at}
+use Rattle.alp_node.proofs.DeadLemmas.{each_cause}
 use Rattle.alp_node.proofs.OneServer.{IsOne, one_pair, part_elsewhere}
 
 -- the part that the journal says
@@ -148,6 +153,13 @@ dead_cause client (Some l) b c e = go (l.client == client) e
     go : (x : Bool) → cond {A = Standing} x standing.Work standing.Unknown ≡ standing.Ended c → b ≡ Some c
     go true f = cc
     go false f = cc
+
+-- what it is told shows no fault
+pub calm_told : {V : Type 0} (n : ℕ) (serves : Bool) (k : ServerState V) (client : ℕ) (t : TransId) (c : Cause) → IsReady n serves k → standing_of client (map.get k.lives t) (cause_in k.dead client t) ≡ standing.Ended c
+    → (is_fault_reply k.server (Some (reply.Refused (refusal.Aborted c))) || says_shut (Some (reply.Refused (refusal.Aborted c)))) ≡ false
+calm_told n serves k client t c h e =
+    ap (λ (b : Bool). b || false) (each_cause (λ (x : Cause). is_fault_reply k.server (Some (reply.Refused (refusal.Aborted x))) ≡ false) k.dead None client t c h.causes (λ y none. (let wrong : None ≡ Some y = none in cc))
+    (dead_cause client (map.get k.lives t) (cause_in k.dead client t) c e))
 
 -- and it is not at work
 pub ended_not_work : (s : Standing) {c : Cause} → s ≡ standing.Ended c → s ≡ standing.Work → ⊥

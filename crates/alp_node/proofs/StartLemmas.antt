@@ -314,6 +314,7 @@ new_ready steps old server sizes c serves up within later last area sound = reco
   opened = λ t l is. (let wrong : None ≡ Some l = sym (none_live t) ∙ is in cc);
   callers = λ t l is. (let wrong : None ≡ Some l = sym (none_live t) ∙ is in cc);
   alive = λ t l is. (let wrong : None ≡ Some l = sym (none_live t) ∙ is in cc);
+  causes = tt;
   places = refl;
   calls = λ client w is. (let wrong : None ≡ Some w = sym (no_session client) ∙ is in cc);
   replies = λ client w is. (let wrong : None ≡ Some w = sym (no_session client) ∙ is in cc);

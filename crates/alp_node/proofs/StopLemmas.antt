@@ -29,6 +29,7 @@ ready_beside n before serves k v same h = record {
   opened = h.opened;
   callers = h.callers;
   alive = h.alive;
+  causes = h.causes;
   places = h.places;
   calls = h.calls;
   replies = h.replies;

@@ -15,6 +15,8 @@ use Rattle.alp_base.specs.declared.ids.TransId.{TransId}
 use Rattle.alp_base.specs.declared.key.Key.TheVariants.{Leader}
 use Rattle.alp_base.specs.declared.key.Resource.{Resource}
 use Rattle.alp_base.specs.declared.key.Resource.TheVariants.{Whole}
+use Rattle.alp_files.specs.declared.refusal.Refusal.TheVariants as refusal
+use Rattle.alp_files.specs.declared.reply.Reply.TheVariants as reply
 use Rattle.alp_files.specs.Holdings.{IsIntended}
 use Rattle.alp_files.specs.Locks.{Reads, Writes, HoldsEach, needs_of}
 use Rattle.alp_files.specs.Apart.{AreSized, IsWithin as AreWithin, OpensRead}
@@ -27,6 +29,7 @@ use Rattle.alp_vault.specs.Contents.{Contents}
 use Rattle.alp_trans.specs.Parts.{own_of}
 use Rattle.alp_trans.specs.Counting.{AreCountsOf}
 use Rattle.alp_journal.specs.Coordinator.{Undrawn}
+use Rattle.alp_journal.specs.Answered.{is_fault_reply}
 use Rattle.alp_journal.specs.Answers.{more_locks}
 use Rattle.alp_journal.specs.Counts.{Locked, with_resources, request_in}
 use Rattle.alp_journal.specs.Holder.{Holder, Life, view_in}
@@ -45,6 +48,7 @@ use Rattle.alp_node.specs.Totals.{totals_of, HaveRoom}
 use Rattle.alp_node.specs.Turns.{IsKeepable}
 use Rattle.alp_node.specs.Waits.{waiting_calls, AreWaiting}
 use Rattle.alp_turns.specs.Queues.{queue_of}
+use Rattle.alp_node.specs.declared.dead.DeadPart.{DeadPart}
 use Rattle.alp_node.specs.declared.lives.Live.{Live}
 use Rattle.alp_node.specs.declared.lock_counts.LockCounts.{LockCounts}
 use Rattle.alp_node.specs.declared.server_state.ServerState.{ServerState}
@@ -174,11 +178,15 @@ pub record IsAs {V : Type 0} (a : Account) (held : Contents) (k : ServerState V)
   pub quiet : IsQuiet a
   pub down : a.is_down ≡ k.is_down
 
+-- a reply that tells why the part ended shows no fault of the device
+abbrev pub IsCalm : ℕ → DeadPart → Type 0
+IsCalm here d = is_fault_reply here (Some (reply.Refused (refusal.Aborted d.cause))) ≡ false
+
 -- Whatever its vault tells: its vault serves just while it is up, the table's locks agree, nobody is woken and not taken, those who
 -- wait in it do so for calls that the server keeps, and these may be performed once they have their locks. The table knows each live
--- transaction, each live part is within its limits, acts for somebody and is not among the dead, as many as there may be, nobody has
--- a file open or holds a lock on one that was not made yet, each session keeps what it may, no transaction was decided later than the clock, and no count went further than so
--- many steps.
+-- transaction, each live part is within its limits, acts for somebody and is not among the dead, as many as there may be, no fault
+-- of the device ended one of the dead, nobody has a file open or holds a lock on one that was not made yet, each session keeps what
+-- it may, no transaction was decided later than the clock, and no count went further than so many steps.
 pub record IsReady {V : Type 0} (steps : ℕ) (serves : Bool) (k : ServerState V) : Type 0 where
   pub serving : k.is_down ≡ false → IsTrue serves
   pub halted : k.is_down ≡ true → serves ≡ false
@@ -191,6 +199,7 @@ pub record IsReady {V : Type 0} (steps : ℕ) (serves : Bool) (k : ServerState V
   pub opened : (t : TransId) (l : Live) → map.get k.lives t ≡ Some l → list_all (λ o. is_given k.server k.epoch k.given o.file) l.part.opens.items ≡ true
   pub callers : (t : TransId) (l : Live) → map.get k.lives t ≡ Some l → is_some l.who ≡ true
   pub alive : (t : TransId) (l : Live) → map.get k.lives t ≡ Some l → cause_in k.dead l.client t ≡ None
+  pub causes : AllByRecursion (IsCalm k.server) k.dead
   pub places : length k.sessions.places ≡ 17
   pub calls : (client : ℕ) (w : Session) → session_at k.sessions client ≡ Some w → w.last ≤ steps
   pub replies : (client : ℕ) (w : Session) → session_at k.sessions client ≡ Some w → IsKeepable k.clock w.reply

@@ -1,5 +1,5 @@
 //! Calls that wait for their locks, or have them and are not collected.
-ghost use Rattle.std.specs.Prelude.{◌≡◌, ◌++◌, ◌∷◌, [], IfOk, OnOk, OnErr, List};
+ghost use Rattle.std.specs.Prelude.{◌≡◌, ◌++◌, ◌∷◌, [], IfOk, OnOk, OnErr, List, find};
 ghost use Rattle.std.specs.Option.{option_copied as copied};
 ghost use Rattle.std.specs.FinMap as map;
 ghost use Rattle.alp_node.specs.Waits.{is_of as is_of_said, is_at as is_at_said, is_file_on, has_waiting, has_file_on, call_at, count_asked, locks_of as locks_of_said, grant_of, without_calls_of, without_call_at, without_dead, has_part as has_part_said, live_calls};
@@ -77,11 +77,17 @@ impl Waits {
     pub fn locks_of(&self, trans: &TransId) -> Option<u32>
         ensures { result ≡ locks_of_said trans.now self.now }
     {
-        let found = self.calls.iter().find(|call| is_on(call, trans));
-        match found {
+        match self.file_on(trans) {
             Some(call) => call.asked(),
             None => None,
         }
+    }
+
+    // The first file call of the transaction that waits.
+    fn file_on(&self, trans: &TransId) -> Option<&WaitingCall>
+        ensures { copied result ≡ find (is_file_on trans.now) self.now }
+    {
+        self.calls.iter().find(|call| is_on(call, trans))
     }
 
     /// A call waits from now on.

@@ -1,4 +1,4 @@
-use Rattle.std.specs.Prelude.{Some, None, true}
+use Rattle.std.specs.Prelude.{Some, None, true, false, is_some}
 use Rattle.std.specs.Option.{option_copied}
 use Rattle.std.specs.FinMap as map
 use Rattle.std.proofs.Common.{◌≡◌, ℕ, refl, sym, ap, ◌∙◌}
@@ -8,9 +8,18 @@ use Rattle.alp_node.specs.Waits.{call_at}
 use Rattle.alp_node.specs.declared.waits.WaitingCall.{WaitingCall}
 use Rattle.alp_node.proofs.CollectLemmas.{is_file, its_client, its_number, known_standing, collect_none_stepped, collect_dead_stepped, collect_waits_stepped}
 use Rattle.alp_node.proofs.KeptLemmas.{of_client}
-use Rattle.alp_node.proofs.StandingLemmas.{standing_own}
+use Rattle.alp_node.proofs.StandingLemmas.{standing_own, calm_told}
 use Rattle.alp_node.proofs.StepLemmas.{refused_step}
 use Rattle.alp_node.proofs.server_state.ServerState.collect.Goals as goal
+
+pub unreachable-requires-in_default-counts : goal.unreachable-requires-in_default-counts
+unreachable-requires-in_default-counts g c =
+    let k = c.args.self.now in
+    let w : WaitingCall = c.in-Some.waiting.now in
+    let found : call_at c.args.turn.now.client c.args.number k.waits ≡ Some w = sym c.in-Some.ensures in
+    let some : is_some w.counts ≡ true = is_file k c.args.turn.now.client c.args.number w c.requires.ready.0 (g.V.Vault.serves k.vault) c.requires.ready.2 found in
+    let wrong : true ≡ false = sym some ∙ ap is_some c.in_default-counts.is in
+    cc
 
 pub returns-in_default : goal.returns-in_default
 returns-in_default g c =
@@ -31,7 +40,8 @@ returns-in-Ended g c =
     let w : WaitingCall = c.in-Some.waiting.now in
     let found : call_at turn.client c.args.number k.waits ≡ Some w = sym c.in-Some.ensures in
     let refuse = c.refuse-in-Ended in
-    refused_step G k refuse.new.self turn (call.Collect c.args.number) refuse.result (refusal.Aborted c.in-Ended.cause) refl c.requires.turn c.requires.up refuse.ensures.kept refuse.ensures.answer
+    refused_step G k refuse.new.self turn (call.Collect c.args.number) refuse.result (refusal.Aborted c.in-Ended.cause)
+    (calm_told c.requires.ready.0 (G.serves k.vault) k turn.client w.trans c.in-Ended.cause c.requires.ready.2 (sym c.standing.ensures ∙ c.in-Ended.is)) c.requires.turn c.requires.up refuse.ensures.kept refuse.ensures.answer
     (λ told a h. collect_dead_stepped a (G.faults k.vault) (G.faults k.vault) (G.held k.vault) k turn c.args.number w c.requires.ready.0 (G.serves k.vault) c.requires.ready.2 found c.in-Ended.cause refuse.result h c.requires.turn c.requires.up
     (sym c.standing.ensures ∙ c.in-Ended.is) refuse.ensures.answer)
     tt

@@ -17,7 +17,7 @@ use Rattle.alp_node.proofs.KeptLemmas.{as_with, same_live, of_client}
 use Rattle.alp_node.proofs.WaitLemmas.{named_all, none_waiting}
 use Rattle.alp_node.proofs.LookLemmas.{without_step, look_unseen, looks_left}
 use Rattle.alp_node.proofs.ReadyLemmas.{ready_with}
-use Rattle.alp_node.proofs.StandingLemmas.{standing_own}
+use Rattle.alp_node.proofs.StandingLemmas.{standing_own, calm_told}
 use Rattle.alp_files.specs.declared.refusal.Refusal.TheVariants as refusal
 use Rattle.alp_node.proofs.ServedLemmas.{stranger_stepped, dead_call_stepped}
 use Rattle.alp_node.proofs.ShapeLemmas.{shape_quiet, shape_inside, shape_stepped}
@@ -31,7 +31,8 @@ returns-in-Ended g c =
     let G = g.V.Vault in
     let k = c.args.self.now in
     let turn = c.args.turn.now in
-    refused_step G k c.refuse.new.self turn c.args.call.now c.refuse.result (refusal.Aborted c.in-Ended.cause) refl c.requires.turn c.requires.up c.refuse.ensures.kept c.refuse.ensures.answer
+    refused_step G k c.refuse.new.self turn c.args.call.now c.refuse.result (refusal.Aborted c.in-Ended.cause)
+    (calm_told c.requires.ready.0 (G.serves k.vault) k turn.client c.args.trans c.in-Ended.cause c.requires.ready.2 (sym c.standing.ensures ∙ c.in-Ended.is)) c.requires.turn c.requires.up c.refuse.ensures.kept c.refuse.ensures.answer
     (λ told a h. dead_call_stepped a (G.faults k.vault) (G.faults k.vault) (G.held k.vault) k turn c.args.trans c.args.call.now c.in-Ended.cause c.refuse.result h c.requires.turn c.requires.up c.requires.named
     (sym c.standing.ensures ∙ c.in-Ended.is) c.refuse.ensures.answer)
     tt

@@ -43,7 +43,7 @@ returns g c =
     silent_step G k c.release.new.self (event.Timeout t) c.silence-2.result (act.Released t ∷ grant_acts (granted_behind k t)) (ap (λ (y : ServerState _). y.vault) same ∙ ap (λ (y : ServerState _). y.vault) (let_go_of k t)) (ap (λ (y : ServerState _). y.server) same ∙ ap (λ (y : ServerState _). y.server) (let_go_of k t))
     (ap (λ (y : ServerState _). y.sizes) same ∙ ap (λ (y : ServerState _). y.sizes) (let_go_of k t)) (ap (λ (y : ServerState _). y.epoch) same ∙ ap (λ (y : ServerState _). y.epoch) (let_go_of k t)) c.requires.up
     (ap (λ (y : ServerState _). y.is_down) same ∙ ap (λ (y : ServerState _). y.is_down) (let_go_of k t) ∙ c.requires.up) so (grants_go_on (granted_behind k t)) (λ m n b. grants_caused m n b (granted_behind k t))
-    (λ n h. subst (λ (y : ServerState _). IsReady (n + 1) (G.serves k.vault) y) (sym same) (stepped_ready n (G.serves k.vault) after (late_ready n (G.serves k.vault) k t l.client cause.TimedOut h)))
+    (λ n h. subst (λ (y : ServerState _). IsReady (n + 1) (G.serves k.vault) y) (sym same) (stepped_ready n (G.serves k.vault) after (late_ready n (G.serves k.vault) k t l.client cause.TimedOut refl h)))
     (λ a h. subst (λ (y : ServerState _). Stepped a faults faults (G.held k.vault) y (event.Timeout t) c.silence-2.result) (sym same)
     (timeout_stepped a faults faults (G.held k.vault) k t c.requires.ready.0 (G.serves k.vault) h c.requires.ready.2 l c.silence-2.result c.requires.up (sym c.in-Some.ensures) so))
     (ap (λ (y : ServerState _). y.clock) same ∙ ap (λ (y : ServerState _). y.clock) (let_go_of k t)) (ap (λ (y : ServerState _). y.sessions) same ∙ ap (λ (y : ServerState _). y.sessions) (let_go_of k t))
