@@ -11,6 +11,7 @@ use Rattle.alp_files.specs.declared.reply.Reply.{Reply}
 use Rattle.alp_journal.specs.declared.event.Event.{Event}
 use Rattle.alp_journal.specs.declared.event.Event.TheVariants as event
 use Rattle.alp_journal.specs.Account.{Account, state_of}
+use Rattle.alp_node.specs.Draws.{IsBackAgain}
 use Rattle.alp_node.specs.Durable.{said_by, Leaves, Besides, NoOther}
 use Rattle.alp_node.specs.ServerState.{IsAs, IsReady}
 use Rattle.alp_node.specs.Steps.{Stepped, IsGiven, IsSeated, IsStill, IsStep, entry_of}
@@ -18,8 +19,8 @@ use Rattle.alp_node.specs.Turns.{AreTurned, HasTurned}
 use Rattle.alp_node.specs.declared.answer.Answer.{Answer}
 use Rattle.alp_node.specs.declared.server_state.ServerState.{ServerState}
 use Rattle.alp_node.specs.declared.sessions.CallOrder.TheVariants as order
-use Rattle.alp_node.proofs.KeptLemmas.{as_with}
-use Rattle.alp_node.proofs.ReadyLemmas.{ready_with}
+use Rattle.alp_node.proofs.KeptLemmas.{as_with, as_back}
+use Rattle.alp_node.proofs.ReadyLemmas.{ready_with, back_ready}
 use Rattle.alp_node.proofs.GivenLemmas.{wanting}
 use Rattle.alp_node.proofs.SeatLemmas.{left_noted, left_seated}
 use Rattle.alp_calls.proofs.LookLemmas.{left_same}
@@ -104,3 +105,17 @@ same_without G k new e r same err =
 
 pub same_err : {V : Type 0} (G : Ghosts V) (k new : ServerState V) (e : Event) (f : OutOfMemory) → new ≡ k → IsStep G k new e (Err f)
 same_err G k new e f same = same_without G k new e (Err f) same refl
+
+-- and so is one in which a begin was taken back
+pub back_without : {V : Type 0} (G : Ghosts V) (k new : ServerState V) (e : Event) (r : Result Answer OutOfMemory) → IsBackAgain k new → IsErr r → IsStep G k new e r
+back_without {V} G k new e r back err =
+    let then : ServerState V = record k { coordinator = new.coordinator } in
+    subst (λ (y : ServerState V). IsStep G k y e r) (sym back.kept)
+    (wanting G k then e r err (record {
+      kept = λ a h. as_back a (G.held k.vault) k new.coordinator back.along back.same h;
+      ready = λ n h. back_ready n (G.serves k.vault) k new.coordinator back.along back.same h;
+      up = refl;
+      sessions = refl;
+      clock = refl;
+      vault = record { held = refl; faults = refl; allowance = refl };
+    }) (λ h. h) (left_seated G k then refl refl refl (left_same G k.vault)) (left_same G k.vault))

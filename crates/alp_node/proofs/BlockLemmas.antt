@@ -42,6 +42,7 @@ use Rattle.alp_journal.proofs.WaitingCalls.{idle_part, waits_leads, with_wait, b
 use Rattle.alp_turns.specs.Queues.{AreHeldAlike, request_if, request_for, request_at, queue_of}
 use Rattle.alp_turns.proofs.RequestLemmas.{request, free_there}
 use Rattle.alp_turns.proofs.MoveLemmas.{queue_with}
+use Rattle.alp_coord.specs.Coordinators.{count_of}
 use Rattle.alp_node.specs.Asks.{AreGiven, asks_of, plan_of}
 use Rattle.alp_node.specs.Calls.{IsServedCall}
 use Rattle.alp_node.specs.ServerState.{IsAs, IsReady, IsAlike, IsCaller, IsLife, IsAskedAs, IsWaitingAs}
@@ -61,7 +62,8 @@ use Rattle.alp_node.proofs.DeadLemmas.{turned_eq}
 use Rattle.alp_node.proofs.FinishLemmas.{turn_session, counts_as}
 use Rattle.alp_node.proofs.GrantLemmas.{asked_below}
 use Rattle.alp_node.proofs.KeptLemmas.{session_of, IsLive, live_there, same_live, stepped_so}
-use Rattle.alp_node.proofs.LiveSums.{up_to_drawn}
+use Rattle.alp_node.proofs.LiveSums.{live_here}
+use Rattle.alp_node.proofs.TransactionLemmas.{owned_placed}
 use Rattle.alp_node.proofs.LockCallLemmas.{lock_request, lock_choice, not_refused, asked_locks, shut_none, chosen, none_asked_free}
 use Rattle.alp_node.proofs.OneServer.{live_runs, life_works, lone_caller}
 use Rattle.alp_node.proofs.ReadyLemmas.{counted_ready, numbered}
@@ -100,7 +102,7 @@ module _ {V : Type 0} (a : Account) (before now : ℕ) (held : Contents) (k : Se
   pub busy_finish_stepped : Stepped a before now held kept_back (event.Call turn.client k.epoch turn.number (call.Finish t true)) x
   busy_finish_stepped =
       stepped_so a before now held held k kept_back turn.client turn.number (session_of turn is) (call.Finish t true) false (reply.Refused refusal.NotYet) [] (counted_as a turn.client turn.number (session_of turn is) (reply.Refused refusal.NotYet)) x so h
-      (busy_finish_leads a turn.client turn.number (session_of turn is) t mine.life v h.quiet (h.down ∙ up) (turn_session a held k turn h is) is.number (up_to_drawn a held k h t l there).here
+      (busy_finish_leads a turn.client turn.number (session_of turn is) t mine.life v h.quiet (h.down ∙ up) (turn_session a held k turn h is) is.number (live_here a held k h t l there)
       (live_runs a h.lone h.quiet.settled.stands t mine.life mine.is ∙ ap (λ (d : ℕ). Running d []) (mine.alike.client ∙ own)) busy)
       (counts_as a held k turn (reply.Refused refusal.NotYet) h is up) (λ e. cc) (omega (arith, h.clock))
 
@@ -166,13 +168,13 @@ module _ {V : Type 0} (k : ServerState V) (turn : Turn) (t : TransId) (l : Live)
     may : MayLock k.sizes l counts
     may = may_lock k.sizes l (holding k.locks.held t) ns c few
 
-    new_waiting : IsReady n serves k → IsWaitingCall k.server k.epoch k.given k.drawn k.sizes k.lives new_call
+    new_waiting : IsReady n serves k → IsWaitingCall k.server k.epoch k.given (count_of k.coordinator) k.sizes k.lives new_call
     new_waiting h = record {
       named = named;
-      file = λ z counted. subst (IsFileCall k.server k.epoch k.given k.drawn k.sizes k.lives new_call) (same_counts counts z counted) (record {
+      file = λ z counted. subst (IsFileCall k.server k.epoch k.given (count_of k.coordinator) k.sizes k.lives new_call) (same_counts counts z counted) (record {
         formed = formed;
         some = some;
-        begun = (h.begun t l there).1;
+        begun = (owned_placed k.coordinator t (map.get k.lives t) l (h.own t) there).within;
         limits = λ x at. subst (IsWithinLimits k.server k.epoch k.given k.sizes new_call counts) (same_live l x (sym there ∙ at)) (record { its = sym own; shape = shape; fewer = may.asked; locks = may.few; log = may.log });
       });
     }
@@ -188,7 +190,7 @@ module _ {V : Type 0} (k : ServerState V) (turn : Turn) (t : TransId) (l : Live)
       sound = blocked_sound h;
       taken = h.taken;
       waits = record {
-        calls = pushed_each (IsWaitingCall k.server k.epoch k.given k.drawn k.sizes k.lives) k.waits new_call h.waits.calls (new_waiting h);
+        calls = pushed_each (IsWaitingCall k.server k.epoch k.given (count_of k.coordinator) k.sizes k.lives) k.waits new_call h.waits.calls (new_waiting h);
         files = pushed_each (λ (v : WaitingCall). is_some v.counts ≡ true) k.waits new_call h.waits.files refl;
         apart = pushed_apart k.waits new_call h.waits.apart (others_apart k.waits away.others away.idle);
         queued = each-placed (IsOfCalls k.server k.epoch k.given k.lives (k.waits ++ new_call ∷ [])) k.locks.waiting plan
@@ -196,7 +198,7 @@ module _ {V : Type 0} (k : ServerState V) (turn : Turn) (t : TransId) (l : Live)
             (record { live = ap is_some there; asks = asks_last k.waits new_call refl refl; beyond = none_beyond h });
       };
       known = h.known;
-      begun = h.begun;
+      own = h.own;
       opens = h.opens;
       opened = h.opened;
       callers = h.callers;
@@ -215,7 +217,8 @@ module _ {V : Type 0} (k : ServerState V) (turn : Turn) (t : TransId) (l : Live)
       raised = h.raised;
       last = h.last;
       unheld = h.unheld;
-      decisions = h.decisions;
+      seat = h.seat;
+      times = h.times;
     }
 
     pub blocked_ready : IsReady n serves k → IsReady (n + 1) serves blocked_kept
@@ -284,7 +287,7 @@ module _ {V : Type 0} (k : ServerState V) (turn : Turn) (t : TransId) (l : Live)
     leads : Leads false a (call_entry a turn.client turn.number w c (reply.Refused refusal.NotYet) []) (with_wait a turn.client turn.number w t life c)
     leads = waits_leads a turn.client turn.number w t life c h.quiet (h.down ∙ up) (turn_session a held k turn h is) is.number
         (life_works a h.lone h.quiet.settled.stands t life turn.client there_live.is (alike.client ∙ own)) there_live.is (alike.client ∙ own) named
-        (idle_told a turn.client t k.waits h.waits (named_all k.server k.epoch k.given k.drawn k.sizes k.lives k.waits ready.waits.calls) away.idle) passed waits_for taken
+        (idle_told a turn.client t k.waits h.waits (named_all k.server k.epoch k.given (count_of k.coordinator) k.sizes k.lives k.waits ready.waits.calls) away.idle) passed waits_for taken
 
     waits_as : IsAs (with_wait a turn.client turn.number w t life c) held blocked_kept
     waits_as = record {
@@ -301,12 +304,8 @@ module _ {V : Type 0} (k : ServerState V) (turn : Turn) (t : TransId) (l : Live)
       lives = h.lives;
       room = h.room;
       unborn = h.unborn;
-      current = h.current;
-      drawn = h.drawn;
-      begun = h.begun;
-      undrawn = h.undrawn;
+      coordinator = h.coordinator;
       plain = h.plain;
-      ends = h.ends;
       lone = h.lone;
       files = h.files;
       made = h.made;

@@ -60,7 +60,7 @@ use Rattle.alp_node.specs.declared.server_state.ServerState.{ServerState}
 use Rattle.alp_node.specs.declared.lives.Live.{Live}
 use Rattle.alp_node.proofs.BesideLemmas.{AreNamed, AreOthers, others_told, queue_beside, asked_beside}
 use Rattle.alp_node.proofs.MapLemmas.{put_twice, get_put, places_set}
-use Rattle.alp_node.proofs.KeptLemmas.{IsLive, session_of, session_then, live_there, same_live, alike_set, each_set, each_set_at, sessions_as}
+use Rattle.alp_node.proofs.KeptLemmas.{IsLive, session_of, session_then, live_there, same_live, alike_set, each_set, sessions_as}
 
 outcome_of : (tells : Bool) (cells : Cells) (id : FileId) (l : Live) (p : Part) (c : Call) (room : Room) (acts : List Act) (given : Result Reply CallFault) (r : Result Given CallFault) → IfOk given (Answered tells cells l.part p (name_in l.who) id c room) → OnErr given (IsAsBefore l.part p)
     → IsAnswerTo given acts r → Outcome tells cells id l p c room acts r
@@ -142,12 +142,8 @@ module _ {V : Type 0} (a : Account) (held : Contents) (k : ServerState V) where
         lives = λ u. subst (λ (x : Option Live). IsAlike a.holder.cells k.locks.held (a.locked u) u x (a.holder.lives u)) (sym (get_put k.lives t (record l { part = p; locks = n }) u)) (go u (same_trans u t) refl);
         room = same_room k.sizes a.holder.cells k.lives t l (record l { part = p; locks = n }) there before.2 h.room;
         unborn = h.unborn;
-        current = h.current;
-        drawn = h.drawn;
-        begun = h.begun;
-        undrawn = h.undrawn;
+        coordinator = h.coordinator;
         plain = h.plain;
-        ends = h.ends;
         lone = h.lone;
         files = h.files;
         made = h.made;
@@ -318,12 +314,8 @@ module _ {V : Type 0} (a : Account) (held : Contents) (k : ServerState V) (turn 
           unborn = each_set (λ x. PutNoneBeyond a.holder.server a.ids.epoch (count_after k.given r) x.edits) t (Some new) a.holder.lives
               (λ u x at f comes. h.unborn u x at f (comes_later a.holder.server a.ids.epoch k.given (count_after k.given r) f (count_grows k.given r) comes))
               (λ x at. subst (λ (y : Life). PutNoneBeyond a.holder.server a.ids.epoch (count_after k.given r) y.edits) (same-some new x at) (gave_unborn h live only));
-          current = each_set_at (λ u x. u.epoch ≡ a.ids.epoch) t (Some new) a.holder.lives h.current (λ x at. h.current t life live);
-          drawn = h.drawn;
-          begun = h.begun;
-          undrawn = h.undrawn;
+          coordinator = h.coordinator;
           plain = h.plain;
-          ends = h.ends;
           lone = h.lone;
           files = ap (λ (m : ℕ). m + length (option_to_list (id_in r))) h.files ∙ files_now k.given r;
           made = made_now a.holder.server a.ids.epoch k.given r a.holder.made (subst (λ (f : FileId). GivesOnly f r) (next_same h) only) h.made;

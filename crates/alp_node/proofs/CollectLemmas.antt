@@ -35,6 +35,7 @@ use Rattle.alp_turns.specs.Queues.{request_if, request_for, request_at, queue_of
 use Rattle.alp_turns.proofs.MoveLemmas.{GoesIdle, queue_without}
 use Rattle.alp_node.specs.Dead.{cause_in}
 use Rattle.alp_node.specs.ServerState.{IsAs, IsReady, IsAlike, IsAskedAs, IsWaitingAs}
+use Rattle.alp_coord.specs.Coordinators.{count_of}
 use Rattle.alp_node.specs.Steps.{Stepped, IsTurn, counted_in, refused_answer}
 use Rattle.alp_node.specs.Standings.{standing_of}
 use Rattle.alp_node.specs.Waits.{waiting, waiting_calls, is_of, is_file_on, is_at, call_at, without_calls_of, asks_for, IsNamed, IsFileCall, IsWaitingCall, IsOfOther, AreApart}
@@ -118,12 +119,12 @@ only_of client n w (v ∷ vs) some apart found = go (is_at client n v) found (on
 
 module _ {V : Type 0} (k : ServerState V) (client n : ℕ) (w : WaitingCall) (m : ℕ) (on : Bool) (ready : IsReady m on k) (found : call_at client n k.waits ≡ Some w) where
   abbrev Called : WaitingCall → Type 0
-  Called u = IsWaitingCall k.server k.epoch k.given k.drawn k.sizes k.lives u
+  Called u = IsWaitingCall k.server k.epoch k.given (count_of k.coordinator) k.sizes k.lives u
 
   its : Called w × (is_at client n w ≡ true)
   its = find_each Called (is_at client n) k.waits w found ready.waits.calls
 
-  pub call_is : IsWaitingCall k.server k.epoch k.given k.drawn k.sizes k.lives w
+  pub call_is : IsWaitingCall k.server k.epoch k.given (count_of k.coordinator) k.sizes k.lives w
   call_is = its.0
 
   pub its_client : w.client ≡ client
@@ -139,7 +140,7 @@ module _ {V : Type 0} (k : ServerState V) (client n : ℕ) (w : WaitingCall) (m 
   pub its_counts : (z : LockCounts) × (w.counts ≡ Some z)
   its_counts = counts_there w.counts is_file
 
-  pub file_is : IsFileCall k.server k.epoch k.given k.drawn k.sizes k.lives w its_counts.0
+  pub file_is : IsFileCall k.server k.epoch k.given (count_of k.coordinator) k.sizes k.lives w its_counts.0
   file_is = call_is.file its_counts.0 its_counts.1
 
   pub named_file : file_trans w.call ≡ Some w.trans
@@ -222,7 +223,7 @@ module _ {V : Type 0} (a : Account) (held : Contents) (k : ServerState V) (clien
   is_it u = u.client == client && u.number == n
 
   pub all_named : AreNamed k.waits
-  all_named = named_all k.server k.epoch k.given k.drawn k.sizes k.lives k.waits ready.waits.calls
+  all_named = named_all k.server k.epoch k.given (count_of k.coordinator) k.sizes k.lives k.waits ready.waits.calls
 
   pub number_only : AllByRecursion (λ (u : WaitingCall). is_at client n u ≡ true → u ≡ w) k.waits
   number_only = each k.waits all_named (trans_only k client n w m on ready found) (subst (AllByRecursion (IsOnly a.waits)) h.waits (each-only a.waits h.quiet.settled.tells.apart))
@@ -307,12 +308,8 @@ module _ {V : Type 0} (a : Account) (held : Contents) (k : ServerState V) (clien
     lives = h.lives;
     room = h.room;
     unborn = h.unborn;
-    current = h.current;
-    drawn = h.drawn;
-    begun = h.begun;
-    undrawn = h.undrawn;
+    coordinator = h.coordinator;
     plain = h.plain;
-    ends = h.ends;
     lone = h.lone;
     files = h.files;
     made = h.made;

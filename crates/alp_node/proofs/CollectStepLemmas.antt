@@ -25,6 +25,7 @@ use Rattle.alp_journal.specs.declared.act.Act.TheVariants as act
 use Rattle.alp_journal.specs.declared.event.Event.{Event}
 use Rattle.alp_journal.specs.declared.event.Event.TheVariants as event
 use Rattle.alp_journal.specs.Ids.{same_trans}
+use Rattle.alp_coord.specs.Coordinators.{count_of}
 use Rattle.alp_node.specs.Asks.{plan_of, with_plan}
 use Rattle.alp_node.specs.Calls.{name_in, given_of, next_file}
 use Rattle.alp_node.specs.Rooms.{IsRoomOf, locks_given}
@@ -67,10 +68,10 @@ module _ {V : Type 0} (G : Ghosts V) (k : ServerState V) (turn : Turn) (n : ℕ)
   keeps = answered_keeps k.clock (G.tells k.vault) (G.held k.vault).cells l.part p (name_in l.who) (next_file k) w.call room r given
 
   module _ (m : ℕ) (h : IsReady m (G.serves k.vault) k) where
-    its : IsWaitingCall k.server k.epoch k.given k.drawn k.sizes k.lives w
+    its : IsWaitingCall k.server k.epoch k.given (count_of k.coordinator) k.sizes k.lives w
     its = call_is k turn.client n w m (G.serves k.vault) h found
 
-    file : IsFileCall k.server k.epoch k.given k.drawn k.sizes k.lives w z
+    file : IsFileCall k.server k.epoch k.given (count_of k.coordinator) k.sizes k.lives w z
     file = its.file z counted
 
     limits : IsWithinLimits k.server k.epoch k.given k.sizes w z l
@@ -120,7 +121,7 @@ module _ {V : Type 0} (G : Ghosts V) (k : ServerState V) (turn : Turn) (n : ℕ)
 
   pub collect_done : (x : Answer) (steps : ℕ) → IsReady steps (G.serves k.vault) k → G.faults v ≡ G.faults k.vault → x ≡ told_answer (Some r) [] → IsStep G k after (event.Call turn.client k.epoch turn.number (call.Collect n)) (Ok x)
   collect_done x steps ready faults so =
-      let now : IsFileCall k.server k.epoch k.given k.drawn k.sizes k.lives w z = file steps ready in
+      let now : IsFileCall k.server k.epoch k.given (count_of k.coordinator) k.sizes k.lives w z = file steps ready in
       left_step G k after refl refl refl left (event.Call turn.client k.epoch turn.number (call.Collect n)) x up
       (λ told a h. collect_stepped a (G.faults k.vault) (G.faults v) (G.held k.vault) k turn n w z l p room r v steps (G.serves k.vault) x (G.held v) ready h up left.contents is found counted granted there
       (answered_told (G.tells k.vault) (G.held k.vault).cells l p (next_file k) w.call room r told given) (room_told (G.tells k.vault) (G.held k.vault).cells k z.made room told of) so)

@@ -40,6 +40,7 @@ use Rattle.alp_journal.specs.Account.{Account, state_of, Leads}
 use Rattle.alp_journal.proofs.CallLemmas.{call_entry}
 use Rattle.alp_journal.proofs.RefusedCalls.{counted_as}
 use Rattle.alp_journal.proofs.CollectCalls.{uncollected, CollectOwes, with_collected, collect_refused_leads, collected_leads}
+use Rattle.alp_coord.specs.Coordinators.{count_of}
 use Rattle.alp_node.specs.Asks.{is_of_given, asks_made, asks_given, makes_file, is_made, plan_if, plan_of, with_plan, with_made as with_made_lock}
 use Rattle.alp_node.specs.Calls.{name_in, IsServedCall, given_of, next_file}
 use Rattle.alp_node.specs.Rooms.{IsRoomOf, locks_given}
@@ -188,10 +189,10 @@ module _ {V : Type 0} (a : Account) (before now : ℕ) (held : Contents) (k : Se
     abbrev told : Session
     told = session_of turn is
 
-    its : IsWaitingCall k.server k.epoch k.given k.drawn k.sizes k.lives w
+    its : IsWaitingCall k.server k.epoch k.given (count_of k.coordinator) k.sizes k.lives w
     its = call_is k turn.client n w m on ready found
 
-    file : IsFileCall k.server k.epoch k.given k.drawn k.sizes k.lives w z
+    file : IsFileCall k.server k.epoch k.given (count_of k.coordinator) k.sizes k.lives w z
     file = its.file z counted
 
     limits : IsWithinLimits k.server k.epoch k.given k.sizes w z l

@@ -35,12 +35,12 @@ use Rattle.alp_journal.specs.declared.event.Event.{Event}
 use Rattle.alp_journal.specs.declared.event.Event.TheVariants as event
 use Rattle.alp_journal.specs.declared.entry.Entry.{Entry}
 use Rattle.alp_journal.specs.Along.{state_after}
-use Rattle.alp_journal.specs.Ids.{stamp_cmp}
+use Rattle.alp_journal.specs.Ids.{same_trans, stamp_cmp}
 use Rattle.alp_journal.specs.Deeds.{Deed, Finishes, Decides}
 use Rattle.alp_journal.specs.Holder.{Holder, Life, commits, holder_after, grants}
 use Rattle.alp_journal.specs.Moves.{tried, act_deeds, finishes, ends_by, grants_to, asks_for}
 use Rattle.alp_journal.specs.State.{State}
-use Rattle.alp_journal.specs.Coordinator.{Fate, Undrawn, Running}
+use Rattle.alp_journal.specs.Coordinator.{Fate, Running, joins_of}
 use Rattle.alp_journal.specs.Coordinator as fate
 use Rattle.alp_journal.specs.Desk.{Session, Waiting, file_trans, waiting_of}
 use Rattle.alp_journal.specs.Messages.{why_not_own, first_why, full_or, no_room, clock_end, part_cells, weights, applying}
@@ -55,13 +55,16 @@ use Rattle.alp_journal.proofs.HaltedCalls.{with_halt, commit_halt_leads, file_ha
 use Rattle.alp_turns.specs.Laws.{trans_in}
 use Rattle.alp_turns.specs.Queues.{queue_of}
 use Rattle.alp_node.specs.Dead.{cause_in}
-use Rattle.alp_node.specs.Decisions.{with_time, HaveEnds}
+use Rattle.alp_coord.specs.declared.coordinator.Coordinator.{Coordinator}
+use Rattle.alp_coord.specs.Coordinators.{IsAlong, Comes, count_of, fate_in}
+use Rattle.alp_coord.specs.Likeness.{IsFateOf}
 use Rattle.alp_node.specs.Durable.{clock_notes, stored_by, said_by, Leaves, Besides, IsWritten}
 use Rattle.alp_node.specs.Eases.{new_blocks, eased}
 use Rattle.alp_node.specs.Releases.{granted_if, granted_one, granted_all, granted_behind, let_go}
 use Rattle.alp_node.specs.Waits.{has_waiting, locks_of}
 use Rattle.alp_node.specs.ServerState.{IsAs, IsReady, IsAlike, IsWaitingAs, PutNoneBeyond}
 use Rattle.alp_node.specs.Totals.{LiveMap}
+use Rattle.alp_node.specs.Transactions.{IsCoordinatorBy}
 use Rattle.alp_node.specs.Standings.{standing_of}
 use Rattle.alp_node.specs.Steps.{Stepped, IsTurn, counted_in, seen_in, told_answer, refused_answer, entry_of}
 use Rattle.alp_node.specs.declared.answer.Answer.{Answer}
@@ -73,13 +76,12 @@ use Rattle.alp_node.specs.Rooms.{IsWithin}
 use Rattle.alp_node.specs.Sessions.{session_at}
 use Rattle.alp_node.specs.declared.waits.WaitingCall.{WaitingCall}
 use Rattle.alp_node.proofs.BesideLemmas.{idle_told}
-use Rattle.alp_node.proofs.CountLemmas.{IsUpTo}
-use Rattle.alp_node.proofs.DecisionLemmas.{ends_decided, plain_moved, decided_plain}
+use Rattle.alp_node.proofs.DecisionLemmas.{plain_moved, decided_plain}
 use Rattle.alp_node.proofs.EaseLemmas.{eased_room}
 use Rattle.alp_node.proofs.GiveOnLemmas.{IsAlikeApart}
 use Rattle.alp_node.proofs.GoneLemmas.{HasLetGo, has_let_go, state_gone, gone_of, granted_rest, holder_rest, lives_then}
 use Rattle.alp_node.proofs.SpaceLemmas.{blocks_then, StandsBeside, stands_beside, needs_beside, room_beside, eased_alike}
-use Rattle.alp_node.proofs.FinishLemmas.{still_undrawn, turn_session, drawn_live}
+use Rattle.alp_node.proofs.FinishLemmas.{turn_session}
 use Rattle.alp_node.proofs.KeptLemmas.{sessions_as, session_of, session_then, stands_timely, IsLive, live_there, earlier_more, stepped_so}
 use Rattle.alp_node.proofs.MapLemmas.{places_set}
 use Rattle.alp_node.proofs.NoteLemmas.{put_again}
@@ -87,6 +89,7 @@ use Rattle.alp_node.proofs.OneServer.{none_ready_here, lone_runs}
 use Rattle.alp_node.proofs.SeatLemmas.{leaves_as}
 use Rattle.alp_node.proofs.StandingLemmas.{part_of, part_is}
 use Rattle.alp_node.proofs.WaitLemmas.{named_all}
+use Rattle.alp_node.proofs.TransactionLemmas.{run_along, known_decided}
 use Rattle.alp_node.proofs.UnderLemmas.{edits_sized}
 
 -- ---- who has no call that waits
@@ -95,7 +98,7 @@ use Rattle.alp_node.proofs.UnderLemmas.{edits_sized}
 pub waits_none : {V : Type 0} (a : Account) (held : Contents) (k : ServerState V) (client : ℕ) (t : TransId) (l : Live) (n : ℕ) (serves : Bool) → IsAs a held k → IsReady n serves k → map.get k.lives t ≡ Some l → l.client ≡ client → has_waiting client t k.waits ≡ false
     → waiting_of (state_of a).desk client t ≡ None
 waits_none a held k client t l n serves h ready live own idle =
-    idle_told a client t k.waits h.waits (named_all k.server k.epoch k.given k.drawn k.sizes k.lives k.waits ready.waits.calls) idle
+    idle_told a client t k.waits h.waits (named_all k.server k.epoch k.given (count_of k.coordinator) k.sizes k.lives k.waits ready.waits.calls) idle
 
 -- ---- this server's own vote
 
@@ -217,7 +220,7 @@ granted_vault k v (t ∷ ts) = ap (λ (y : ServerState _). granted_all y ts) (on
 pub let_go_vault : {V : Type 0} (k : ServerState V) (v : V) (t : TransId) → let_go (record k { vault = v }) t ≡ record (let_go k t) { vault = v }
 let_go_vault k v t = granted_vault (record k { lives = map.remove k.lives t; locks = record (released k.locks t) { woken = [] } }) v (released k.locks t).woken
 
-module _ {V : Type 0} (a : Account) (before now : ℕ) (held then : Contents) (k : ServerState V) (turn : Turn) (t : TransId) (l : Live) (v : V) where
+module _ {V : Type 0} (a : Account) (before now : ℕ) (held then : Contents) (k : ServerState V) (turn : Turn) (t : TransId) (l : Live) (v : V) (mid z : Coordinator) where
   abbrev pub stamp_at : Stamp
   stamp_at = record { ts = k.clock + 1; trans = t }
 
@@ -227,7 +230,7 @@ module _ {V : Type 0} (a : Account) (before now : ℕ) (held then : Contents) (k
     lives = eased blocks (let_go k t).lives (map.keys k.lives);
     sessions = counted_in k.sessions turn (reply.Committed stamp_at);
     clock = k.clock + 1;
-    decisions = with_time k.decisions t.counter (k.clock + 1);
+    coordinator = z;
     vault = v;
   }
 
@@ -235,7 +238,8 @@ module _ {V : Type 0} (a : Account) (before now : ℕ) (held then : Contents) (k
   commit_acts = act.Decided stamp_at [] ∷ act.Released t ∷ grant_acts (granted_behind k t)
 
   module _ (m : ℕ) (on : Bool) (h : IsAs a held k) (ready : IsReady m on k) (is : IsTurn k.sessions turn) (up : k.is_down ≡ false) (early : k.clock < 2 ^ 62) (here : t.server ≡ k.server) (live : map.get k.lives t ≡ Some l) (own : l.client ≡ turn.client)
-      (idle : waiting_of (state_of a).desk turn.client t ≡ None) (fits : IsWithin k.sizes l) where
+      (idle : waiting_of (state_of a).desk turn.client t ≡ None) (fits : IsWithin k.sizes l)
+      (first : IsAlong k.coordinator mid) (finished : Comes (Finishes t) k.coordinator mid) (second : IsAlong mid z) (decided : Comes (Decides stamp_at (joins_of (fate_in mid t))) mid z) where
     abbrev w : Session
     w = session_of turn is
 
@@ -298,8 +302,8 @@ module _ {V : Type 0} (a : Account) (before now : ℕ) (held then : Contents) (k
           (stands_beside a held k h t l live y.life y.is y.alike) (room_beside a held k h t l live y.life y.is y.alike) g u)
 
       unborn_then : (u : TransId) (z : Life) (o : Option Live) → map.get server_commit.lives u ≡ o → state_commit.holder.lives u ≡ Some z → IsAlikeApart a.holder.cells (state_commit.locked u) o (state_commit.holder.lives u)
-          → PutNoneBeyond a.holder.server a.ids.epoch k.given z.edits × (u.epoch ≡ a.ids.epoch)
-      unborn_then u z (Some x) at lives alike = ((g.all.parts u x z at lives).0, (g.all.parts u x z at lives).3)
+          → PutNoneBeyond a.holder.server a.ids.epoch k.given z.edits
+      unborn_then u z (Some x) at lives alike = (g.all.parts u x z at lives).0
       unborn_then u z None at lives alike = absurd (subst (IsAlikeApart a.holder.cells (state_commit.locked u) None) lives alike)
 
       abbrev kept_with : LiveMap → List WaitingCall → List Key → ServerState V
@@ -309,7 +313,7 @@ module _ {V : Type 0} (a : Account) (before now : ℕ) (held then : Contents) (k
         locks = record (released k.locks t) { woken = [] };
         sessions = counted_in k.sessions turn (reply.Committed stamp_at);
         clock = k.clock + 1;
-        decisions = with_time k.decisions t.counter (k.clock + 1);
+        coordinator = z;
         vault = v;
       }
 
@@ -325,11 +329,16 @@ module _ {V : Type 0} (a : Account) (before now : ℕ) (held then : Contents) (k
       clock_is : clock_now ≡ k.clock + 1
       clock_is = omega (arith, h.clock)
 
-      began : IsUpTo a.holder.server a.ids.epoch k.drawn t
-      began = drawn_live a held k t y.life h y.is
-
       runs : a.fates t ≡ Running turn.client []
       runs = lone_runs a held k h t y.life y.is ∙ ap (λ (n : ℕ). Running n []) (y.alike.client ∙ own)
+
+      -- it keeps the decision
+      coordinated : IsCoordinatorBy a.holder.server a.ids.epoch a.ids.transactions (λ (u : TransId). cond {A = Fate} (same_trans t u) (fate.decided stamp [] (fate.finishing (a.fates u))) (a.fates u)) z
+      coordinated = record {
+        run = run_along a.holder.server a.ids.epoch a.ids.transactions mid z (run_along a.holder.server a.ids.epoch a.ids.transactions k.coordinator mid h.coordinator.run first) second;
+        fates = subst (λ (n : ℕ). (u : TransId) → IsFateOf a.ids.epoch u (fate_in z u) (cond {A = Fate} (same_trans t u) (fate.decided (record { ts = n + 1; trans = t }) [] (fate.finishing (a.fates u))) (a.fates u))) (sym h.clock)
+            (known_decided a.ids.epoch t turn.client (k.clock + 1) k.coordinator mid z a.fates runs h.coordinator.fates finished decided);
+      }
 
       commit_as : then.cells ≡ cells_now → then.notes ≡ map.insert held.notes clock_name (clock_form.spell (record { epoch = k.epoch; clock = k.clock + 1 }))
           → IsQuiet (with_commit_given a turn.client turn.number w t y.life (granted_behind k t))
@@ -354,14 +363,9 @@ module _ {V : Type 0} (a : Account) (before now : ℕ) (held then : Contents) (k
             asked = subst (λ (x : Holder). AllByRecursion (IsWaitingAs x state_commit.locked) server_commit.waits) rest g.all.asked;
             lives = each_then;
             room = eased_room (blocks_then a held k h t l live y.life y.is y.alike) k.sizes cells_now server_commit.lives (map.keys k.lives) g.all.fits;
-            unborn = λ u z lives. (unborn_then u z (map.get server_commit.lives u) refl lives (g.all.lives u)).0;
-            current = λ u z lives. (unborn_then u z (map.get server_commit.lives u) refl lives (g.all.lives u)).1;
-            drawn = h.drawn;
-            begun = h.begun;
-            undrawn = still_undrawn a.holder.server a.ids.epoch k.drawn a.fates t (λ f. fate.decided stamp [] (fate.finishing f)) refl h.undrawn;
+            unborn = λ u z lives. unborn_then u z (map.get server_commit.lives u) refl lives (g.all.lives u);
+            coordinator = coordinated;
             plain = plain_moved a.fates t (λ f. fate.decided stamp [] (fate.finishing f)) (decided_plain stamp) h.plain;
-            ends = subst (λ (n : ℕ). HaveEnds a.holder.server a.ids.epoch k.drawn (with_time k.decisions t.counter (n + 1)) told.fates) h.clock
-                (ends_decided a.holder.server a.ids.epoch k.drawn k.decisions a.fates t turn.client (a.holder.clock + 1) began.here began.now began.some (omega (arith, began.low, ready.decisions.all)) (omega arith) runs h.ends);
             lone = h.lone;
             files = h.files;
             made = h.made;
@@ -391,11 +395,11 @@ module _ {V : Type 0} (a : Account) (before now : ℕ) (held then : Contents) (k
             let same_blocks : blocks ≡ blocks_then a held k h t l live y.life y.is y.alike = opened ∙ ap (λ (i : Intents). new_blocks held.cells i.puts) y.alike.intents ∙ ap (λ (m : Cells). new_blocks m (intents_of es).puts) (h.cells up) in
             let kept_is : committed_kept blocks ≡ kept_with g (server_commit g).lives (server_commit g).waits (blocks_then a held k h t l live y.life y.is y.alike) =
             ap committed_kept same_blocks
-            ∙ ap (λ (z : ServerState V). record z {
-              lives = eased (blocks_then a held k h t l live y.life y.is y.alike) z.lives (map.keys k.lives);
+            ∙ ap (λ (q : ServerState V). record q {
+              lives = eased (blocks_then a held k h t l live y.life y.is y.alike) q.lives (map.keys k.lives);
               sessions = counted_in k.sessions turn (reply.Committed stamp_at);
               clock = k.clock + 1;
-              decisions = with_time k.decisions t.counter (k.clock + 1);
+              coordinator = z;
               vault = v;
             }) (let_go_commit g) in
             subst (λ (z : ServerState V). Stepped a before now then z (event.Call turn.client k.epoch turn.number (call.Finish t true)) x) (sym kept_is)
@@ -428,12 +432,8 @@ halted_as a m held then k v ds is quiet h =
       lives = h.lives;
       room = h.room;
       unborn = h.unborn;
-      current = h.current;
-      drawn = h.drawn;
-      begun = h.begun;
-      undrawn = h.undrawn;
+      coordinator = h.coordinator;
       plain = h.plain;
-      ends = h.ends;
       lone = h.lone;
       files = h.files;
       made = h.made;

@@ -33,6 +33,7 @@ use Rattle.alp_journal.specs.Restarts.{restart_entry, restarted_at, restarted, w
 use Rattle.alp_journal.proofs.RestartLemmas.{restart_leads}
 use Rattle.alp_journal.proofs.RestartMade.{commit_made_leads, none_then, cells_then, kept_then}
 use Rattle.alp_journal.proofs.IdLemmas.{all-append}
+use Rattle.alp_coord.specs.Coordinators.{IsOf}
 use Rattle.alp_node.specs.DownStates.{DownState}
 use Rattle.alp_node.specs.NodeStates.{NodeState}
 use Rattle.alp_node.specs.Durable.{clock_notes, stored_by}
@@ -47,7 +48,7 @@ use Rattle.alp_node.proofs.NodeLemmas.{state_after-push, Along-push, sent_pushed
 use Rattle.alp_node.proofs.NoteLemmas.{noted_alone, put_first}
 use Rattle.alp_node.proofs.OneServer.{tried_one}
 use Rattle.alp_node.proofs.PastLemmas.{past_of, past_noted, decided_noted, lost_as, made_as}
-use Rattle.alp_node.proofs.StartLemmas.{new_kept, new_ready}
+use Rattle.alp_node.proofs.StartLemmas.{IsNewCoordinator, new_kept, new_ready}
 
 -- ---- a server falls
 
@@ -222,7 +223,7 @@ record LeadsTo {V : Type 0} (a : Account) (e : Entry) (held : Contents) (k : Ser
   kept : IsAs next held k
 
 module _ {V : Type 0} (old : ServerState V) (server servers epoch : ℕ) (sizes : Sizes) (a : Account) (past : IsPast a server epoch sizes) (some : 0 < epoch) (low : epoch < 4294967295)
-    (found held : Contents) (notes : AreNotesSoFar server servers found.notes) (is : held ≡ with_clock found (next_clock epoch found)) (volume : IsVolumeOf sizes held.cells) where
+    (found held : Contents) (notes : AreNotesSoFar server servers found.notes) (is : held ≡ with_clock found (next_clock epoch found)) (volume : IsVolumeOf sizes held.cells) (fresh : IsNewCoordinator a.holder.server (epoch + 1) old.coordinator) where
   abbrev clock : ClockNote
   clock = next_clock epoch found
 
@@ -243,7 +244,7 @@ module _ {V : Type 0} (old : ServerState V) (server servers epoch : ℕ) (sizes 
       record {
         next = restarted_at a clock.clock;
         leads = subst (λ (n : ℕ). Leads false a (entry_again clock) (restarted_at a n)) (sym at) (subst (λ (e : Entry). Leads false a e (restarted a)) (entry_is a.holder.kept at) leads);
-        kept = lost_as old server epoch sizes a past some clock held later at cells held_notes volume leads.quiet;
+        kept = lost_as old server epoch sizes a past some clock held fresh later at cells held_notes volume leads.quiet;
       }
 
   made : (near : ℕ) → (near ≡ a.ids.epoch) ⊎ (near ≡ a.ids.epoch + 1) → found ≡ stored_by near (holder_then (account_state a)) → (a.pending ≡ []) ⊎ IsTriedCommit a → LeadsTo a (entry_again clock) held (new_kept old a.holder.server sizes clock)
@@ -256,7 +257,7 @@ module _ {V : Type 0} (old : ServerState V) (server servers epoch : ℕ) (sizes 
       record {
         next = restarted_at (with_decided a c.stamp c.life []) clock.clock;
         leads = subst (λ (n : ℕ). Leads false a (entry_again clock) (restarted_at (with_decided a c.stamp c.life []) n)) (sym at) (subst (λ (e : Entry). Leads false a e (restarted_with a c.stamp c.life [])) (entry_is c.stamp.ts at) leads);
-        kept = made_as old server epoch sizes a past some c clock held later at cells held_notes volume leads.quiet;
+        kept = made_as old server epoch sizes a past some c clock held fresh later at cells held_notes volume leads.quiet;
       }
 
   -- whichever it is that was found
@@ -267,15 +268,16 @@ module _ {V : Type 0} (old : ServerState V) (server servers epoch : ℕ) (sizes 
 pub again_right : {V : Type 0} (G : Ghosts V) (d : DownState V) (n : NodeState V) (held : Contents) (clock : ClockNote) → IsFallen G d → IsTrue (G.tells d.vault) → d.epoch < 4294967295
     → n.opening ≡ d.opening → n.journal ≡ d.journal ++ entry_again clock ∷ [] → n.kept ≡ new_kept n.kept d.server (G.volume d.vault) clock
     → (found : Contents) → G.may_leave d.vault found → AreNotesSoFar (G.server d.vault) (G.servers d.vault) found.notes → clock ≡ next_clock d.epoch found → held ≡ with_clock found clock → IsVolumeOf (G.volume d.vault) held.cells
-    → IsRight (start_in G n) held n
-again_right G d n held clock h told low opening is kept found left notes next_is held_is volume =
+    → IsNewCoordinator d.server (d.epoch + 1) n.kept.coordinator → IsRight (start_in G n) held n
+again_right G d n held clock h told low opening is kept found left notes next_is held_is volume fresh =
     let r : IsPastRight (start_of G d) (G.volume d.vault) d = h.right told in
     let o : Start = start_of G d in
     let a : Account = r.state in
     let same_start : o ≡ start_in G n = (λ i. start_by G (sym (ap (λ (k : ServerState _). k.server) kept) i) (sym opening i).vault.value) in
     let l : IsLeftOf (account_state a) found = subst (λ (z : State). IsLeftOf z found) r.says (h.left told found left) in
     let to : LeadsTo a (entry_again (next_clock d.epoch found)) held (new_kept n.kept a.holder.server (G.volume d.vault) (next_clock d.epoch found)) =
-    again n.kept d.server (G.servers d.vault) d.epoch (G.volume d.vault) a r.past h.raised low found held (subst (λ (m : ℕ). AreNotesSoFar m (G.servers d.vault) found.notes) h.number notes) (held_is ∙ ap (with_clock found) next_is) volume l in
+    again n.kept d.server (G.servers d.vault) d.epoch (G.volume d.vault) a r.past h.raised low found held (subst (λ (m : ℕ). AreNotesSoFar m (G.servers d.vault) found.notes) h.number notes) (held_is ∙ ap (with_clock found) next_is) volume
+    (subst (λ (m : ℕ). IsNewCoordinator m (d.epoch + 1) n.kept.coordinator) (sym r.past.number) fresh) l in
     let e : Entry = entry_again clock in
     let leads : Leads false a e to.next = subst (λ (c : ClockNote). Leads false a (entry_again c) to.next) (sym next_is) to.leads in
     subst (λ (x : Start). IsRight x held n) same_start (record {
@@ -291,7 +293,10 @@ again_right G d n held clock h told low opening is kept found left notes next_is
 
 module _ {V : Type 0} (G : Ghosts V) (d : DownState V) (n : NodeState V) (clock : ClockNote) (h : IsFallen G d) (b : HasBegunEpoch G d.epoch d.vault n.kept.vault clock) (low : d.epoch < 4294967295)
     (opening : n.opening ≡ d.opening) (servers : n.servers ≡ d.servers) (journal : n.journal ≡ d.journal ++ entry_again clock ∷ []) (nobody : KeepsNobody n.kept) (server : n.kept.server ≡ d.server)
-    (sizes : n.kept.sizes ≡ G.volume n.kept.vault) (epoch : n.kept.epoch ≡ clock.epoch) (time : n.kept.clock ≡ clock.clock) where
+    (sizes : n.kept.sizes ≡ G.volume n.kept.vault) (epoch : n.kept.epoch ≡ clock.epoch) (time : n.kept.clock ≡ clock.clock) (run : IsOf d.server clock.epoch 0 n.kept.coordinator) where
+  fresh : IsNewCoordinator d.server clock.epoch n.kept.coordinator
+  fresh = record { run = run; none = nobody.fates }
+
   told_down : IsTrue (G.tells n.kept.vault) → IsTrue (G.tells d.vault)
   told_down told = subst IsTrue b.same.telling told
 
@@ -301,8 +306,6 @@ module _ {V : Type 0} (G : Ghosts V) (d : DownState V) (n : NodeState V) (clock 
     sizes = sizes i;
     epoch = epoch i;
     clock = time i;
-    drawn = nobody.drawn i;
-    decisions = nobody.decisions i;
     given = nobody.given i;
     sessions = nobody.sessions i;
     lives = nobody.lives i;
@@ -320,7 +323,7 @@ module _ {V : Type 0} (G : Ghosts V) (d : DownState V) (n : NodeState V) (clock 
     all = b.same.of_all ∙ h.all ∙ sym servers;
     sizes = sizes;
     ready = subst (IsReady (length n.journal) (G.serves n.kept.vault)) (sym kept_is)
-        (new_ready (length n.journal) n.kept d.server (G.volume n.kept.vault) clock (G.serves n.kept.vault) b.serving b.within (omega (arith, b.epoch)) (omega (arith, b.epoch, low)) area (subst IsSound nobody.locks sound));
+        (new_ready (length n.journal) n.kept d.server (G.volume n.kept.vault) clock (G.serves n.kept.vault) b.serving b.within (omega (arith, b.epoch)) (omega (arith, b.epoch, low)) area (subst IsSound nobody.locks sound) fresh);
     noted = ((λ up. b.format), (λ up. ap (λ (c : ClockNote). c.epoch) b.note ∙ sym epoch));
     mute = sent_pushed d.journal n.journal (entry_again clock) journal h.mute refl;
     right = right;
@@ -331,7 +334,7 @@ module _ {V : Type 0} (G : Ghosts V) (d : DownState V) (n : NodeState V) (clock 
       right told =
           let x : HasRegained G d.epoch d.vault n.kept.vault clock = b.regained (told_down told) in
           again_right G d n (G.held n.kept.vault) clock h (told_down told) low opening journal (kept_is ∙ (λ i. new_kept n.kept d.server (b.same.sizes i) clock)) x.found x.left x.notes x.next x.held
-          (subst (λ (s : Sizes). IsVolumeOf s (G.held n.kept.vault).cells) b.same.sizes (volume told))
+          (subst (λ (s : Sizes). IsVolumeOf s (G.held n.kept.vault).cells) b.same.sizes (volume told)) (subst (λ (m : ℕ). IsNewCoordinator d.server m n.kept.coordinator) b.epoch fresh)
 
   clock_is : clock ≡ record { epoch = n.kept.epoch; clock = n.kept.clock }
   clock_is = λ i. record { epoch = sym epoch i; clock = sym time i }

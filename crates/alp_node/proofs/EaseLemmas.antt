@@ -11,12 +11,14 @@ use Rattle.alp_calls.specs.Parts.{IsPart}
 use Rattle.alp_files.specs.Cells.{Cells}
 use Rattle.alp_journal.specs.Ids.{same_trans}
 use Rattle.alp_journal.proofs.IdLemmas.{same_trans-true}
+use Rattle.alp_coord.specs.Coordinators.{count_of}
 use Rattle.alp_node.specs.Eases.{eased_live, eased_if, eased}
 use Rattle.alp_node.specs.Asks.{is_given}
 use Rattle.alp_node.specs.Rooms.{IsWithin}
-use Rattle.alp_node.specs.ServerState.{IsReady, IsNumbered}
+use Rattle.alp_node.specs.ServerState.{IsReady}
 use Rattle.alp_node.specs.declared.server_state.ServerState.{ServerState}
 use Rattle.alp_node.specs.Totals.{LiveMap, totals_of, HaveRoom}
+use Rattle.alp_node.specs.Transactions.{owner_of}
 use Rattle.alp_node.specs.declared.lives.Live.{Live}
 use Rattle.alp_node.specs.declared.waits.WaitingCall.{WaitingCall}
 use Rattle.alp_node.specs.Dead.{cause_in}
@@ -25,6 +27,7 @@ use Rattle.alp_node.proofs.KeysOnce.{AreOnce}
 use Rattle.alp_node.proofs.KeptLemmas.{same_live}
 use Rattle.alp_node.proofs.MapLemmas.{get_put, put_length}
 use Rattle.alp_node.proofs.TotalLemmas.{among, swapped_room}
+use Rattle.alp_node.proofs.TransactionLemmas.{own_alike}
 
 -- ---- one part
 
@@ -83,6 +86,19 @@ module _ (blocks : List Key) where
       go true None e = e
       go true (Some l) e = refl
 
+  -- each is its client's as before
+  if_owner : (m : LiveMap) (t u : TransId) → owner_of (map.get (eased_if blocks m t (map.get m t)) u) ≡ owner_of (map.get m u)
+  if_owner m t u = ap owner_of (if_get m t (map.get m t) u refl) ∙ go (same_trans u t) (map.get m u)
+    where
+      go : (b : Bool) (x : Option Live) → owner_of (cond {A = Option Live} b (option_map (eased_live blocks) x) x) ≡ owner_of x
+      go false x = refl
+      go true None = refl
+      go true (Some l) = refl
+
+  pub eased_owner : (m : LiveMap) (ts : List TransId) (u : TransId) → owner_of (map.get (eased blocks m ts) u) ≡ owner_of (map.get m u)
+  eased_owner m [] u = refl
+  eased_owner m (t ∷ ts) u = eased_owner (eased_if blocks m t (map.get m t)) ts u ∙ if_owner m t u
+
   -- whoever was live is so still
   pub eased_live_still : (m : LiveMap) (ts : List TransId) (u : TransId) → is_some (map.get m u) ≡ true → is_some (map.get (eased blocks m ts) u) ≡ true
   eased_live_still m [] u live = live
@@ -133,10 +149,10 @@ eased_ready n serves k blocks ts h = record {
   halted = h.halted;
   sound = h.sound;
   taken = h.taken;
-  waits = waiting_parts k.server k.epoch k.given k.given (le_refl k.given) k.drawn k.sizes k.lives (eased blocks k.lives ts) k.waits k.locks.waiting
+  waits = waiting_parts k.server k.epoch k.given k.given (le_refl k.given) (count_of k.coordinator) k.sizes k.lives (eased blocks k.lives ts) k.waits k.locks.waiting
       (eased_like k.waits) (λ t live. eased_live_still blocks k.lives ts t live) h.waits;
   known = λ t l is. each_eased blocks (λ x. is_some (map.get k.locks.held t) ≡ true) (λ x so. so) k.lives ts t (h.known t) l is;
-  begun = λ t l is. each_eased blocks (λ x. IsNumbered k.drawn t) (λ x so. so) k.lives ts t (h.begun t) l is;
+  own = own_alike k.coordinator k.lives (eased blocks k.lives ts) (λ t. eased_owner blocks k.lives ts t) h.own;
   opens = λ t l is. each_eased blocks (λ x. x.part.last ≤ n) (λ x so. so) k.lives ts t (h.opens t) l is;
   opened = λ t l is. each_eased blocks (λ x. list_all (λ o. is_given k.server k.epoch k.given o.file) x.part.opens.items ≡ true) (λ x so. so) k.lives ts t (h.opened t) l is;
   callers = λ t l is. each_eased blocks (λ x. is_some x.who ≡ true) (λ x so. so) k.lives ts t (h.callers t) l is;
@@ -155,7 +171,8 @@ eased_ready n serves k blocks ts h = record {
   raised = h.raised;
   last = h.last;
   unheld = h.unheld;
-  decisions = h.decisions;
+  seat = h.seat;
+  times = h.times;
 }
   where
     eased_like : (ws : List WaitingCall) → AllByRecursion (IsLikeThen k.lives (eased blocks k.lives ts)) ws

@@ -1,9 +1,9 @@
 -- greetings and begins, as the server keeps them
-use Rattle.std.specs.Prelude.{cond, Bool, true, false, ◌==◌, ◌&&◌, ◌||◌, not, max, filter, Option, None, Some, is_some, is_none, IsSome, nat_lt, nat_le}
+use Rattle.std.specs.Prelude.{cond, Bool, true, false, ◌==◌, ◌&&◌, ◌||◌, not, max, filter, Option, None, Some, is_some, is_none, IsSome, nat_le}
 use Rattle.std.specs.List.{AllByRecursion}
 use Rattle.std.specs.FinMap as map
-use Rattle.std.proofs.Common.{◌≡◌, ℕ, suc, ◌+◌, ◌<◌, ◌≤◌, List, [], ◌∷◌, ◌++◌, length, append_assoc, refl, sym, ◌∙◌, ap, subst, arith, eq-eqb}
-use Rattle.std.proofs.lemmas.Bool.{le-leb, leb-true, ltb-true, eqb-true}
+use Rattle.std.proofs.Common.{◌≡◌, ℕ, ◌+◌, ◌<◌, ◌≤◌, List, [], ◌∷◌, length, refl, sym, ◌∙◌, ap, subst, arith}
+use Rattle.std.proofs.lemmas.Bool.{leb-false, eqb-true}
 use Rattle.alp_base.specs.declared.ids.JoinNo.{JoinNo}
 use Rattle.alp_base.specs.declared.ids.Stamp.{Stamp}
 use Rattle.alp_base.specs.declared.ids.TransId.{TransId}
@@ -32,7 +32,8 @@ use Rattle.alp_vault.specs.Contents.{Contents}
 use Rattle.alp_journal.specs.declared.act.Act.TheVariants as act
 use Rattle.alp_journal.specs.declared.event.Event.TheVariants as event
 use Rattle.alp_journal.specs.Ids.{same_trans}
-use Rattle.alp_journal.specs.Coordinator.{Fate, Undrawn, Running, Finishing, Committed, Forgotten, Ended, decision_in}
+use Rattle.alp_journal.specs.Deeds.{Begins}
+use Rattle.alp_journal.specs.Coordinator.{Fate, decision_in}
 use Rattle.alp_journal.specs.Participant.{live_in}
 use Rattle.alp_journal.specs.Coordinator as fate
 use Rattle.alp_journal.specs.Holder.{Life, new_life}
@@ -40,15 +41,17 @@ use Rattle.alp_journal.specs.Counts.{lock_set}
 use Rattle.alp_journal.specs.Moves.{next_trans}
 use Rattle.alp_journal.specs.Answers.{too_many, is_counted, count_of_transactions, if_over}
 use Rattle.alp_journal.specs.Account.{Account, state_of, IsQuiet, IsPartOf, IsOfPart, Leads}
-use Rattle.alp_journal.proofs.IdLemmas.{same_trans-true, all-filter}
+use Rattle.alp_journal.proofs.IdLemmas.{all-filter}
 use Rattle.alp_journal.proofs.StandLemmas.{live_undecided}
 use Rattle.alp_journal.proofs.WaitLemmas.{all-stay}
 use Rattle.alp_journal.proofs.BeginCalls.{hello_entry, with_hello, hello_leads, with_begun, begin_leads, is_buried, unburied, is_decided, undecided, with_buried_as, buried_quiet, with_buried, begin_refused_leads}
 use Rattle.alp_journal.proofs.CollectCalls.{none_dead}
 use Rattle.alp_node.specs.Dead.{cause_in, without_client}
-use Rattle.alp_node.specs.Decisions.{HaveEnds}
+use Rattle.alp_coord.specs.declared.coordinator.Coordinator.{Coordinator}
+use Rattle.alp_coord.specs.Coordinators.{IsOf, Comes, server_of, epoch_of, count_of, next_id, fate_in, counted_of}
+use Rattle.alp_coord.specs.Likeness.{IsFateOf}
 use Rattle.alp_node.specs.Sessions.{session_at, with_session}
-use Rattle.alp_node.specs.ServerState.{IsAs, IsAlike, IsWaitingAs, PutNoneBeyond, trans_to, is_beyond}
+use Rattle.alp_node.specs.ServerState.{IsAs, IsAlike, IsWaitingAs, PutNoneBeyond}
 use Rattle.alp_node.specs.Steps.{Stepped, told_answer, refused_answer, entry_of}
 use Rattle.alp_node.specs.declared.answer.Answer.{Answer}
 use Rattle.alp_node.specs.declared.lives.Live.{Live}
@@ -59,22 +62,15 @@ use Rattle.alp_node.specs.Totals.{LiveMap}
 use Rattle.alp_node.specs.declared.lock_counts.LockCounts.{LockCounts}
 use Rattle.alp_node.proofs.BesideLemmas.{AreNamed, AreFileCalls, AreOthers, counted_named, others_told, part_named, filter_told, queue_beside, asked_beside}
 use Rattle.alp_journal.specs.Desk.{Session, Waiting, file_trans, part_trans, is_of, is_on}
-use Rattle.alp_node.proofs.CountLemmas.{count_pass}
-use Rattle.alp_node.proofs.LiveSums.{up_to_drawn, begun_now, not_reached}
 use Rattle.alp_node.proofs.TotalLemmas.{added_room}
 use Rattle.alp_calls.proofs.CountLaws.{counts_begin}
 use Rattle.alp_node.proofs.DeadLemmas.{dead_buried}
-use Rattle.alp_node.proofs.DecisionLemmas.{ends_begin, plain_moved, begun_plain}
-use Rattle.alp_node.proofs.KeptLemmas.{sessions_as, stands_timely, alike_set, each_set, each_set_at, none_held, stepped_so}
+use Rattle.alp_node.proofs.DecisionLemmas.{plain_moved, begun_plain}
+use Rattle.alp_node.proofs.KeptLemmas.{sessions_as, stands_timely, alike_set, each_set, none_held, stepped_so}
 use Rattle.alp_node.proofs.MapLemmas.{places_set, get_put}
-use Rattle.alp_node.proofs.OneServer.{IsOne, one_pair, none_join_counts, told_undecided}
+use Rattle.alp_node.proofs.OneServer.{none_join_counts, told_undecided}
+use Rattle.alp_node.proofs.TransactionLemmas.{next_told, known_begun, count_told}
 use Rattle.alp_node.proofs.WaitLemmas.{counts_there}
-
--- the ids up to a counter, and the next
-one_more : (server epoch n : ℕ) → trans_to server epoch n ++ (record { server = server; epoch = epoch; counter = n + 1 }) ∷ [] ≡ trans_to server epoch (n + 1)
-one_more server epoch n =
-    let next : suc n ≡ n + 1 = omega arith in
-    ap (λ (m : ℕ). trans_to server epoch n ++ (record { server = server; epoch = epoch; counter = m }) ∷ []) (sym next) ∙ ap (trans_to server epoch) next
 
 -- ---- a greeting
 
@@ -106,12 +102,8 @@ hello_stepped a before now held k client name x h le up first is =
         lives = h.lives;
         room = h.room;
         unborn = h.unborn;
-        current = h.current;
-        drawn = h.drawn;
-        begun = h.begun;
-        undrawn = h.undrawn;
+        coordinator = h.coordinator;
         plain = h.plain;
-        ends = h.ends;
         lone = h.lone;
         files = h.files;
         made = h.made;
@@ -128,16 +120,9 @@ hello_stepped a before now held k client name x h le up first is =
 
 -- ---- a transaction begins
 
--- just live transactions are counted
-counted_live : (l : Option Life) (f : Fate) → IsOne l f → is_counted f ≡ is_some l
-counted_live (Some l) f h = ap is_counted h.0
-counted_live None Undrawn h = refl
-counted_live None (Running client joins) h = absurd h
-counted_live None (Finishing client joins votes) h = absurd h
-counted_live None (Committed stamp [] done) h = refl
-counted_live None (Committed stamp (j ∷ joins) done) h = cc
-counted_live None (Forgotten stamp joins) h = absurd h
-counted_live None (Ended c) h = refl
+-- that as many count as may be
+abbrev pub many_of : Coordinator → Option Refusal
+many_of c = if_over (nat_le 64 (counted_of c)) (refusal.TooMany what.Transactions 64)
 
 kept_live : (cells : Cells) (locks : Holders) (rs : List Resource) (t : TransId) (o : Option Live) (x : Option Life) → IsAlike cells locks rs t o x → is_some x ≡ is_some o
 kept_live cells locks rs t None None h = refl
@@ -145,25 +130,31 @@ kept_live cells locks rs t (Some l) (Some life) h = refl
 kept_live cells locks rs t None (Some life) h = absurd h
 kept_live cells locks rs t (Some l) None h = absurd h
 
--- so many are counted as are live
-pub count_live : {V : Type 0} (a : Account) (held : Contents) (k : ServerState V) → IsAs a held k → count_of_transactions (state_of a) ≡ map.len k.lives
-count_live a held k h =
-    let count : length (filter (λ t. is_counted (a.fates t)) a.begun) ≡ map.len k.lives =
-    ap (λ (ts : List TransId). length ts) (begun_now a held k h (λ t. is_counted (a.fates t)) (λ t gone. counted_live (a.holder.lives t) (a.fates t) (one_pair a held k h t) ∙ ap (λ (x : Option Life). is_some x) gone))
-    ∙ count_pass (λ t. is_counted (a.fates t)) a.holder.server a.ids.epoch k.drawn k.lives (up_to_drawn a held k h)
-    (λ t. counted_live (a.holder.lives t) (a.fates t) (one_pair a held k h t) ∙ kept_live a.holder.cells k.locks.held (a.locked t) t (map.get k.lives t) (a.holder.lives t) (h.lives t)) in
+-- so many count as the coordinator counts
+count_counted : {V : Type 0} (a : Account) (held : Contents) (k : ServerState V) → IsAs a held k → count_of_transactions (state_of a) ≡ counted_of k.coordinator
+count_counted a held k h =
+    let own : length (filter (λ t. is_counted (a.fates t)) a.begun) ≡ counted_of k.coordinator = count_told a h.quiet.settled.stands k.coordinator h.coordinator in
     let joins : length (filter (λ j. is_some (live_in (a.phases j))) a.joined) ≡ 0 = ap (λ (js : List JoinNo). length js) (none_join_counts a h.lone h.quiet.settled.stands) in
-    omega (arith, count, joins)
+    omega (arith, own, joins)
 
--- fewer than 64 are live
-few_live : {V : Type 0} (a : Account) (held : Contents) (k : ServerState V) → IsAs a held k → map.len k.lives < 64 → too_many (state_of a) ≡ None
-few_live a held k h few =
-    ap (λ (b : Bool). if_over b (refusal.TooMany what.Transactions 64)) (ap (nat_le 64) (count_live a held k h) ∙ not_reached 64 (map.len k.lives) few)
+-- and where these are as many as may be, that is said
+pub many_told : {V : Type 0} (a : Account) (held : Contents) (k : ServerState V) → IsAs a held k → too_many (state_of a) ≡ many_of k.coordinator
+many_told a held k h = ap (λ (n : ℕ). if_over (nat_le 64 n) (refusal.TooMany what.Transactions 64)) (count_counted a held k h)
 
--- as many are live as may be
-many_live : {V : Type 0} (a : Account) (held : Contents) (k : ServerState V) → IsAs a held k → 64 ≤ map.len k.lives → too_many (state_of a) ≡ Some (refusal.TooMany what.Transactions 64)
-many_live a held k h many =
-    ap (λ (b : Bool). if_over b (refusal.TooMany what.Transactions 64)) (ap (nat_le 64) (count_live a held k h) ∙ le-leb 64 (map.len k.lives) many)
+pub over_is : (b : Bool) (f g : Refusal) → if_over b f ≡ Some g → g ≡ f
+over_is true f g e = sym (one f g e)
+  where
+    one : (x y : Refusal) → Some x ≡ Some y → x ≡ y
+    one x y e = cc
+over_is false f g e = let wrong : None ≡ Some g = e in cc
+
+-- else there are fewer
+pub few_of : (c : Coordinator) → many_of c ≡ None → counted_of c < 64
+few_of c none = go (nat_le 64 (counted_of c)) refl none
+  where
+    go : (b : Bool) → nat_le 64 (counted_of c) ≡ b → if_over b (refusal.TooMany what.Transactions 64) ≡ None → counted_of c < 64
+    go true e over = let wrong : Some (refusal.TooMany what.Transactions 64) ≡ None = over in cc
+    go false e over = leb-false 64 (counted_of c) e
 
 -- ---- calls of dead parts go
 
@@ -315,12 +306,8 @@ module _ {V : Type 0} (a : Account) (held : Contents) (k : ServerState V) (clien
     lives = h.lives;
     room = h.room;
     unborn = h.unborn;
-    current = h.current;
-    drawn = h.drawn;
-    begun = h.begun;
-    undrawn = h.undrawn;
+    coordinator = h.coordinator;
     plain = h.plain;
-    ends = h.ends;
     lone = h.lone;
     files = h.files;
     made = h.made;
@@ -338,21 +325,21 @@ module _ {V : Type 0} (a : Account) (held : Contents) (k : ServerState V) (clien
   abbrev pub cleared_kept : Reply → ServerState V
   cleared_kept r = record k { sessions = with_session k.sessions client (record w { last = number; reply = r }); dead = without_client client k.dead; waits = live_calls client k.lives (without_dead client k.dead k.waits) }
 
-  -- as many are live as may be: the begin is refused, and the client's dead parts go
-  pub begin_refused_stepped : (before now : ℕ) (x : Answer) → IsAs a held k → client ≤ 16 → k.is_down ≡ false → session_at k.sessions client ≡ Some w → number ≡ w.last + 1 → 64 ≤ map.len k.lives → AreNamed k.waits → AreFileCalls k.waits
+  -- as many count as may be: the begin is refused, and the client's dead parts go
+  pub begin_refused_stepped : (before now : ℕ) (x : Answer) → IsAs a held k → client ≤ 16 → k.is_down ≡ false → session_at k.sessions client ≡ Some w → number ≡ w.last + 1 → many_of k.coordinator ≡ Some (refusal.TooMany what.Transactions 64) → AreNamed k.waits → AreFileCalls k.waits
       → x ≡ refused_answer (refusal.TooMany what.Transactions 64) []
       → Stepped a before now held (cleared_kept (reply.Refused (refusal.TooMany what.Transactions 64))) (event.Call client k.epoch number (call.Begin seen)) x
   begin_refused_stepped before now x h le up there turn many named files is =
       let f : Refusal = refusal.TooMany what.Transactions 64 in
-      let leads = begin_refused_leads a client number w seen f h.quiet (h.down ∙ up) (h.sessions client ∙ there) turn (many_live a held k h many) in
+      let leads = begin_refused_leads a client number w seen f h.quiet (h.down ∙ up) (h.sessions client ∙ there) turn (many_told a held k h ∙ many) in
       stepped_so a before now held held k (cleared_kept (reply.Refused f)) client number w (call.Begin seen) false (reply.Refused f) [] (with_buried a client number w f) x is h leads
       (subst (λ (ws : List Waiting). IsAs (record (with_buried_as a client number w (reply.Refused f)) { waits = ws }) held (cleared_kept (reply.Refused f))) (sym (undecided_is a held k client h named files))
       (subst (λ (vs : List WaitingCall). IsAs (with_buried_as a client number w (reply.Refused f)) held (record (buried_kept a held k client number w (reply.Refused f)) { waits = vs })) (sym (others_stay a held k client h k.lives (λ t l at. at) named files))
       (buried_as a held k client number w (reply.Refused f) h le up named (buried_quiet a client number w (reply.Refused f) h.quiet (h.sessions client ∙ there) turn)))) (λ e. cc) (omega (arith, h.clock))
 
-module _ {V : Type 0} (a : Account) (held : Contents) (k : ServerState V) (client number : ℕ) (w : Session) (seen : Stamp) (p : Part) where
+module _ {V : Type 0} (a : Account) (held : Contents) (k : ServerState V) (client number : ℕ) (w : Session) (seen : Stamp) (p : Part) (c : Coordinator) where
   abbrev pub begun_trans : TransId
-  begun_trans = record { server = k.server; epoch = k.epoch; counter = k.drawn + 1 }
+  begun_trans = next_id k.coordinator
 
   abbrev pub begun_live : Live
   begun_live = record { client = client; who = Some w.who; part = p; locks = 0; join = None }
@@ -361,8 +348,7 @@ module _ {V : Type 0} (a : Account) (held : Contents) (k : ServerState V) (clien
   with_begun_kept locks = record k {
     sessions = with_session k.sessions client (record w { last = number; reply = reply.Begun begun_trans });
     clock = max k.clock seen.ts;
-    drawn = k.drawn + 1;
-    decisions = k.decisions ++ 0 ∷ [];
+    coordinator = c;
     dead = without_client client k.dead;
     lives = map.insert k.lives begun_trans begun_live;
     waits = live_calls client (map.insert k.lives begun_trans begun_live) (without_dead client k.dead k.waits);
@@ -370,7 +356,7 @@ module _ {V : Type 0} (a : Account) (held : Contents) (k : ServerState V) (clien
   }
 
   trans_same : IsAs a held k → next_trans (state_of a) ≡ begun_trans
-  trans_same h = λ i. record { server = h.server i; epoch = h.epoch i; counter = h.drawn i + 1 }
+  trans_same h = next_told a.holder.server a.ids.epoch a.ids.transactions a.fates k.coordinator h.coordinator
 
   begun_alike : (locks : Holders) → map.get k.lives begun_trans ≡ None → ((u : TransId) (r : Resource) → holding locks u r ≡ holding k.locks.held u r) → own_of p ≡ no_opens → p.intents ≡ no_intents → p.counts ≡ no_counts → IsAs a held k
       → (u : TransId) → IsAlike a.holder.cells locks (lock_set a.locked begun_trans [] u) u (map.get (map.insert k.lives begun_trans begun_live) u) (cond {A = Option Life} (same_trans u begun_trans) (Some (new_life None client w.who)) (a.holder.lives u))
@@ -391,51 +377,6 @@ module _ {V : Type 0} (a : Account) (held : Contents) (k : ServerState V) (clien
         known = λ r. refl;
       }) u)
 
-  -- the next id was not drawn
-  beyond_next : (server epoch count : ℕ) → is_beyond server epoch count (record { server = server; epoch = epoch; counter = count + 1 }) ≡ true
-  beyond_next server epoch count = ap not ((λ i. eq-eqb server server refl i && le-leb 1 (count + 1) (omega arith) i && (not_less i || (eq-eqb epoch epoch refl i && not_le i))))
-    where
-      not_less : nat_lt epoch epoch ≡ false
-      not_less = go (nat_lt epoch epoch) refl
-        where
-          go : (b : Bool) → nat_lt epoch epoch ≡ b → b ≡ false
-          go false e = refl
-          go true e = (let wrong : epoch < epoch = ltb-true epoch epoch e in absurd (omega (arith, wrong)))
-
-      not_le : nat_le (count + 1) count ≡ false
-      not_le = go (nat_le (count + 1) count) refl
-        where
-          go : (b : Bool) → nat_le (count + 1) count ≡ b → b ≡ false
-          go false e = refl
-          go true e = (let wrong : count + 1 ≤ count = leb-true (count + 1) count e in absurd (omega (arith, wrong)))
-
-  -- and of those beyond it none was either
-  undrawn_then : (server epoch count : ℕ) (fates : TransId → Fate) → ((t : TransId) → is_beyond server epoch count t ≡ true → fates t ≡ Undrawn)
-      → (t : TransId) → is_beyond server epoch (count + 1) t ≡ true → cond {A = Fate} (same_trans (record { server = server; epoch = epoch; counter = count + 1 }) t) (fate.begun client (fates t)) (fates t) ≡ Undrawn
-  undrawn_then server epoch count fates before t far = go (same_trans next t) refl
-    where
-      next : TransId
-      next = record { server = server; epoch = epoch; counter = count + 1 }
-
-      either : (b : Bool) → (b || true) ≡ true
-      either true = refl
-      either false = refl
-
-      go : (b : Bool) → same_trans next t ≡ b → cond {A = Fate} b (fate.begun client (fates t)) (fates t) ≡ Undrawn
-      go true e =
-          let near : is_beyond server epoch (count + 1) t ≡ false = ap (is_beyond server epoch (count + 1)) (sym (same_trans-true next t e)) ∙ ap not ((λ i. eq-eqb server server refl i && le-leb 1 (count + 1) (omega arith) i && (nat_lt epoch epoch || (eq-eqb epoch epoch refl i && le-leb (count + 1) (count + 1) (omega arith) i))) ∙ either (nat_lt epoch epoch)) in
-          let wrong : true ≡ false = sym far ∙ near in
-          cc
-      go false e = before t (farther (t.server == server && nat_lt 0 t.counter) (nat_lt t.epoch epoch) (t.epoch == epoch) (nat_le t.counter (count + 1)) (nat_le t.counter count) (λ le. le-leb t.counter (count + 1) (let low : t.counter ≤ count = leb-true t.counter count le in omega (arith, low))) far)
-        where
-          farther : (x o n y z : Bool) → (z ≡ true → y ≡ true) → not (x && (o || (n && y))) ≡ true → not (x && (o || (n && z))) ≡ true
-          farther false o n y z h e = refl
-          farther true true n y z h e = e
-          farther true false false y z h e = refl
-          farther true false true y false h e = refl
-          farther true false true true true h e = e
-          farther true false true false true h e = let wrong : false ≡ true = h refl in cc
-
   -- who was live is so still
   lives_on : map.get k.lives begun_trans ≡ None → (t : TransId) (l : Live) → map.get k.lives t ≡ Some l → map.get (map.insert k.lives begun_trans begun_live) t ≡ Some l
   lives_on new t l there = get_put k.lives begun_trans begun_live t ∙ go (same_trans t begun_trans) refl
@@ -444,15 +385,14 @@ module _ {V : Type 0} (a : Account) (held : Contents) (k : ServerState V) (clien
       go false e = there
       go true e = let wrong : None ≡ Some l = sym new ∙ sym (ap (map.get k.lives) (same_trans-true t begun_trans e)) ∙ there in cc
 
-  pub begin_stepped : (before now : ℕ) (x : Answer) (locks : Table) → IsAs a held k → client ≤ 16 → k.is_down ≡ false → session_at k.sessions client ≡ Some w → number ≡ w.last + 1 → 0 < k.epoch → map.len k.lives < 64 → map.get k.lives begun_trans ≡ None
+  pub begin_stepped : (before now : ℕ) (x : Answer) (locks : Table) → IsAs a held k → client ≤ 16 → k.is_down ≡ false → session_at k.sessions client ≡ Some w → number ≡ w.last + 1 → 0 < k.epoch → many_of k.coordinator ≡ None → map.get k.lives begun_trans ≡ None
       → ((u : TransId) (r : Resource) → holding locks.held u r ≡ holding k.locks.held u r) → own_of p ≡ no_opens → p.intents ≡ no_intents → p.counts ≡ no_counts
-      → length k.decisions ≡ k.drawn → AreNamed k.waits → AreFileCalls k.waits → AreOthers begun_trans k.waits → locks.waiting ≡ k.locks.waiting → ((u : TransId) → held_of locks.held u ≡ held_of k.locks.held u)
+      → IsOf (server_of k.coordinator) (epoch_of k.coordinator) (count_of k.coordinator + 1) c → Comes (Begins begun_trans client w.who seen.ts) k.coordinator c → AreNamed k.waits → AreFileCalls k.waits → AreOthers begun_trans k.waits → locks.waiting ≡ k.locks.waiting → ((u : TransId) → held_of locks.held u ≡ held_of k.locks.held u)
       → x ≡ told_answer (Some (reply.Begun begun_trans)) (act.Drawn begun_trans ∷ [])
       → Stepped a before now held (with_begun_kept locks) (event.Call client k.epoch number (call.Begin seen)) x
-  begin_stepped before now x locks h le up there turn raised few new same opens none idle long named files away waiting beside is =
+  begin_stepped before now x locks h le up there turn raised few new same opens none idle one comes named files away waiting beside is =
       let next : next_trans (state_of a) ≡ begun_trans = trans_same h in
-      let undrawn : a.fates (next_trans (state_of a)) ≡ Undrawn = h.undrawn (next_trans (state_of a)) (subst (λ (n : ℕ). is_beyond a.holder.server a.ids.epoch n (next_trans (state_of a)) ≡ true) h.drawn (beyond_next a.holder.server a.ids.epoch a.ids.transactions)) in
-      let leads = begin_leads a client number w seen (subst (λ (n : ℕ). 0 < n) (sym h.epoch) raised) h.quiet (h.down ∙ up) (h.sessions client ∙ there) turn (few_live a held k h few) in
+      let leads = begin_leads a client number w seen (subst (λ (n : ℕ). 0 < n) (sym h.epoch) raised) h.quiet (h.down ∙ up) (h.sessions client ∙ there) turn (many_told a held k h ∙ few) in
       let m : Account = with_begun a client number w seen in
       let away_next : AreOthers (next_trans (state_of a)) k.waits = subst (λ (t : TransId). AreOthers t k.waits) (sym next) away in
       let counted : Session = record w { last = number; reply = reply.Begun begun_trans } in
@@ -473,21 +413,16 @@ module _ {V : Type 0} (a : Account) (held : Contents) (k : ServerState V) (clien
         room = added_room k.sizes a.holder.cells k.lives begun_trans begun_live new idle h.room;
         unborn = each_set (λ l. PutNoneBeyond a.holder.server a.ids.epoch k.given l.edits) (next_trans (state_of a)) (Some (new_life None client w.who)) a.holder.lives h.unborn
             (λ l at f comes. ap (λ (y : Life). edits_at y.edits (Leader f) None) (sym (same-some (new_life None client w.who) l at)));
-        current = each_set_at (λ u l. u.epoch ≡ a.ids.epoch) (next_trans (state_of a)) (Some (new_life None client w.who)) a.holder.lives h.current (λ l at. refl);
-        drawn = ap (λ (n : ℕ). n + 1) h.drawn;
-        begun = record {
-          early = h.begun.early;
-          old = h.begun.old;
-          all = (λ i. h.begun.all i ++ (record { server = a.holder.server; epoch = a.ids.epoch; counter = h.drawn i + 1 }) ∷ [])
-              ∙ append_assoc h.begun.early (trans_to a.holder.server a.ids.epoch k.drawn) ((record { server = a.holder.server; epoch = a.ids.epoch; counter = k.drawn + 1 }) ∷ [])
-              ∙ ap (λ (ts : List TransId). h.begun.early ++ ts) (one_more a.holder.server a.ids.epoch k.drawn);
+        coordinator = record {
+          run = record {
+            server_same = one.server_same ∙ h.coordinator.run.server_same;
+            epoch_same = one.epoch_same ∙ h.coordinator.run.epoch_same;
+            count_same = one.count_same ∙ ap (λ (n : ℕ). n + 1) h.coordinator.run.count_same;
+          };
+          fates = subst (λ (t : TransId). (u : TransId) → IsFateOf a.ids.epoch u (fate_in c u) (cond {A = Fate} (same_trans t u) (fate.begun client (a.fates u)) (a.fates u))) (sym next)
+              (known_begun a.ids.epoch begun_trans client seen.ts w.who k.coordinator c a.fates h.coordinator.run.epoch_same comes h.coordinator.fates);
         };
-        undrawn = subst (λ (n : ℕ). (t : TransId) → is_beyond a.holder.server a.ids.epoch (n + 1) t ≡ true
-            → cond {A = Fate} (same_trans (next_trans (state_of a)) t) (fate.begun client (a.fates t)) (a.fates t) ≡ Undrawn) h.drawn
-            (undrawn_then a.holder.server a.ids.epoch a.ids.transactions a.fates (subst (λ (n : ℕ). (t : TransId) → is_beyond a.holder.server a.ids.epoch n t ≡ true → a.fates t ≡ Undrawn) (sym h.drawn) h.undrawn));
         plain = plain_moved a.fates (next_trans (state_of a)) (fate.begun client) (λ f p. begun_plain client f p) h.plain;
-        ends = subst (λ (n : ℕ). HaveEnds a.holder.server a.ids.epoch (n + 1) (k.decisions ++ 0 ∷ []) m.fates) h.drawn
-            (ends_begin a.holder.server a.ids.epoch a.ids.transactions k.decisions a.fates client (long ∙ sym h.drawn) undrawn (subst (λ (n : ℕ). HaveEnds a.holder.server a.ids.epoch n k.decisions a.fates) (sym h.drawn) h.ends));
         lone = h.lone;
         files = h.files;
         made = h.made;

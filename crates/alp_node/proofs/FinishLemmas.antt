@@ -1,12 +1,11 @@
 -- refusals and ends, as the server keeps them
-use Rattle.std.specs.Prelude.{cond, Bool, true, false, ◌==◌, ◌&&◌, ◌||◌, not, Option, None, Some, is_some, nat_lt, nat_le}
+use Rattle.std.specs.Prelude.{cond, Bool, true, false, ◌==◌, ◌&&◌, not, Option, None, Some, is_some}
 use Rattle.std.specs.List.{AllByRecursion}
 use Rattle.std.specs.FinMap as map
-use Rattle.std.proofs.Common.{◌≡◌, ℕ, ◌<◌, List, [], refl, sym, ◌∙◌, ap, subst, eq-eqb, arith}
+use Rattle.std.proofs.Common.{◌≡◌, ℕ, List, [], refl, sym, ◌∙◌, ap, subst, eq-eqb, arith}
 use Rattle.std.specs.List.Sorted.{IsPermutation}
 use Rattle.std.proofs.lemmas.List.Sorted.{IsPermutation-refl}
-use Rattle.std.proofs.lemmas.Bool.{eqb-true, ne_eqb, leb-true, ltb-true}
-use Rattle.alp_base.proofs.NameLemmas.{and_right}
+use Rattle.std.proofs.lemmas.Bool.{ne_eqb}
 use Rattle.alp_base.specs.declared.ids.TransId.{TransId}
 use Rattle.alp_files.specs.declared.call.Call.TheVariants as call
 use Rattle.alp_files.specs.declared.reply.Reply.{Reply}
@@ -19,9 +18,8 @@ use Rattle.alp_journal.specs.declared.event.Event.{Event}
 use Rattle.alp_journal.specs.declared.event.Event.TheVariants as event
 use Rattle.alp_journal.specs.Along.{Where}
 use Rattle.alp_journal.specs.Ids.{same_trans}
-use Rattle.alp_journal.specs.Coordinator.{Fate, Undrawn, Running}
+use Rattle.alp_journal.specs.Coordinator.{Undrawn}
 use Rattle.alp_journal.specs.Desk.{Session, is_of_part, waiting_of, without}
-use Rattle.alp_journal.specs.Holder.{Life}
 use Rattle.alp_journal.specs.Messages.{Mail, on_tick}
 use Rattle.alp_journal.specs.Answers.{Part, NoPart, AtEnd, part_at, at_part, First, IsFinishAnswer, finish_reply}
 use Rattle.alp_journal.specs.Account.{Account, state_of, IsQuiet, Leads}
@@ -31,7 +29,8 @@ use Rattle.alp_journal.proofs.TimeoutLemmas.{as_it_was, idle_leads}
 use Rattle.alp_journal.proofs.QuietLemmas.{quiet_told, quiet_up, quiet_forgotten}
 use Rattle.alp_turns.proofs.MoveLemmas.{GoesIdle, queue_without}
 use Rattle.alp_node.specs.Dead.{cause_in, without_part}
-use Rattle.alp_node.specs.ServerState.{IsAs, IsReady, IsWaitingAs, is_beyond}
+use Rattle.alp_node.specs.ServerState.{IsAs, IsReady, IsWaitingAs}
+use Rattle.alp_coord.specs.Coordinators.{count_of}
 use Rattle.alp_node.specs.Steps.{Stepped, IsTimely, IsTurn, entry_of, counted_in, told_answer, refused_answer}
 use Rattle.alp_node.specs.Waits.{is_of, without_calls_of}
 use Rattle.alp_node.specs.declared.waits.WaitingCall.{WaitingCall}
@@ -40,7 +39,6 @@ use Rattle.alp_node.specs.declared.answer.Answer.{Answer}
 use Rattle.alp_node.specs.declared.server_state.ServerState.{ServerState}
 use Rattle.alp_node.specs.declared.sessions.Turn.{Turn}
 use Rattle.alp_node.proofs.BesideLemmas.{AreNamed}
-use Rattle.alp_node.proofs.CountLemmas.{IsUpTo}
 use Rattle.alp_node.proofs.DeadLemmas.{part_left}
 use Rattle.alp_node.proofs.KeptLemmas.{sessions_as, session_of, session_then, stands_timely, none_live, stepped_so}
 use Rattle.alp_node.specs.Served.{IsIdleEvent}
@@ -48,24 +46,9 @@ use Rattle.alp_node.specs.Standings.{standing_of}
 use Rattle.alp_node.specs.declared.served.Standing.TheVariants as standing
 use Rattle.alp_node.proofs.StandingLemmas.{part_of, EndsNone, none_running, part_is, finish_none, undrawn_elsewhere, dead_gone}
 use Rattle.alp_node.proofs.MapLemmas.{places_set}
-use Rattle.alp_node.proofs.OneServer.{others_none, none_open, none_joined, gone_rests, lone_runs}
-
--- three tests that hold
-record AllTrue (w x y : Bool) : Type 0 where
-  first : w ≡ true
-  second : x ≡ true
-  third : y ≡ true
+use Rattle.alp_node.proofs.OneServer.{others_none, none_open, none_joined, gone_rests}
 
 -- ---- what stays
-
--- of ids that were not drawn none moves
-pub still_undrawn : (server epoch count : ℕ) (fates : TransId → Fate) (t : TransId) (move : Fate → Fate) → move Undrawn ≡ Undrawn → ((u : TransId) → is_beyond server epoch count u ≡ true → fates u ≡ Undrawn)
-    → (u : TransId) → is_beyond server epoch count u ≡ true → cond {A = Fate} (same_trans t u) (move (fates u)) (fates u) ≡ Undrawn
-still_undrawn server epoch count fates t move still before u far = go (same_trans t u)
-  where
-    go : (b : Bool) → cond {A = Fate} b (move (fates u)) (fates u) ≡ Undrawn
-    go true = ap move (before u far) ∙ still
-    go false = before u far
 
 module _ {V : Type 0} (a : Account) (held : Contents) (k : ServerState V) where
   -- the session of a turn is the journal's
@@ -96,12 +79,8 @@ module _ {V : Type 0} (a : Account) (held : Contents) (k : ServerState V) where
     lives = h.lives;
     room = h.room;
     unborn = h.unborn;
-    current = h.current;
-    drawn = h.drawn;
-    begun = h.begun;
-    undrawn = h.undrawn;
+    coordinator = h.coordinator;
     plain = h.plain;
-    ends = h.ends;
     lone = h.lone;
     files = h.files;
     made = h.made;
@@ -110,35 +89,6 @@ module _ {V : Type 0} (a : Account) (held : Contents) (k : ServerState V) where
     quiet = turn_quiet turn r h is;
     down = sym up;
   }
-
-  -- a live part is of an id that was drawn
-  pub drawn_live : (t : TransId) (life : Life) → IsAs a held k → a.holder.lives t ≡ Some life → IsUpTo a.holder.server a.ids.epoch k.drawn t
-  drawn_live t life h live = go (is_beyond a.holder.server a.ids.epoch k.drawn t) refl
-    where
-      now : t.epoch ≡ a.ids.epoch
-      now = h.current t life live
-
-      parts : (w x y z : Bool) → not (w && x && (y || z)) ≡ false → y ≡ false → AllTrue w x z
-      parts true true false true e f = record { first = refl; second = refl; third = refl }
-      parts true true false false e f = cc
-      parts true true true z e f = cc
-      parts true false y z e f = cc
-      parts false x y z e f = cc
-
-      not_older : nat_lt t.epoch a.ids.epoch ≡ false
-      not_older = go (nat_lt t.epoch a.ids.epoch) refl
-        where
-          go : (b : Bool) → nat_lt t.epoch a.ids.epoch ≡ b → b ≡ false
-          go false e = refl
-          go true e = (let wrong : t.epoch < a.ids.epoch = ltb-true t.epoch a.ids.epoch e in absurd (omega (arith, wrong, now)))
-
-      go : (b : Bool) → is_beyond a.holder.server a.ids.epoch k.drawn t ≡ b → IsUpTo a.holder.server a.ids.epoch k.drawn t
-      go true e =
-          let wrong : Undrawn ≡ Running life.client [] = sym (h.undrawn t e) ∙ lone_runs a held k h t life live in
-          cc
-      go false e =
-          let is = parts (t.server == a.holder.server) (nat_lt 0 t.counter) (nat_lt t.epoch a.ids.epoch) (t.epoch == a.ids.epoch && nat_le t.counter k.drawn) e not_older in
-          record { here = eqb-true t.server a.holder.server is.first; now = now; some = ltb-true 0 t.counter is.second; low = leb-true t.counter k.drawn (and_right (t.epoch == a.ids.epoch) (nat_le t.counter k.drawn) is.third) }
 
 -- ---- a Finish that ends nothing
 
@@ -193,7 +143,7 @@ module _ {V : Type 0} (a : Account) (before now : ℕ) (held : Contents) (k : Se
       → Stepped a before now held (record k { sessions = counted_in k.sessions turn (reply.Refused (refusal.Aborted c)); dead = without_part turn.client t k.dead; waits = without_calls_of turn.client t k.waits }) (event.Call turn.client k.epoch turn.number (call.Finish t commit)) x
   dead_stepped m on c x h ready is up here dead so =
       let w : Session = session_of turn is in
-      let named : AreNamed k.waits = named_each k.server k.epoch k.given k.drawn k.sizes k.lives k.waits ready.waits.calls in
+      let named : AreNamed k.waits = named_each k.server k.epoch k.given (count_of k.coordinator) k.sizes k.lives k.waits ready.waits.calls in
       let gone : a.holder.lives t ≡ None = none_live a.holder.cells k.locks.held (a.locked t) t (map.get k.lives t) (a.holder.lives t) (dead_gone turn.client (map.get k.lives t) (cause_in k.dead turn.client t) c dead) (h.lives t) in
       let r : Reply = reply.Refused (refusal.Aborted c) in
       let none : EndsNone turn.client t commit (state_of a).desk r (a.fates t) = finish_none a held k turn.client t commit r h (λ own. let wrong : standing.Ended c ≡ standing.Work = sym dead ∙ own in cc) in
@@ -223,12 +173,8 @@ module _ {V : Type 0} (a : Account) (before now : ℕ) (held : Contents) (k : Se
         lives = h.lives;
         room = h.room;
         unborn = h.unborn;
-        current = h.current;
-        drawn = h.drawn;
-        begun = h.begun;
-        undrawn = h.undrawn;
+        coordinator = h.coordinator;
         plain = h.plain;
-        ends = h.ends;
         lone = h.lone;
         files = h.files;
         made = h.made;
@@ -266,12 +212,8 @@ module _ {V : Type 0} (a : Account) (before now : ℕ) (held : Contents) (k : Se
       lives = h.lives;
       room = h.room;
       unborn = h.unborn;
-      current = h.current;
-      drawn = h.drawn;
-      begun = h.begun;
-      undrawn = h.undrawn;
+      coordinator = h.coordinator;
       plain = h.plain;
-      ends = h.ends;
       lone = h.lone;
       files = h.files;
       made = h.made;

@@ -28,7 +28,7 @@ use Rattle.alp_vault.specs.Contents.{Contents}
 use Rattle.alp_journal.specs.Account.{Account, AreApart, AreTwo, IsQuiet, with_granted, granted_calls, call_on, is_on_trans, holder_granted}
 use Rattle.alp_journal.specs.Answered.{in_turn, IsWalk}
 use Rattle.alp_journal.specs.Counts.{lock_set, request_in, with_resources}
-use Rattle.alp_journal.specs.Coordinator.{Fate, Undrawn}
+use Rattle.alp_journal.specs.Coordinator.{Fate}
 use Rattle.alp_journal.specs.Desk.{Session, Waiting, file_trans, is_of_part, without}
 use Rattle.alp_journal.specs.Holder.{Holder, Life, with_life, view_in, grants, held_for}
 use Rattle.alp_journal.specs.Ids.{same_trans}
@@ -39,13 +39,16 @@ use Rattle.alp_turns.specs.Queues.{AreHeldAlike, AreCallsApart, IsOnOther, reque
 use Rattle.alp_turns.proofs.MoveLemmas.{GoesIdle, IsGone, StandsStill, queue_gone, queue_without}
 use Rattle.alp_turns.proofs.QueueLemmas.{gives_on}
 use Rattle.alp_turns.proofs.RequestLemmas.{tied_same}
-use Rattle.alp_node.specs.Decisions.{IsPlain, HaveEnds}
+use Rattle.alp_node.specs.Decisions.{IsPlain}
 use Rattle.alp_node.specs.Dead.{cause_in}
+use Rattle.alp_coord.specs.declared.coordinator.Coordinator.{Coordinator}
+use Rattle.alp_coord.specs.Coordinators.{count_of}
 use Rattle.alp_node.specs.Releases.{granted_if, granted_one, granted_all, granted_behind, let_go}
 use Rattle.alp_node.specs.Sessions.{session_at}
-use Rattle.alp_node.specs.ServerState.{IsAs, IsReady, IsLife, IsAlike, IsAskedAs, IsWaitingAs, PutNoneBeyond, is_beyond}
+use Rattle.alp_node.specs.ServerState.{IsAs, IsReady, IsLife, IsAlike, IsAskedAs, IsWaitingAs, PutNoneBeyond}
 use Rattle.alp_node.specs.Totals.{LiveMap, HaveRoom, totals_of}
 use Rattle.alp_node.specs.Waits.{waiting, waiting_calls, is_of, is_file_on, locks_of, without_calls_of, IsCallBy, IsWaitingCall, IsOfOther, AreApart as AreCallsOnce}
+use Rattle.alp_node.specs.Transactions.{IsCoordinatorBy}
 use Rattle.alp_node.specs.declared.lives.Live.{Live}
 use Rattle.alp_node.specs.declared.lock_counts.LockCounts.{LockCounts}
 use Rattle.alp_node.specs.declared.server_state.ServerState.{ServerState}
@@ -323,7 +326,7 @@ module _ {V : Type 0} (a : Account) (held : Contents) (k : ServerState V) (t : T
     kept_first = record {
       lives = kept_lives;
       waits = h.waits;
-      named = named_each k.server k.epoch k.given k.drawn k.sizes k.lives k.waits ready.waits.calls;
+      named = named_each k.server k.epoch k.given (count_of k.coordinator) k.sizes k.lives k.waits ready.waits.calls;
       asked = kept_asked k.waits h.asked;
       fits = fits;
       parts = kept_parts;
@@ -333,7 +336,7 @@ module _ {V : Type 0} (a : Account) (held : Contents) (k : ServerState V) (t : T
 
     call_there : (u : TransId) (c : Call) → IsSome (holder_gone.lives u) → call_on a.waits u ≡ Some c → HasCall (gone_of k t) (u, c)
     call_there u c lives is =
-        let f : IsFound u c k.waits = found_call u c k.waits (named_each k.server k.epoch k.given k.drawn k.sizes k.lives k.waits ready.waits.calls) ready.waits.apart (ap (λ (ws : List Waiting). call_on ws u) (sym h.waits) ∙ is) in
+        let f : IsFound u c k.waits = found_call u c k.waits (named_each k.server k.epoch k.given (count_of k.coordinator) k.sizes k.lives k.waits ready.waits.calls) ready.waits.apart (ap (λ (ws : List Waiting). call_on ws u) (sym h.waits) ∙ is) in
         go f (map.get (map.remove k.lives t) u) (holder_gone.lives u) refl lives (kept_lives u)
       where
         go : IsFound u c k.waits → (o : Option Live) (y : Option Life) → map.get (map.remove k.lives t) u ≡ o → IsSome y → IsAlikeApart a.holder.cells (lock_set a.locked t [] u) o y → HasCall (gone_of k t) (u, c)
@@ -372,7 +375,7 @@ module _ {V : Type 0} (a : Account) (held : Contents) (k : ServerState V) (t : T
 
 module _ {V : Type 0} (a : Account) (held : Contents) (k : ServerState V) (t : TransId) where
   abbrev none_beyond : TransId → Part → List Edit → Type 0
-  none_beyond u p es = PutNoneBeyond a.holder.server a.ids.epoch k.given es × (u.epoch ≡ a.ids.epoch)
+  none_beyond u p es = PutNoneBeyond a.holder.server a.ids.epoch k.given es
 
   abbrev pub Gone : Type 0
   Gone = HasLetGo a held k t a.holder.cells a.holder.clock a.holder.kept a.holder.applied a.holder.left none_beyond a.holder.cells
@@ -380,7 +383,7 @@ module _ {V : Type 0} (a : Account) (held : Contents) (k : ServerState V) (t : T
   module _ (m : ℕ) (on : Bool) (h : IsAs a held k) (ready : IsReady m on k) where
     -- what its locks left to others
     pub gone : Gone
-    gone = has_let_go a held k t a.holder.cells a.holder.clock a.holder.kept a.holder.applied a.holder.left none_beyond a.holder.cells m on h ready (λ u l c live away. refl) (λ u l life there live away. (h.unborn u life live, h.current u life live))
+    gone = has_let_go a held k t a.holder.cells a.holder.clock a.holder.kept a.holder.applied a.holder.left none_beyond a.holder.cells m on h ready (λ u l c live away. refl) (λ u l life there live away. h.unborn u life live)
         (gone_room k.sizes a.holder.cells k.lives t h.room)
 
     module _ (g : Gone) where
@@ -394,18 +397,18 @@ module _ {V : Type 0} (a : Account) (held : Contents) (k : ServerState V) (t : T
       let_go_is = ap (granted_all (gone_of k t)) g.woken ∙ granted_rest (trans_in g.given) (gone_of k t)
 
       -- with these fates, sessions, ends that are to be told, and waiting calls
-      module _ (fates : TransId → Fate) (sessions : ℕ → Option Session) (dead : ℕ → TransId → Option Cause) (waits : List Waiting) (kept_sessions : Sessions) (kept_dead : List DeadPart) (kept_waits : List WaitingCall) where
+      module _ (fates : TransId → Fate) (sessions : ℕ → Option Session) (dead : ℕ → TransId → Option Cause) (waits : List Waiting) (kept_sessions : Sessions) (kept_dead : List DeadPart) (kept_waits : List WaitingCall) (c : Coordinator) where
         abbrev pub state_told : Account
         state_told = record state_then { fates = fates; sessions = sessions; dead = dead; waits = waits; is_down = false; pending = [] }
 
         abbrev pub server_told : ServerState V
-        server_told = record k { lives = server_then.lives; locks = record (released k.locks t) { woken = [] }; sessions = kept_sessions; dead = kept_dead; waits = kept_waits }
+        server_told = record k { lives = server_then.lives; locks = record (released k.locks t) { woken = [] }; sessions = kept_sessions; dead = kept_dead; waits = kept_waits; coordinator = c }
 
-        pub gone_as : k.is_down ≡ false → ((u : TransId) → is_beyond a.holder.server a.ids.epoch k.drawn u ≡ true → fates u ≡ Undrawn) → ((u : TransId) → IsPlain (fates u)) → HaveEnds a.holder.server a.ids.epoch k.drawn k.decisions fates
+        pub gone_as : k.is_down ≡ false → IsCoordinatorBy a.holder.server a.ids.epoch a.ids.transactions fates c → ((u : TransId) → IsPlain (fates u))
             → length kept_sessions.places ≡ 17 → ((client : ℕ) → sessions client ≡ session_at kept_sessions client) → ((client : ℕ) (u : TransId) → dead client u ≡ cause_in kept_dead client u)
             → waits ≡ waiting_calls kept_waits → AllByRecursion (IsWaitingAs state_then.holder state_then.locked) kept_waits → (released k.locks t).waiting ≡ queue_of state_then.holder (released k.locks t).held waits
             → IsQuiet state_told → IsAs state_told held server_told
-        gone_as up undrawn plain ends places same_sessions same_dead same_waits asked queue quiet = subst (λ (x : Holder). IsAs (record state_told { holder = x }) held server_told) (sym rest) (record {
+        gone_as up coordinated plain places same_sessions same_dead same_waits asked queue quiet = subst (λ (x : Holder). IsAs (record state_told { holder = x }) held server_told) (sym rest) (record {
           server = h.server;
           sizes = h.sizes;
           epoch = h.epoch;
@@ -419,16 +422,12 @@ module _ {V : Type 0} (a : Account) (held : Contents) (k : ServerState V) (t : T
           waits = same_waits;
           queue = subst (λ (x : Holder). (released k.locks t).waiting ≡ queue_of x (released k.locks t).held waits) rest queue;
           asked = subst (λ (x : Holder). AllByRecursion (IsWaitingAs x state_told.locked) kept_waits) rest asked;
-          lives = lives_then a held k t a.holder.cells a.holder.clock a.holder.kept a.holder.applied a.holder.left none_beyond a.holder.cells m on h ready (λ u l c live away. refl) (λ u l life there live away. (h.unborn u life live, h.current u life live))
+          lives = lives_then a held k t a.holder.cells a.holder.clock a.holder.kept a.holder.applied a.holder.left none_beyond a.holder.cells m on h ready (λ u l c live away. refl) (λ u l life there live away. h.unborn u life live)
               (gone_room k.sizes a.holder.cells k.lives t h.room) g;
           room = g.all.fits;
-          unborn = λ u l is. (unborn_then u l (map.get server_then.lives u) refl is (g.all.lives u)).0;
-          current = λ u l is. (unborn_then u l (map.get server_then.lives u) refl is (g.all.lives u)).1;
-          drawn = h.drawn;
-          begun = h.begun;
-          undrawn = undrawn;
+          unborn = λ u l is. unborn_then u l (map.get server_then.lives u) refl is (g.all.lives u);
+          coordinator = coordinated;
           plain = plain;
-          ends = ends;
           lone = h.lone;
           files = h.files;
           made = h.made;
@@ -442,7 +441,7 @@ module _ {V : Type 0} (a : Account) (held : Contents) (k : ServerState V) (t : T
             first = with_life a.holder t None
 
             unborn_then : (u : TransId) (l : Life) (o : Option Live) → map.get server_then.lives u ≡ o → state_then.holder.lives u ≡ Some l → IsAlikeApart a.holder.cells (state_then.locked u) o (state_then.holder.lives u)
-                → PutNoneBeyond a.holder.server a.ids.epoch k.given l.edits × (u.epoch ≡ a.ids.epoch)
+                → PutNoneBeyond a.holder.server a.ids.epoch k.given l.edits
             unborn_then u l (Some z) at is alike = g.all.parts u z l at is
             unborn_then u l None at is alike = absurd (subst (IsAlikeApart a.holder.cells (state_then.locked u) None) is alike)
 

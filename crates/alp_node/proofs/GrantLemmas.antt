@@ -36,6 +36,7 @@ use Rattle.alp_vault.specs.Contents.{Contents}
 use Rattle.alp_journal.specs.Moves.{is_of_no_file}
 use Rattle.alp_journal.specs.Moves as journal
 use Rattle.alp_journal.specs.Account.{Account, state_of}
+use Rattle.alp_coord.specs.Coordinators.{count_of}
 use Rattle.alp_node.specs.Asks.{is_of_given, is_given, IsGivenOn, AreGiven, asks_made, asks_given, makes_file, is_made, plan_if, plan_for, count_made, plan_of, with_plan}
 use Rattle.alp_node.specs.Calls.{next_file}
 use Rattle.alp_node.specs.ServerState.{IsAs, IsReady}
@@ -182,9 +183,9 @@ granted_ready m serves k w count more low prepared free idle others h = record {
   halted = h.halted;
   sound = grant-sound k.locks w prepared h.sound free idle;
   taken = granted-woken k.locks w.trans w.rises w.after ∙ h.taken;
-  waits = subst (AreWaiting k.server k.epoch count k.drawn k.sizes k.lives k.waits) (sym (granted-waiting k.locks w.trans w.rises w.after)) (waiting_later k.server k.epoch k.given count more k.drawn k.sizes k.lives k.waits k.locks.waiting h.waits);
+  waits = subst (AreWaiting k.server k.epoch count (count_of k.coordinator) k.sizes k.lives k.waits) (sym (granted-waiting k.locks w.trans w.rises w.after)) (waiting_later k.server k.epoch k.given count more (count_of k.coordinator) k.sizes k.lives k.waits k.locks.waiting h.waits);
   known = λ u l is. granted-knows k.locks w.trans w.rises w.after u (h.known u l is);
-  begun = h.begun;
+  own = h.own;
   opens = h.opens;
   opened = λ u l is. opens_later k.server k.epoch k.given count more l.part.opens.items (h.opened u l is);
   callers = h.callers;
@@ -202,7 +203,8 @@ granted_ready m serves k w count more low prepared free idle others h = record {
   clock = h.clock;
   raised = h.raised;
   last = h.last;
-  decisions = h.decisions;
+  seat = h.seat;
+  times = h.times;
   unheld = λ u n high. all-of-plan k.locks w u (numbered k n) prepared
       ∙ joined_none (eq_by_cmp trans_cmp u w.trans) (holding k.locks.held u (numbered k n)) (held_by w.needs (numbered k n)) (h.unheld u n (omega (arith, more, high))) (others n high);
 }

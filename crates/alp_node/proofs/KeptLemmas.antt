@@ -18,6 +18,8 @@ use Rattle.alp_journal.specs.Holder.{Life}
 use Rattle.alp_journal.specs.Account.{Account, Leads, AreEarlier}
 use Rattle.alp_journal.proofs.IdLemmas.{same_trans-true}
 use Rattle.alp_journal.proofs.CallLemmas.{call_entry}
+use Rattle.alp_coord.specs.declared.coordinator.Coordinator.{Coordinator}
+use Rattle.alp_coord.specs.Coordinators.{IsAlong, Keeps}
 use Rattle.alp_node.specs.Sessions.{session_at, with_session}
 use Rattle.alp_node.specs.ServerState.{IsLife, IsAlike, IsAs}
 use Rattle.alp_node.specs.Steps.{Stepped, IsOf, IsTimely, IsTurn, told_answer, entry_of}
@@ -28,6 +30,7 @@ use Rattle.alp_journal.specs.Desk.{Session}
 use Rattle.alp_node.specs.declared.sessions.Sessions.{Sessions}
 use Rattle.alp_node.specs.declared.sessions.Turn.{Turn}
 use Rattle.alp_node.proofs.MapLemmas.{session_kept}
+use Rattle.alp_node.proofs.TransactionLemmas.{kept_by}
 
 -- ---- what holds of lives
 
@@ -83,15 +86,6 @@ each_set P t x lives all this u l = go (same_trans u t)
     go true is = this l is
     go false is = all u l is
 
--- the same of what is so of a transaction too
-pub each_set_at : (P : TransId → Life → Type 0) (t : TransId) (x : Option Life) (lives : TransId → Option Life) → ((u : TransId) (l : Life) → lives u ≡ Some l → P u l) → ((l : Life) → x ≡ Some l → P t l)
-    → (u : TransId) (l : Life) → cond {A = Option Life} (same_trans u t) x (lives u) ≡ Some l → P u l
-each_set_at P t x lives all this u l = go (same_trans u t) refl
-  where
-    go : (b : Bool) → same_trans u t ≡ b → cond {A = Option Life} b x (lives u) ≡ Some l → P u l
-    go true e is = subst (λ (v : TransId). P v l) (sym (same_trans-true u t e)) (this l is)
-    go false e is = all u l is
-
 -- times that go no further go no further than a later one
 pub earlier_more : (m n : ℕ) (ds : List (Stamp × Decided)) → m ≤ n → AreEarlier m ds → AreEarlier n ds
 earlier_more m n [] le h = tt
@@ -138,12 +132,8 @@ as_with a held then k v same h = subst (λ (x : Contents). IsAs a x (record k { 
   lives = h.lives;
   room = h.room;
   unborn = h.unborn;
-  current = h.current;
-  drawn = h.drawn;
-  begun = h.begun;
-  undrawn = h.undrawn;
+  coordinator = h.coordinator;
   plain = h.plain;
-  ends = h.ends;
   lone = h.lone;
   files = h.files;
   made = h.made;
@@ -155,6 +145,36 @@ as_with a held then k v same h = subst (λ (x : Contents). IsAs a x (record k { 
   quiet = h.quiet;
   down = h.down;
 })
+
+-- with a coordinator that goes on so and keeps what it did
+pub as_back : {V : Type 0} (a : Account) (held : Contents) (k : ServerState V) (c : Coordinator) → IsAlong k.coordinator c → Keeps k.coordinator c → IsAs a held k → IsAs a held (record k { coordinator = c })
+as_back a held k c along keeps h = record {
+  server = h.server;
+  sizes = h.sizes;
+  epoch = h.epoch;
+  clock = h.clock;
+  cells = h.cells;
+  sized = h.sized;
+  notes = h.notes;
+  places = h.places;
+  sessions = h.sessions;
+  dead = h.dead;
+  lives = h.lives;
+  room = h.room;
+  unborn = h.unborn;
+  coordinator = kept_by a.holder.server a.ids.epoch a.ids.transactions a.fates k.coordinator c along keeps h.coordinator;
+  plain = h.plain;
+  lone = h.lone;
+  files = h.files;
+  made = h.made;
+  born = h.born;
+  earlier = h.earlier;
+  waits = h.waits;
+  queue = h.queue;
+  asked = h.asked;
+  quiet = h.quiet;
+  down = h.down;
+}
 
 -- a new call's entry and its answer
 module _ {V : Type 0} (a : Account) (before now : ℕ) (held then : Contents) (k new : ServerState V) (client number : ℕ) (w : Session) (c : Call) where

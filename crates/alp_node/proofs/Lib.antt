@@ -6,6 +6,7 @@ pub mod DecisionLemmas
 pub mod ReadyLemmas
 pub mod SeatLemmas
 pub mod GivenLemmas
+pub mod TransactionLemmas
 pub mod CountLemmas
 pub mod TotalLemmas
 pub mod LockCountLemmas

@@ -1,27 +1,25 @@
 -- what the journal counts of all live parts is what the server keeps
-use Rattle.std.specs.Prelude.{cond, Bool, true, false, nat_le, filter, Option, None, Some}
-use Rattle.std.specs.List.{AllByRecursion}
+use Rattle.std.specs.Prelude.{Bool, true, false, nat_le, filter, Option, None, Some}
 use Rattle.std.specs.FinMap as map
-use Rattle.std.proofs.Common.{◌≡◌, ℕ, ◌+◌, ◌<◌, ◌≤◌, List, [], ◌∷◌, ◌++◌, refl, sym, ◌∙◌, ap, arith}
+use Rattle.std.proofs.Common.{◌≡◌, ℕ, ◌+◌, ◌<◌, ◌≤◌, List, [], ◌∷◌, ◌++◌, refl, sym, ◌∙◌, ap, subst, arith}
 use Rattle.std.proofs.lemmas.Bool.{leb-true}
 use Rattle.alp_base.specs.declared.ids.TransId.{TransId}
 use Rattle.alp_base.specs.declared.key.Key.{Key}
 use Rattle.alp_files.specs.Needs.{is_leader, is_owner}
-use Rattle.alp_locks.proofs.SoundLemmas.{each-more}
 use Rattle.alp_vault.specs.Contents.{Contents}
-use Rattle.alp_journal.specs.Coordinator.{Fate, Undrawn, Running, Finishing, Committed, Forgotten, Ended, is_running}
+use Rattle.alp_journal.specs.Coordinator.{Fate, is_running}
 use Rattle.alp_journal.specs.Holder.{Life}
 use Rattle.alp_journal.specs.State.{State}
 use Rattle.alp_journal.specs.Answers.{need_at, needs_of_all, all_live, made_at, made_by_all}
-use Rattle.alp_journal.specs.Account.{Account, state_of}
-use Rattle.alp_node.specs.ServerState.{IsAs, IsAlike, trans_to}
+use Rattle.alp_journal.specs.Account.{Account, state_of, has_trans, IsFateOf as IsToldFate}
+use Rattle.alp_journal.proofs.StandLemmas.{own_server}
+use Rattle.alp_node.specs.ServerState.{IsAs, IsAlike}
 use Rattle.alp_node.specs.Totals.{totals_of}
 use Rattle.alp_node.specs.declared.lives.Live.{Live}
 use Rattle.alp_node.specs.declared.server_state.ServerState.{ServerState}
-use Rattle.alp_node.proofs.CountLemmas.{IsUpTo, weigh, all_in, sum_list, sum_append, sum_there}
-use Rattle.alp_node.proofs.FinishLemmas.{drawn_live}
+use Rattle.alp_node.proofs.CountLemmas.{weigh, all_in, sum_list, sum_append, sum_there}
 use Rattle.alp_node.proofs.KeptLemmas.{IsLive, live_there}
-use Rattle.alp_node.proofs.OneServer.{IsOne, one_pair, none_join_live}
+use Rattle.alp_node.proofs.OneServer.{IsOne, one_pair, lone_runs, none_join_live}
 
 pub not_reached : (m n : ℕ) → n < m → nat_le m n ≡ false
 not_reached m n less = go (nat_le m n) refl
@@ -38,45 +36,23 @@ made_list : (p : Key → Bool) (s : State) (ts : List TransId) → made_by_all p
 made_list p s [] = refl
 made_list p s (t ∷ ts) = ap (λ (n : ℕ). made_at p s (s.holder.lives t) + n) (made_list p s ts)
 
--- who is not live does not run
-gone_still : (l : Option Life) (f : Fate) → l ≡ None → IsOne l f → is_running f ≡ false
-gone_still (Some l) f e h = cc
-gone_still None Undrawn e h = refl
-gone_still None (Running client joins) e h = absurd h
-gone_still None (Finishing client joins votes) e h = absurd h
-gone_still None (Committed stamp joins done) e h = refl
-gone_still None (Forgotten stamp joins) e h = absurd h
-gone_still None (Ended c) e h = refl
-
 -- who does not run is not live
 not_live : (l : Option Life) (f : Fate) → IsOne l f → is_running f ≡ false → l ≡ None
 not_live None f h e = refl
 not_live (Some l) f h e = let wrong : true ≡ false = sym (ap is_running h.0) ∙ e in cc
 
--- of what none passes nothing does, and what stands before it does not matter
-pub none_pass : (p : TransId → Bool) (early late : List TransId) → AllByRecursion (λ (t : TransId). p t ≡ false) early → filter p (early ++ late) ≡ filter p late
-none_pass p [] late none = refl
-none_pass p (t ∷ ts) late none = ap (λ (b : Bool). cond {A = List TransId} b (t ∷ filter p (ts ++ late)) (filter p (ts ++ late))) none.0 ∙ none_pass p ts late none.1
-
 module _ {V : Type 0} (a : Account) (held : Contents) (k : ServerState V) (h : IsAs a held k) where
-  -- of those that began in older epochs none is live
-  pub early_gone : (t : TransId) → t.epoch < a.ids.epoch → a.holder.lives t ≡ None
-  early_gone t old = go (a.holder.lives t) refl
-    where
-      go : (x : Option Life) → a.holder.lives t ≡ x → x ≡ None
-      go None e = refl
-      go (Some l) e = (let now : t.epoch ≡ a.ids.epoch = h.current t l e in absurd (omega (arith, old, now)))
-
-  -- so of those that began just those count that began in this one
-  pub begun_now : (p : TransId → Bool) → ((t : TransId) → a.holder.lives t ≡ None → p t ≡ false) → filter p a.begun ≡ filter p (trans_to a.holder.server a.ids.epoch k.drawn)
-  begun_now p none = ap (λ (ts : List TransId). filter p ts) h.begun.all ∙ none_pass p h.begun.early (trans_to a.holder.server a.ids.epoch k.drawn)
-      (each-more (λ (t : TransId). t.epoch < a.ids.epoch) (λ (t : TransId). p t ≡ false) (λ t old. none t (early_gone t old)) h.begun.early h.begun.old)
-
-  -- what is kept is of ids that were drawn
-  pub up_to_drawn : (t : TransId) (l : Live) → map.get k.lives t ≡ Some l → IsUpTo a.holder.server a.ids.epoch k.drawn t
-  up_to_drawn t l there =
+  -- what is kept is of ids that are named
+  named_live : (t : TransId) (l : Live) → map.get k.lives t ≡ Some l → has_trans t a.begun ≡ true
+  named_live t l there =
       let y : IsLive a.holder.cells k.locks.held (a.locked t) t l (a.holder.lives t) = live_there a.holder.cells k.locks.held (a.locked t) t (map.get k.lives t) (a.holder.lives t) l there (h.lives t) in
-      drawn_live a held k t y.life h y.is
+      (subst (IsToldFate a.servers a.holder.server a.ids.epoch a.ids.transactions a.begun t) (lone_runs a held k h t y.life y.is) (h.quiet.settled.stands.fates t)).0.1
+
+  -- and of this server
+  pub live_here : (t : TransId) (l : Live) → map.get k.lives t ≡ Some l → t.server ≡ a.holder.server
+  live_here t l there =
+      let y : IsLive a.holder.cells k.locks.held (a.locked t) t l (a.holder.lives t) = live_there a.holder.cells k.locks.held (a.locked t) t (map.get k.lives t) (a.holder.lives t) l there (h.lives t) in
+      own_server a.holder.server a.ids.epoch a.ids.transactions t (subst (IsToldFate a.servers a.holder.server a.ids.epoch a.ids.transactions a.begun t) (lone_runs a held k h t y.life y.is) (h.quiet.settled.stands.fates t)).0.0
 
   -- what the live parts of the journal come to
   all_sum : (g : Live → ℕ) (f : Option Life → ℕ) → f None ≡ 0 → ((t : TransId) (o : Option Live) (x : Option Life) → IsAlike a.holder.cells k.locks.held (a.locked t) t o x → f x ≡ weigh g o)
@@ -87,8 +63,7 @@ module _ {V : Type 0} (a : Account) (held : Contents) (k : ServerState V) (h : I
       let split : sum_list at (all_live (state_of a)) ≡ sum_list at (filter runs a.begun ++ []) = ap (λ (ts : List TransId). sum_list at (filter runs a.begun ++ ts)) (none_join_live a h.lone h.quiet.settled.stands) in
       let last : sum_list at (filter runs a.begun ++ []) ≡ sum_list at (filter runs a.begun) + 0 = sum_append at (filter runs a.begun) [] in
       let all : sum_list at (filter runs a.begun) ≡ all_in g k.lives =
-      ap (λ (ts : List TransId). sum_list at ts) (begun_now runs (λ t gone. gone_still (a.holder.lives t) (a.fates t) gone (one_pair a held k h t)))
-      ∙ sum_there g at runs a.holder.server a.ids.epoch k.drawn k.lives up_to_drawn (λ t off. ap f (not_live (a.holder.lives t) (a.fates t) (one_pair a held k h t) off) ∙ none)
+      sum_there g at runs a.begun k.lives h.quiet.settled.stands.begun named_live (λ t off. ap f (not_live (a.holder.lives t) (a.fates t) (one_pair a held k h t) off) ∙ none)
       (λ t. same t (map.get k.lives t) (a.holder.lives t) (h.lives t)) in
       omega (arith, split, last, all)
 

@@ -52,6 +52,7 @@ use Rattle.alp_journal.specs.Account.{Account, state_of, IsQuiet, Leads}
 use Rattle.alp_journal.proofs.CallLemmas.{call_entry}
 use Rattle.alp_journal.proofs.FileCalls.{PerformOwes, performed_leads, granted_leads, with_call}
 use Rattle.alp_journal.specs.Moves.{is_stop}
+use Rattle.alp_coord.specs.Coordinators.{count_of}
 use Rattle.alp_node.specs.Asks.{is_of_given, AreGiven, asks_of, asks_given, makes_file, plan_of, with_plan, acts_of}
 use Rattle.alp_node.specs.Calls.{name_in, IsServedCall, given_of, next_file}
 use Rattle.alp_node.specs.Covers.{AreHeld}
@@ -218,7 +219,7 @@ module _ {V : Type 0} (a : Account) (before now : ℕ) (held : Contents) (k : Se
     others_held u o at q = held_elsewhere a.holder.cells k.locks.held (a.locked u) u (map.get k.lives u) o (subst (λ (y : Option Life). IsAlike a.holder.cells k.locks.held (a.locked u) u (map.get k.lives u) y) at (h.lives u)) q
 
     named : AreNamed k.waits
-    named = named_all k.server k.epoch k.given k.drawn k.sizes k.lives k.waits ready.waits.calls
+    named = named_all k.server k.epoch k.given (count_of k.coordinator) k.sizes k.lives k.waits ready.waits.calls
 
     idle : waits k.locks.waiting t ≡ false
     idle = idle_in k.server k.epoch k.given k.lives k.waits t k.locks.waiting (asks_none t k.waits away.others) ready.waits.queued

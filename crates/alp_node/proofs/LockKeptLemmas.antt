@@ -35,6 +35,7 @@ use Rattle.alp_journal.specs.Answers.{IsFileOf, unless_counts}
 use Rattle.alp_journal.specs.Answered.{GrantsFor}
 use Rattle.alp_journal.specs.Account.{Account, state_of, IsQuiet, Leads}
 use Rattle.alp_journal.proofs.CallLemmas.{call_entry}
+use Rattle.alp_coord.specs.Coordinators.{count_of}
 use Rattle.alp_node.specs.Asks.{AreGiven, asks_of, with_plan, acts_of}
 use Rattle.alp_node.specs.Calls.{name_in, IsServedCall, next_file}
 use Rattle.alp_node.specs.Covers.{AreHeld}
@@ -54,7 +55,7 @@ use Rattle.alp_node.proofs.ShapeLemmas.{count_none_done}
 use Rattle.alp_node.proofs.TotalLemmas.{same_room}
 use Rattle.alp_node.proofs.ConflictLemmas.{not_empty}
 use Rattle.alp_node.proofs.FinishLemmas.{turn_session, counts_as}
-use Rattle.alp_node.proofs.KeptLemmas.{session_of, IsLive, live_there, alike_under, alike_set, each_set, each_set_at, stands_timely, stepped_so}
+use Rattle.alp_node.proofs.KeptLemmas.{session_of, IsLive, live_there, alike_under, alike_set, each_set, stands_timely, stepped_so}
 use Rattle.alp_node.proofs.LockLemmas.{taken_other, taken_beside, taken_waiting}
 use Rattle.alp_node.proofs.LockCallLemmas.{locked_then}
 use Rattle.alp_node.proofs.LockDoneLemmas.{locks_now, asked, lock_left, first_held, lock_free, lock_why, grants_none, grants_some, under_held, still_locked, known_then, count_then, lock_performed}
@@ -104,7 +105,7 @@ module _ {V : Type 0} (a : Account) (before now : ℕ) (held : Contents) (k : Se
     w = session_of turn is
 
     named : AreNamed k.waits
-    named = named_all k.server k.epoch k.given k.drawn k.sizes k.lives k.waits ready.waits.calls
+    named = named_all k.server k.epoch k.given (count_of k.coordinator) k.sizes k.lives k.waits ready.waits.calls
 
     others_asked : AllByRecursion (λ (x : Waiting). is_of t (file_trans x.call) ≡ false) a.waits
     others_asked = subst (AllByRecursion (λ (x : Waiting). is_of t (file_trans x.call) ≡ false)) (sym h.waits) (others_told t k.waits named away.others)
@@ -170,12 +171,8 @@ module _ {V : Type 0} (a : Account) (before now : ℕ) (held : Contents) (k : Se
       lives = λ u. subst (λ (x : Option Live). IsAlike a.holder.cells with_asked.held (a.locked u) u x (a.holder.lives u)) (sym (get_put k.lives t live_now u)) (go u (same_trans u t) refl);
       room = same_room k.sizes a.holder.cells k.lives t l live_now there stands.2 h.room;
       unborn = h.unborn;
-      current = h.current;
-      drawn = h.drawn;
-      begun = h.begun;
-      undrawn = h.undrawn;
+      coordinator = h.coordinator;
       plain = h.plain;
-      ends = h.ends;
       lone = h.lone;
       files = h.files;
       made = h.made;
@@ -226,12 +223,8 @@ module _ {V : Type 0} (a : Account) (before now : ℕ) (held : Contents) (k : Se
           room = same_room k.sizes a.holder.cells k.lives t l live_now there stands.2 h.room;
           unborn = each_set (λ x. PutNoneBeyond a.holder.server a.ids.epoch k.given x.edits) t (Some new) a.holder.lives h.unborn
               (λ x at. subst (λ (y : Life). PutNoneBeyond a.holder.server a.ids.epoch k.given y.edits) (same-some new x at) (h.unborn t life live));
-          current = each_set_at (λ u x. u.epoch ≡ a.ids.epoch) t (Some new) a.holder.lives h.current (λ x at. h.current t life live);
-          drawn = h.drawn;
-          begun = h.begun;
-          undrawn = h.undrawn;
+          coordinator = h.coordinator;
           plain = h.plain;
-          ends = h.ends;
           lone = h.lone;
           files = h.files;
           made = h.made;

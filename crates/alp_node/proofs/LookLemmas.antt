@@ -32,12 +32,13 @@ use Rattle.alp_journal.specs.Account.{Account, state_of}
 use Rattle.alp_journal.proofs.IdLemmas.{same_trans-true}
 use Rattle.alp_calls.specs.declared.limits.Room.{Room}
 use Rattle.alp_node.specs.Calls.{name_in}
+use Rattle.alp_coord.specs.Coordinators.{count_of}
 use Rattle.alp_node.specs.Asks.{is_given}
 use Rattle.alp_node.specs.Rooms.{IsRoomOf, IsWithin}
 use Rattle.alp_node.specs.Totals.{LiveMap}
 use Rattle.alp_node.proofs.WithinLemmas.{within_same}
 use Rattle.alp_node.specs.Dead.{cause_in}
-use Rattle.alp_node.specs.ServerState.{IsAs, IsReady, IsNumbered}
+use Rattle.alp_node.specs.ServerState.{IsAs, IsReady}
 use Rattle.alp_node.specs.Standings.{standing_of}
 use Rattle.alp_node.specs.Steps.{IsStep, IsRefused, IsDown, IsTurn, IsOf, counted_in, refused_answer}
 use Rattle.alp_node.specs.declared.answer.Answer.{Answer}
@@ -55,6 +56,8 @@ use Rattle.alp_node.proofs.GivenLemmas.{IsCounted, counts_fault, counts_down, re
 use Rattle.alp_node.proofs.KeptLemmas.{IsLive, live_there, same_live, as_with}
 use Rattle.alp_node.proofs.MapLemmas.{put_length, put_there, get_put}
 use Rattle.alp_node.proofs.ReadyLemmas.{counted_ready, ready_with, down_ready}
+use Rattle.alp_node.specs.Transactions.{owner_of}
+use Rattle.alp_node.proofs.TransactionLemmas.{own_alike}
 use Rattle.alp_node.proofs.TurnLemmas.{counts_refused}
 use Rattle.alp_node.proofs.SeatLemmas.{left_seated, left_noted, left_step}
 use Rattle.alp_node.proofs.ServedLemmas.{fault_stepped}
@@ -86,9 +89,9 @@ module _ {V : Type 0} (n : ℕ) (before serves : Bool) (k : ServerState V) (t : 
     halted = λ down. (let wrong : false ≡ true = sym up ∙ down in cc);
     sound = h.sound;
     taken = h.taken;
-    waits = waiting_parts k.server k.epoch k.given k.given (le_refl k.given) k.drawn k.sizes k.lives (map.insert k.lives t (record l { part = p; locks = b })) k.waits k.locks.waiting (all_like k.waits like) live_so h.waits;
+    waits = waiting_parts k.server k.epoch k.given k.given (le_refl k.given) (count_of k.coordinator) k.sizes k.lives (map.insert k.lives t (record l { part = p; locks = b })) k.waits k.locks.waiting (all_like k.waits like) live_so h.waits;
     known = λ u x is. known_so u (same_trans u t) refl x (sym (get_put k.lives t (record l { part = p; locks = b }) u) ∙ is);
-    begun = λ u x is. begun_so u (same_trans u t) refl x (sym (get_put k.lives t (record l { part = p; locks = b }) u) ∙ is);
+    own = own_alike k.coordinator k.lives (map.insert k.lives t (record l { part = p; locks = b })) (λ u. ap owner_of (get_put k.lives t (record l { part = p; locks = b }) u) ∙ own_so u (same_trans u t) refl) h.own;
     opens = λ u x is. opens_so u (same_trans u t) x (sym (get_put k.lives t (record l { part = p; locks = b }) u) ∙ is);
     opened = λ u x is. opened_so u (same_trans u t) x (sym (get_put k.lives t (record l { part = p; locks = b }) u) ∙ is);
     callers = λ u x is. callers_so u (same_trans u t) x (sym (get_put k.lives t (record l { part = p; locks = b }) u) ∙ is);
@@ -107,7 +110,8 @@ module _ {V : Type 0} (n : ℕ) (before serves : Bool) (k : ServerState V) (t : 
     raised = h.raised;
     last = h.last;
     unheld = h.unheld;
-    decisions = h.decisions;
+    seat = h.seat;
+    times = h.times;
   }
     where
       all_like : (ws : List WaitingCall) → AllByRecursion (λ (w : WaitingCall). is_file_on t w ≡ true → IsLikePart l (record l { part = p; locks = b })) ws
@@ -141,9 +145,9 @@ module _ {V : Type 0} (n : ℕ) (before serves : Bool) (k : ServerState V) (t : 
       known_so u true e x is = h.known u l (at_t u e)
       known_so u false e x is = h.known u x is
 
-      begun_so : (u : TransId) (e : Bool) → same_trans u t ≡ e → (x : Live) → cond {A = Option Live} e (Some (record l { part = p; locks = b })) (map.get k.lives u) ≡ Some x → IsNumbered k.drawn u
-      begun_so u true e x is = h.begun u l (at_t u e)
-      begun_so u false e x is = h.begun u x is
+      own_so : (u : TransId) (e : Bool) → same_trans u t ≡ e → owner_of (cond {A = Option Live} e (Some (record l { part = p; locks = b })) (map.get k.lives u)) ≡ owner_of (map.get k.lives u)
+      own_so u true e = ap owner_of (sym (at_t u e))
+      own_so u false e = refl
 
       within_so : (u : TransId) (e : Bool) (x : Live) → cond {A = Option Live} e (Some (record l { part = p; locks = b })) (map.get k.lives u) ≡ Some x → IsWithin k.sizes x
       within_so u true x is = subst (IsWithin k.sizes) (same_live (record l { part = p; locks = b }) x is) fresh

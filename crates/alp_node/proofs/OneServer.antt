@@ -1,8 +1,8 @@
 -- what follows where no other server is of the run: no join is live, and each part is its client's whose transaction runs here
-use Rattle.std.specs.Prelude.{cond, Bool, true, false, not, ◌&&◌, ◌==◌, filter, find, flat_map, Option, None, Some, IsSome, is_some}
+use Rattle.std.specs.Prelude.{cond, Bool, true, false, ◌==◌, filter, find, flat_map, Option, None, Some, IsSome, is_some}
 use Rattle.std.specs.List.{list_all}
-use Rattle.std.proofs.lemmas.Bool.{and_parts, eqb-true}
-use Rattle.std.proofs.Common.{inl, inr, ◌⊎◌, ◌≡◌, ℕ, List, [], ◌∷◌, ◌++◌, refl, sym, ◌∙◌, ap, subst, eq-eqb}
+use Rattle.std.proofs.lemmas.Bool.{and_parts}
+use Rattle.std.proofs.Common.{inl, inr, ◌⊎◌, ◌≡◌, ℕ, List, [], ◌∷◌, ◌++◌, refl, sym, ◌∙◌, ap, subst}
 use Rattle.alp_base.specs.declared.ids.JoinNo.{JoinNo}
 use Rattle.alp_base.specs.declared.ids.Stamp.{Stamp}
 use Rattle.alp_base.specs.declared.ids.TransId.{TransId}
@@ -18,7 +18,7 @@ use Rattle.alp_journal.specs.Holder.{Life}
 use Rattle.alp_journal.specs.Desk.{Waiting}
 use Rattle.alp_journal.specs.State.{is_other_server, is_whose, join_for}
 use Rattle.alp_journal.specs.Laws.{IsHolding, is_standing}
-use Rattle.alp_journal.specs.Answers.{Part, AtWork, ended_part, join_part, part_at, trans_live}
+use Rattle.alp_journal.specs.Answers.{AtWork, ended_part, join_part, part_at, trans_live}
 use Rattle.alp_journal.specs.Messages.{Mail, to_others, trans_ready, all_ready}
 use Rattle.alp_journal.specs.Account.{Account, state_of, is_other, IsFateOf, IsPhaseOf, IsPartAs, IsPaired, HasNoJoin, Stands, IsQuiet, IsTriedCommit, HasTried}
 use Rattle.alp_journal.proofs.StandLemmas.{own_server, holding_of, own_here}

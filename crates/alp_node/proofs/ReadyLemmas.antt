@@ -2,7 +2,7 @@
 use Rattle.std.specs.Prelude.{cond, Bool, true, false, not, ◌==◌, IsTrue, Option, None, Some, is_some}
 use Rattle.std.specs.FinMap as map
 use Rattle.std.specs.List.{list_all, AllByRecursion}
-use Rattle.std.proofs.Common.{◌≡◌, ℕ, ◌+◌, ◌^◌, ◌<◌, ◌≤◌, List, [], ◌∷◌, ◌++◌, length, refl, sym, ◌∙◌, ap, subst, arith, le_refl}
+use Rattle.std.proofs.Common.{◌≡◌, ℕ, ◌+◌, ◌^◌, ◌<◌, ◌≤◌, List, [], length, refl, sym, ◌∙◌, ap, subst, arith, le_refl}
 use Rattle.alp_base.specs.declared.ids.TransId.{TransId}
 use Rattle.alp_base.specs.declared.key.Resource.{Resource}
 use Rattle.alp_base.specs.declared.key.Resource.TheVariants.{Whole}
@@ -23,13 +23,16 @@ use Rattle.alp_locks.proofs.WakeLemmas.{taken-sound, released-each, released-kno
 use Rattle.alp_queue.specs.Order.{is_of as is_waiter_of}
 use Rattle.alp_queue.specs.declared.waiter.Waiter.{Waiter}
 use Rattle.alp_journal.specs.Ids.{same_trans}
+use Rattle.alp_journal.specs.Coordinator.{client_of, decision_in}
+use Rattle.alp_journal.specs.Deeds.{Begins}
 use Rattle.alp_journal.proofs.IdLemmas.{same_trans-itself, same_trans-true}
+use Rattle.alp_coord.specs.declared.coordinator.Coordinator.{Coordinator}
+use Rattle.alp_coord.specs.Coordinators.{IsOf, IsAlong, Comes, Keeps, server_of, epoch_of, count_of, next_id}
 use Rattle.alp_node.specs.Asks.{is_given}
 use Rattle.alp_node.specs.Dead.{cause_in, without_client}
 use Rattle.alp_node.specs.Rooms.{IsWithin}
 use Rattle.alp_node.specs.Sessions.{session_at, with_session}
-use Rattle.alp_node.specs.Decisions.{with_time}
-use Rattle.alp_node.specs.ServerState.{IsReady, IsNumbered, IsCalm}
+use Rattle.alp_node.specs.ServerState.{IsReady, IsCalm}
 use Rattle.alp_node.specs.Releases.{buried, cleared}
 use Rattle.alp_node.specs.Steps.{IsTurn, counted_in}
 use Rattle.alp_node.specs.Turns.{TellsUpTo, IsKeepable}
@@ -38,9 +41,9 @@ use Rattle.alp_node.specs.declared.dead.DeadPart.{DeadPart}
 use Rattle.alp_node.specs.Waits.{is_of, without_calls_of, outlives, without_dead, stays, live_calls, IsWaitingCall, IsOfCalls, AreWaiting, asks_for}
 use Rattle.alp_node.specs.declared.lives.Live.{Live}
 use Rattle.alp_node.specs.declared.waits.WaitingCall.{WaitingCall}
-use Rattle.alp_node.proofs.DecisionLemmas.{times_begin, times_decide}
 use Rattle.alp_node.proofs.DeadLemmas.{none_left, dead_buried, alive_still}
 use Rattle.alp_node.proofs.WaitLemmas.{call_later, like_itself, filter_apart, IsOwned, all_owned, asks_undead, asks_live, asks_other}
+use Rattle.alp_node.proofs.TransactionLemmas.{LetsGo, own_gone, own_begun, times_begun}
 use Rattle.alp_journal.specs.Desk.{Session}
 use Rattle.alp_node.specs.declared.sessions.Sessions.{Sessions}
 use Rattle.alp_node.specs.declared.sessions.Turn.{Turn}
@@ -129,7 +132,7 @@ module _ {V : Type 0} (n : ℕ) (serves : Bool) (k : ServerState V) where
     taken = h.taken;
     waits = h.waits;
     known = h.known;
-    begun = h.begun;
+    own = h.own;
     opens = λ t l is. (let low : l.part.last ≤ n = h.opens t l is in omega arith);
     opened = h.opened;
     callers = h.callers;
@@ -148,7 +151,8 @@ module _ {V : Type 0} (n : ℕ) (serves : Bool) (k : ServerState V) where
     raised = h.raised;
     last = h.last;
     unheld = h.unheld;
-    decisions = h.decisions;
+    seat = h.seat;
+    times = h.times;
   }
 
   -- the session counts on, and keeps the reply
@@ -160,7 +164,7 @@ module _ {V : Type 0} (n : ℕ) (serves : Bool) (k : ServerState V) where
     taken = h.taken;
     waits = h.waits;
     known = h.known;
-    begun = h.begun;
+    own = h.own;
     opens = λ t l there. (let low : l.part.last ≤ n = h.opens t l there in omega arith);
     opened = h.opened;
     callers = h.callers;
@@ -179,7 +183,8 @@ module _ {V : Type 0} (n : ℕ) (serves : Bool) (k : ServerState V) where
     raised = h.raised;
     last = h.last;
     unheld = h.unheld;
-    decisions = h.decisions;
+    seat = h.seat;
+    times = h.times;
   }
 
   -- one step more
@@ -191,7 +196,7 @@ module _ {V : Type 0} (n : ℕ) (serves : Bool) (k : ServerState V) where
     taken = h.taken;
     waits = h.waits;
     known = h.known;
-    begun = h.begun;
+    own = h.own;
     opens = λ t l is. (let low : l.part.last ≤ n = h.opens t l is in omega arith);
     opened = h.opened;
     callers = h.callers;
@@ -210,22 +215,23 @@ module _ {V : Type 0} (n : ℕ) (serves : Bool) (k : ServerState V) where
     raised = h.raised;
     last = h.last;
     unheld = h.unheld;
-    decisions = h.decisions;
+    seat = h.seat;
+    times = h.times;
   }
 
-  -- a transaction is gone and its locks go, but nobody is woken yet
-  abbrev pub gone_kept : TransId → ServerState V
-  gone_kept t = record k { lives = map.remove k.lives t; locks = record (released k.locks t) { woken = [] } }
+  -- a transaction is gone and its locks go, but nobody is woken yet, and the coordinator and the clock go on
+  abbrev pub gone_kept : TransId → Coordinator → ℕ → ServerState V
+  gone_kept t c clock = record k { lives = map.remove k.lives t; locks = record (released k.locks t) { woken = [] }; coordinator = c; clock = clock }
 
-  pub gone_ready : (t : TransId) → IsReady n serves k → IsReady n serves (gone_kept t)
-  gone_ready t h = record {
+  pub gone_ready : (t : TransId) (c : Coordinator) (clock : ℕ) → k.clock ≤ clock → clock ≤ 2 ^ 62 → LetsGo k.coordinator c t clock → IsReady n serves k → IsReady n serves (gone_kept t c clock)
+  gone_ready t c clock later low lets h = record {
     serving = h.serving;
     halted = h.halted;
     sound = taken-sound (released k.locks t) (released-sound k.locks t h.sound);
     taken = refl;
     waits = record {
-      calls = each-more (IsWaitingCall k.server k.epoch k.given k.drawn k.sizes k.lives) (IsWaitingCall k.server k.epoch k.given k.drawn k.sizes (map.remove k.lives t))
-          (λ w. call_later k.server k.epoch k.given k.given (le_refl k.given) k.sizes k.drawn k.drawn (le_refl k.drawn) k.lives (map.remove k.lives t) w
+      calls = each-more (IsWaitingCall k.server k.epoch k.given (count_of k.coordinator) k.sizes k.lives) (IsWaitingCall k.server k.epoch k.given (count_of c) k.sizes (map.remove k.lives t))
+          (λ w. call_later k.server k.epoch k.given k.given (le_refl k.given) k.sizes (count_of k.coordinator) (count_of c) (omega (arith, lets.along.count_same)) k.lives (map.remove k.lives t) w
           (λ z counted o l is. (l, kept w.trans (same_trans w.trans t) l (λ there. there) (sym (get_gone k.lives t w.trans) ∙ is), like_itself l))) k.waits h.waits.calls;
       files = h.waits.files;
       apart = h.waits.apart;
@@ -234,7 +240,8 @@ module _ {V : Type 0} (n : ℕ) (serves : Bool) (k : ServerState V) where
           (released k.locks t).waiting (released-each (IsOfCalls k.server k.epoch k.given k.lives k.waits) k.locks t h.waits.queued);
     };
     known = λ u l is. go u (same_trans u t) refl l (sym (get_gone k.lives t u) ∙ is);
-    begun = λ u l is. kept u (same_trans u t) l (λ there. h.begun u l there) (sym (get_gone k.lives t u) ∙ is);
+    seat = (lets.along.server_same ∙ h.seat.0, lets.along.epoch_same ∙ h.seat.1);
+    own = own_gone k.coordinator c t clock k.lives lets h.own;
     opens = λ u l is. kept u (same_trans u t) l (λ there. h.opens u l there) (sym (get_gone k.lives t u) ∙ is);
     opened = λ u l is. kept u (same_trans u t) l (λ there. h.opened u l there) (sym (get_gone k.lives t u) ∙ is);
     callers = λ u l is. kept u (same_trans u t) l (λ there. h.callers u l there) (sym (get_gone k.lives t u) ∙ is);
@@ -242,17 +249,17 @@ module _ {V : Type 0} (n : ℕ) (serves : Bool) (k : ServerState V) where
     causes = h.causes;
     places = h.places;
     calls = h.calls;
-    replies = h.replies;
-    drawn = h.drawn;
+    replies = λ client w is. keepable_later k.clock clock w.reply later (h.replies client w is);
+    drawn = omega (arith, lets.along.count_same, h.drawn);
+    times = lets.times;
     given = h.given;
     few = (let fewer : map.len (map.remove k.lives t) ≤ map.len k.lives = gone_length k.lives t in omega (arith, fewer, h.few));
     most = (let fewer : map.len (map.remove k.lives t) ≤ map.len k.lives = gone_length k.lives t in omega (arith, fewer, h.most));
     within = λ u l is. kept u (same_trans u t) l (λ there. h.within u l there) (sym (get_gone k.lives t u) ∙ is);
     sized = h.sized;
-    clock = h.clock;
+    clock = low;
     raised = h.raised;
     last = h.last;
-    decisions = h.decisions;
     unheld = λ u m high. released-none (numbered k m) k.locks t (λ v. h.unheld v m high)
         (each-more (IsOfCalls k.server k.epoch k.given k.lives k.waits) (LocksNone (numbered k m)) (λ x o. o.beyond m high) k.locks.waiting h.waits.queued) u;
   }
@@ -268,25 +275,21 @@ module _ {V : Type 0} (n : ℕ) (serves : Bool) (k : ServerState V) where
       stays_live : (u : TransId) → same_trans u t ≡ false → is_some (map.get k.lives u) ≡ true → is_some (map.get (map.remove k.lives t) u) ≡ true
       stays_live u e there = ap is_some (get_gone k.lives t u ∙ ap (λ (x : Bool). cond {A = Option Live} x None (map.get k.lives u)) e) ∙ there
 
-  -- the id of the next transaction is new
-  pub next_new : IsReady n serves k → map.get k.lives (record { server = k.server; epoch = k.epoch; counter = k.drawn + 1 }) ≡ None
-  next_new h = go (map.get k.lives (record { server = k.server; epoch = k.epoch; counter = k.drawn + 1 })) refl
-    where
-      go : (x : Option Live) → map.get k.lives (record { server = k.server; epoch = k.epoch; counter = k.drawn + 1 }) ≡ x → x ≡ None
-      go None e = refl
-      go (Some l) e = (let low : k.drawn + 1 ≤ k.drawn = (h.begun (record { server = k.server; epoch = k.epoch; counter = k.drawn + 1 }) l e).1 in absurd (omega (arith, low)))
-
   -- a transaction begins
-  module _ (turn : Turn) (t : TransId) (l : Live) (clock : ℕ) where
+  module _ (turn : Turn) (l : Live) (clock : ℕ) (c : Coordinator) where
+    abbrev t : TransId
+    t = next_id k.coordinator
+
     -- the client's calls of dead parts go, and then those of no live part
     abbrev waits_then : List WaitingCall
     waits_then = live_calls turn.client (map.insert k.lives t l) (without_dead turn.client k.dead k.waits)
 
     abbrev pub begun_kept : ServerState V
-    begun_kept = record k { sessions = counted_in k.sessions turn (reply.Begun t); clock = clock; drawn = k.drawn + 1; decisions = k.decisions ++ 0 ∷ []; dead = without_client turn.client k.dead; lives = map.insert k.lives t l; waits = waits_then; locks = entered k.locks t }
+    begun_kept = record k { sessions = counted_in k.sessions turn (reply.Begun t); clock = clock; coordinator = c; dead = without_client turn.client k.dead; lives = map.insert k.lives t l; waits = waits_then; locks = entered k.locks t }
 
-    pub begin_ready : IsTurn k.sessions turn → t.counter ≡ k.drawn + 1 → l.client ≡ turn.client → is_some l.who ≡ true → own_of l.part ≡ no_opens → IsWithin k.sizes l → map.len k.lives < 64 → k.clock ≤ clock → clock ≤ 2 ^ 62 → IsReady n serves k → IsReady (n + 1) serves begun_kept
-    begin_ready is next own caller none fresh less later low h = record {
+    pub begin_ready : IsTurn k.sessions turn → l.client ≡ turn.client → IsOf (server_of k.coordinator) (epoch_of k.coordinator) (count_of k.coordinator + 1) c → ((who : List ℕ) (seen : ℕ) → Comes (Begins t turn.client who seen) k.coordinator c)
+        → is_some l.who ≡ true → own_of l.part ≡ no_opens → IsWithin k.sizes l → map.len k.lives < 64 → k.clock ≤ clock → clock ≤ 2 ^ 62 → IsReady n serves k → IsReady (n + 1) serves begun_kept
+    begin_ready is its one comes caller none fresh less later low h = record {
       serving = h.serving;
       halted = h.halted;
       sound = entered-sound k.locks t h.sound;
@@ -300,12 +303,13 @@ module _ {V : Type 0} (n : ℕ) (serves : Bool) (k : ServerState V) where
             (λ x o. record {
               live = live_then x.trans o.live;
               asks = asks_live turn.client (map.insert k.lives t l) (without_dead turn.client k.dead k.waits) x.trans (live_then x.trans o.live) owned_then
-                  (asks_undead turn.client k.dead k.lives k.waits x.trans (λ m there. h.alive x.trans m there) o.live (all_owned k.server k.epoch k.given k.drawn k.sizes k.lives k.waits h.waits.calls) o.asks);
+                  (asks_undead turn.client k.dead k.lives k.waits x.trans (λ m there. h.alive x.trans m there) o.live (all_owned k.server k.epoch k.given (count_of k.coordinator) k.sizes k.lives k.waits h.waits.calls) o.asks);
               beyond = o.beyond;
             }) k.locks.waiting h.waits.queued;
       };
       known = λ u x there. known_so u (same_trans u t) refl x (sym (get_put k.lives t l u) ∙ there);
-      begun = λ u x there. begun_so u (same_trans u t) refl x (sym (get_put k.lives t l u) ∙ there);
+      seat = (one.server_same ∙ h.seat.0, one.epoch_same ∙ h.seat.1);
+      own = own_begun turn.client 0 turn.who k.coordinator c k.lives l its (comes turn.who 0) h.own;
       opens = λ u x there. opens_so u (same_trans u t) x (sym (get_put k.lives t l u) ∙ there);
       opened = λ u x there. opened_so u (same_trans u t) x (sym (get_put k.lives t l u) ∙ there);
       callers = λ u x there. callers_so u (same_trans u t) x (sym (get_put k.lives t l u) ∙ there);
@@ -314,7 +318,7 @@ module _ {V : Type 0} (n : ℕ) (serves : Bool) (k : ServerState V) where
       places = places_set k.sessions turn.client (record { who = turn.who; last = turn.number; reply = reply.Begun t }) h.places;
       calls = calls_set k.sessions turn.client (record { who = turn.who; last = turn.number; reply = reply.Begun t }) n h.places is.client h.calls (turn_within k.sessions turn n is h.calls);
       replies = replies_set k.sessions turn.client (record { who = turn.who; last = turn.number; reply = reply.Begun t }) k.clock clock h.places is.client later h.replies (record { inside = tt; times = tt });
-      drawn = omega (arith, h.drawn);
+      drawn = omega (arith, one.count_same, h.drawn);
       given = omega (arith, h.given);
       few = (let more : map.len (map.insert k.lives t l) ≤ map.len k.lives + 1 = put_most k.lives t l in omega (arith, more, h.few));
       most = (let more : map.len (map.insert k.lives t l) ≤ map.len k.lives + 1 = put_most k.lives t l in omega (arith, more, less));
@@ -323,7 +327,7 @@ module _ {V : Type 0} (n : ℕ) (serves : Bool) (k : ServerState V) where
       clock = low;
       raised = h.raised;
       last = h.last;
-      decisions = times_begin k.drawn k.clock clock k.decisions later h.decisions;
+      times = times_begun k.clock clock turn.client 0 turn.who t k.coordinator c later (comes turn.who 0) h.times;
       unheld = λ u m high. entered_unheld k.locks t u (numbered k m) (h.unheld u m high);
     }
       where
@@ -332,23 +336,23 @@ module _ {V : Type 0} (n : ℕ) (serves : Bool) (k : ServerState V) where
         callers_so u false x there = h.callers u x there
 
         alive_so : (u : TransId) (b : Bool) (x : Live) → cond {A = Option Live} b (Some l) (map.get k.lives u) ≡ Some x → cause_in (without_client turn.client k.dead) x.client u ≡ None
-        alive_so u true x there = none_left k.dead x.client turn.client u (ap (λ (y : Live). y.client) (sym (same_live l x there)) ∙ own)
+        alive_so u true x there = none_left k.dead x.client turn.client u (ap (λ (y : Live). y.client) (sym (same_live l x there)) ∙ its)
         alive_so u false x there = alive_still (x.client == turn.client) (cause_in k.dead x.client u) (cause_in (without_client turn.client k.dead) x.client u) (dead_buried turn.client k.dead x.client u) (h.alive u x there)
 
         Called : WaitingCall → Type 0
-        Called = IsWaitingCall k.server k.epoch k.given (k.drawn + 1) k.sizes (map.insert k.lives t l)
+        Called = IsWaitingCall k.server k.epoch k.given (count_of c) k.sizes (map.insert k.lives t l)
 
-        older : (u : TransId) (b : Bool) → same_trans u t ≡ b → u.counter ≤ k.drawn → (x : Live) → cond {A = Option Live} b (Some l) (map.get k.lives u) ≡ Some x → map.get k.lives u ≡ Some x
-        older u true e before x there = (let counter : u.counter ≡ t.counter = ap (λ (v : TransId). v.counter) (same_trans-true u t e) in absurd (omega (arith, counter, next, before)))
+        older : (u : TransId) (b : Bool) → same_trans u t ≡ b → u.counter ≤ count_of k.coordinator → (x : Live) → cond {A = Option Live} b (Some l) (map.get k.lives u) ≡ Some x → map.get k.lives u ≡ Some x
+        older u true e before x there = (let counter : u.counter ≡ count_of k.coordinator + 1 = ap (λ (v : TransId). v.counter) (same_trans-true u t e) in absurd (omega (arith, counter, before)))
         older u false e before x there = there
 
         calls_then : AllByRecursion Called k.waits
-        calls_then = each-more (IsWaitingCall k.server k.epoch k.given k.drawn k.sizes k.lives) Called
-            (λ w. call_later k.server k.epoch k.given k.given (le_refl k.given) k.sizes k.drawn (k.drawn + 1) (omega arith) k.lives (map.insert k.lives t l) w
+        calls_then = each-more (IsWaitingCall k.server k.epoch k.given (count_of k.coordinator) k.sizes k.lives) Called
+            (λ w. call_later k.server k.epoch k.given k.given (le_refl k.given) k.sizes (count_of k.coordinator) (count_of c) (omega (arith, one.count_same)) k.lives (map.insert k.lives t l) w
             (λ z counted o x there. (x, older w.trans (same_trans w.trans t) refl o.begun x (sym (get_put k.lives t l w.trans) ∙ there), like_itself x))) k.waits h.waits.calls
 
         owned_then : AllByRecursion (IsOwned (map.insert k.lives t l)) (without_dead turn.client k.dead k.waits)
-        owned_then = each-filter (IsOwned (map.insert k.lives t l)) (outlives turn.client k.dead) k.waits (all_owned k.server k.epoch k.given (k.drawn + 1) k.sizes (map.insert k.lives t l) k.waits calls_then)
+        owned_then = each-filter (IsOwned (map.insert k.lives t l)) (outlives turn.client k.dead) k.waits (all_owned k.server k.epoch k.given (count_of c) k.sizes (map.insert k.lives t l) k.waits calls_then)
 
         live_then : (u : TransId) → is_some (map.get k.lives u) ≡ true → is_some (map.get (map.insert k.lives t l) u) ≡ true
         live_then u there = ap is_some (get_put k.lives t l u) ∙ either_live (same_trans u t) there
@@ -360,10 +364,6 @@ module _ {V : Type 0} (n : ℕ) (serves : Bool) (k : ServerState V) where
         known_so : (u : TransId) (b : Bool) → same_trans u t ≡ b → (x : Live) → cond {A = Option Live} b (Some l) (map.get k.lives u) ≡ Some x → is_some (map.get (entered k.locks t).held u) ≡ true
         known_so u true e x there = ap (λ (v : TransId). is_some (map.get (entered k.locks t).held v)) (same_trans-true u t e) ∙ insert-knows k.locks.held t (held_of k.locks.held t)
         known_so u false e x there = insert-keeps k.locks.held t (held_of k.locks.held t) u (h.known u x there)
-
-        begun_so : (u : TransId) (b : Bool) → same_trans u t ≡ b → (x : Live) → cond {A = Option Live} b (Some l) (map.get k.lives u) ≡ Some x → IsNumbered (k.drawn + 1) u
-        begun_so u true e x there = (let counter : u.counter ≡ t.counter = ap (λ (v : TransId). v.counter) (same_trans-true u t e) in (omega (arith, counter, next), omega (arith, counter, next)))
-        begun_so u false e x there = (let low : u.counter ≤ k.drawn = (h.begun u x there).1 in ((h.begun u x there).0, omega (arith, low)))
 
         within_so : (u : TransId) (b : Bool) (x : Live) → cond {A = Option Live} b (Some l) (map.get k.lives u) ≡ Some x → IsWithin k.sizes x
         within_so u true x there = subst (IsWithin k.sizes) (same_live l x there) fresh
@@ -379,8 +379,40 @@ module _ {V : Type 0} (n : ℕ) (serves : Bool) (k : ServerState V) where
         opened_so u true x there = ap (λ (y : Live). list_all (λ (o : Open). is_given k.server k.epoch k.given o.file) y.part.opens.items) (sym (same_live l x there)) ∙ ap (λ (w : Own). list_all (λ (o : Open). is_given k.server k.epoch k.given o.file) w.opens) none
         opened_so u false x there = h.opened u x there
 
+  -- where a begin was taken back it is ready as before
+  pub back_ready : (c : Coordinator) → IsAlong k.coordinator c → Keeps k.coordinator c → IsReady n serves k → IsReady n serves (record k { coordinator = c })
+  back_ready c along keeps h = record {
+    serving = h.serving;
+    halted = h.halted;
+    sound = h.sound;
+    taken = h.taken;
+    waits = subst (λ (m : ℕ). AreWaiting k.server k.epoch k.given m k.sizes k.lives k.waits k.locks.waiting) (sym along.count_same) h.waits;
+    known = h.known;
+    seat = (along.server_same ∙ h.seat.0, along.epoch_same ∙ h.seat.1);
+    own = λ t. ap client_of (keeps t) ∙ h.own t;
+    opens = h.opens;
+    opened = h.opened;
+    callers = h.callers;
+    alive = h.alive;
+    causes = h.causes;
+    places = h.places;
+    calls = h.calls;
+    replies = h.replies;
+    drawn = omega (arith, along.count_same, h.drawn);
+    times = λ t stamp js is. h.times t stamp js (ap decision_in (sym (keeps t)) ∙ is);
+    given = h.given;
+    few = h.few;
+    most = h.most;
+    within = h.within;
+    sized = h.sized;
+    clock = h.clock;
+    raised = h.raised;
+    last = h.last;
+    unheld = h.unheld;
+  }
+
   -- what becomes of the calls that wait does not matter to the rest
-  pub waits_ready : (ws : List WaitingCall) → AreWaiting k.server k.epoch k.given k.drawn k.sizes k.lives ws k.locks.waiting → IsReady n serves k → IsReady n serves (record k { waits = ws })
+  pub waits_ready : (ws : List WaitingCall) → AreWaiting k.server k.epoch k.given (count_of k.coordinator) k.sizes k.lives ws k.locks.waiting → IsReady n serves k → IsReady n serves (record k { waits = ws })
   waits_ready ws all h = record {
     serving = h.serving;
     halted = h.halted;
@@ -388,7 +420,7 @@ module _ {V : Type 0} (n : ℕ) (serves : Bool) (k : ServerState V) where
     taken = h.taken;
     waits = all;
     known = h.known;
-    begun = h.begun;
+    own = h.own;
     opens = h.opens;
     opened = h.opened;
     callers = h.callers;
@@ -407,13 +439,14 @@ module _ {V : Type 0} (n : ℕ) (serves : Bool) (k : ServerState V) where
     raised = h.raised;
     last = h.last;
     unheld = h.unheld;
-    decisions = h.decisions;
+    seat = h.seat;
+    times = h.times;
   }
 
   -- the calls of a part go of which nobody waits in the table
   pub without_ready : (client : ℕ) (t : TransId) → AllByRecursion (λ (x : Waiter). same_trans x.trans t ≡ false) k.locks.waiting → IsReady n serves k → IsReady n serves (record k { waits = without_calls_of client t k.waits })
   without_ready client t others h = waits_ready (without_calls_of client t k.waits) (record {
-    calls = each-filter (IsWaitingCall k.server k.epoch k.given k.drawn k.sizes k.lives) (λ w. not (is_of client t w)) k.waits h.waits.calls;
+    calls = each-filter (IsWaitingCall k.server k.epoch k.given (count_of k.coordinator) k.sizes k.lives) (λ w. not (is_of client t w)) k.waits h.waits.calls;
     files = each-filter (λ (w : WaitingCall). is_some w.counts ≡ true) (λ w. not (is_of client t w)) k.waits h.waits.files;
     apart = filter_apart (λ w. not (is_of client t w)) k.waits h.waits.apart;
     queued = each-both (λ (x : Waiter). same_trans x.trans t ≡ false) (IsOfCalls k.server k.epoch k.given k.lives k.waits) (IsOfCalls k.server k.epoch k.given k.lives (without_calls_of client t k.waits))
@@ -439,13 +472,13 @@ module _ {V : Type 0} (n : ℕ) (serves : Bool) (k : ServerState V) where
   -- of a client's calls those of dead parts go
   pub undead_calls_ready : (client : ℕ) → IsReady n serves k → IsReady n serves (record k { waits = without_dead client k.dead k.waits })
   undead_calls_ready client h = waits_ready (without_dead client k.dead k.waits) (record {
-    calls = each-filter (IsWaitingCall k.server k.epoch k.given k.drawn k.sizes k.lives) (outlives client k.dead) k.waits h.waits.calls;
+    calls = each-filter (IsWaitingCall k.server k.epoch k.given (count_of k.coordinator) k.sizes k.lives) (outlives client k.dead) k.waits h.waits.calls;
     files = each-filter (λ (w : WaitingCall). is_some w.counts ≡ true) (outlives client k.dead) k.waits h.waits.files;
     apart = filter_apart (outlives client k.dead) k.waits h.waits.apart;
     queued = each-more (IsOfCalls k.server k.epoch k.given k.lives k.waits) (IsOfCalls k.server k.epoch k.given k.lives (without_dead client k.dead k.waits))
         (λ x o. record {
           live = o.live;
-          asks = asks_undead client k.dead k.lives k.waits x.trans (λ l there. h.alive x.trans l there) o.live (all_owned k.server k.epoch k.given k.drawn k.sizes k.lives k.waits h.waits.calls) o.asks;
+          asks = asks_undead client k.dead k.lives k.waits x.trans (λ l there. h.alive x.trans l there) o.live (all_owned k.server k.epoch k.given (count_of k.coordinator) k.sizes k.lives k.waits h.waits.calls) o.asks;
           beyond = o.beyond;
         }) k.locks.waiting h.waits.queued;
   }) h
@@ -453,11 +486,11 @@ module _ {V : Type 0} (n : ℕ) (serves : Bool) (k : ServerState V) where
   -- and those that are of no live part
   pub live_calls_ready : (client : ℕ) → IsReady n serves k → IsReady n serves (record k { waits = live_calls client k.lives k.waits })
   live_calls_ready client h = waits_ready (live_calls client k.lives k.waits) (record {
-    calls = each-filter (IsWaitingCall k.server k.epoch k.given k.drawn k.sizes k.lives) (stays client k.lives) k.waits h.waits.calls;
+    calls = each-filter (IsWaitingCall k.server k.epoch k.given (count_of k.coordinator) k.sizes k.lives) (stays client k.lives) k.waits h.waits.calls;
     files = each-filter (λ (w : WaitingCall). is_some w.counts ≡ true) (stays client k.lives) k.waits h.waits.files;
     apart = filter_apart (stays client k.lives) k.waits h.waits.apart;
     queued = each-more (IsOfCalls k.server k.epoch k.given k.lives k.waits) (IsOfCalls k.server k.epoch k.given k.lives (live_calls client k.lives k.waits))
-        (λ x o. record { live = o.live; asks = asks_live client k.lives k.waits x.trans o.live (all_owned k.server k.epoch k.given k.drawn k.sizes k.lives k.waits h.waits.calls) o.asks; beyond = o.beyond }) k.locks.waiting h.waits.queued;
+        (λ x o. record { live = o.live; asks = asks_live client k.lives k.waits x.trans o.live (all_owned k.server k.epoch k.given (count_of k.coordinator) k.sizes k.lives k.waits h.waits.calls) o.asks; beyond = o.beyond }) k.locks.waiting h.waits.queued;
   }) h
 
   -- whom else it remembers as dead does not matter
@@ -469,7 +502,7 @@ module _ {V : Type 0} (n : ℕ) (serves : Bool) (k : ServerState V) where
     taken = h.taken;
     waits = h.waits;
     known = h.known;
-    begun = h.begun;
+    own = h.own;
     opens = h.opens;
     opened = h.opened;
     callers = h.callers;
@@ -488,7 +521,8 @@ module _ {V : Type 0} (n : ℕ) (serves : Bool) (k : ServerState V) where
     raised = h.raised;
     last = h.last;
     unheld = h.unheld;
-    decisions = h.decisions;
+    seat = h.seat;
+    times = h.times;
   }
 
 not_both : (b : Bool) → b ≡ false → b ≡ true → ⊥
@@ -503,7 +537,7 @@ ready_with n before serves k v on up h = record {
   taken = h.taken;
   waits = h.waits;
   known = h.known;
-  begun = h.begun;
+  own = h.own;
   opens = h.opens;
   opened = h.opened;
   callers = h.callers;
@@ -522,7 +556,8 @@ ready_with n before serves k v on up h = record {
   raised = h.raised;
   last = h.last;
   unheld = h.unheld;
-  decisions = h.decisions;
+  seat = h.seat;
+  times = h.times;
 }
 
 -- whoever is down does not serve
@@ -537,7 +572,7 @@ down_ready n before serves k v off h =
       taken = c.taken;
       waits = c.waits;
       known = c.known;
-      begun = c.begun;
+      own = c.own;
       opens = c.opens;
       opened = c.opened;
       callers = c.callers;
@@ -556,42 +591,8 @@ down_ready n before serves k v off h =
       raised = c.raised;
       last = c.last;
       unheld = c.unheld;
-      decisions = c.decisions;
-    }
-
--- a commit is counted, and the clock comes to its time
-pub commit_ready : {V : Type 0} (n : ℕ) (before serves : Bool) (k : ServerState V) (v : V) (turn : Turn) (t : TransId) → IsTrue serves → k.is_down ≡ false → IsTurn k.sessions turn → k.clock < 2 ^ 62 → IsReady n before k
-    → IsReady (n + 1) serves (record k { sessions = counted_in k.sessions turn (reply.Committed (record { ts = k.clock + 1; trans = t })); clock = k.clock + 1; decisions = with_time k.decisions t.counter (k.clock + 1); vault = v })
-commit_ready n before serves k v turn t on up is early h =
-    let c = stepped_ready n before k h in
-    let w : Session = record { who = turn.who; last = turn.number; reply = reply.Committed (record { ts = k.clock + 1; trans = t }) } in
-    record {
-      serving = λ _. on;
-      halted = λ down. absurd (not_both k.is_down up down);
-      sound = c.sound;
-      taken = c.taken;
-      waits = c.waits;
-      known = c.known;
-      begun = c.begun;
-      opens = c.opens;
-      opened = c.opened;
-      callers = c.callers;
-      alive = c.alive;
-      causes = c.causes;
-      places = places_set k.sessions turn.client w h.places;
-      calls = calls_set k.sessions turn.client w n h.places is.client h.calls (turn_within k.sessions turn n is h.calls);
-      replies = replies_set k.sessions turn.client w k.clock (k.clock + 1) h.places is.client (omega arith) h.replies (record { inside = tt; times = le_refl (k.clock + 1) });
-      drawn = c.drawn;
-      given = c.given;
-      few = c.few;
-      most = c.most;
-      within = c.within;
-      sized = c.sized;
-      clock = omega (arith, early);
-      raised = c.raised;
-      last = c.last;
-      unheld = c.unheld;
-      decisions = times_decide k.drawn k.clock t.counter k.decisions h.decisions;
+      seat = c.seat;
+      times = c.times;
     }
 
 -- the client's dead parts go as it is answered, with their calls

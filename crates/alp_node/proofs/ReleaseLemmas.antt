@@ -16,15 +16,17 @@ use Rattle.alp_journal.proofs.IdLemmas.{all-append, same_trans-itself, same_tran
 use Rattle.alp_locks.specs.Releases.{released}
 use Rattle.alp_locks.proofs.SoundLemmas.{each-more, each-both, each-filter}
 use Rattle.alp_locks.proofs.WakeLemmas.{IsNoneOf, released-others}
+use Rattle.alp_trans.specs.declared.part.Part.{Part}
 use Rattle.alp_queue.specs.Order.{is_of as is_waiter_of}
 use Rattle.alp_queue.specs.declared.waiter.Waiter.{Waiter}
+use Rattle.alp_coord.specs.declared.coordinator.Coordinator.{Coordinator}
+use Rattle.alp_coord.specs.Coordinators.{count_of}
 use Rattle.alp_node.specs.Asks.{is_given}
 use Rattle.alp_node.specs.Dead.{cause_in, is_part, without_part}
 use Rattle.alp_node.specs.Halts.{HaveCauses}
 use Rattle.alp_node.specs.Releases.{grant_acts, with_locks, granted_if, granted_one, granted_all, let_go}
 use Rattle.alp_node.specs.Rooms.{IsWithin}
-use Rattle.alp_node.specs.Decisions.{with_time}
-use Rattle.alp_node.specs.ServerState.{IsReady, IsNumbered, IsCalm}
+use Rattle.alp_node.specs.ServerState.{IsReady, IsCalm}
 use Rattle.alp_node.specs.Steps.{IsTurn, counted_in, ended}
 use Rattle.alp_node.specs.Totals.{LiveMap}
 use Rattle.alp_node.specs.Turns.{IsKeepable}
@@ -35,10 +37,11 @@ use Rattle.alp_node.specs.declared.server_state.ServerState.{ServerState}
 use Rattle.alp_node.specs.declared.sessions.Turn.{Turn}
 use Rattle.alp_node.specs.declared.waits.WaitingCall.{WaitingCall}
 use Rattle.alp_node.proofs.DeadLemmas.{part_left, alive_still, dead_then}
-use Rattle.alp_node.proofs.LockedLemmas.{locked_each, locked_length, locked_live, locked_none, granted_locks}
-use Rattle.alp_node.proofs.MapLemmas.{get_gone, tied_same}
-use Rattle.alp_node.proofs.ReadyLemmas.{gone_kept, gone_ready, counted_ready, buried_ready, without_ready, live_others, commit_ready, turned}
+use Rattle.alp_node.proofs.LockedLemmas.{locked_each, locked_length, locked_live, locked_none, granted_locks, locked_owner}
+use Rattle.alp_node.proofs.MapLemmas.{get_gone, tied_same, gone_length}
+use Rattle.alp_node.proofs.ReadyLemmas.{gone_kept, gone_ready, counted_ready, buried_ready, without_ready, live_others, turned, ready_with}
 use Rattle.alp_node.proofs.WaitLemmas.{find_each, counts_there, file_counts, file_at, call_later, IsLikePart, like_itself, grant_call, grant_apart, grant_asks}
+use Rattle.alp_node.proofs.TransactionLemmas.{LetsGo, own_alike}
 use Rattle.alp_node.proofs.WithinLemmas.{log_most}
 
 -- ---- one grant
@@ -62,16 +65,16 @@ module _ {V : Type 0} (n : ℕ) (serves : Bool) (k : ServerState V) (t : TransId
     sound = h.sound;
     taken = h.taken;
     waits = record {
-      calls = grant_call (IsWaitingCall k.server k.epoch k.given k.drawn k.sizes now) t granted_call k.waits
-          (each-more (IsWaitingCall k.server k.epoch k.given k.drawn k.sizes k.lives) (IsWaitingCall k.server k.epoch k.given k.drawn k.sizes now)
-          (λ w. call_later k.server k.epoch k.given k.given (le_refl k.given) k.sizes k.drawn k.drawn (le_refl k.drawn) k.lives now w (λ z counted o l is. was w.trans l is)) k.waits h.waits.calls);
+      calls = grant_call (IsWaitingCall k.server k.epoch k.given (count_of k.coordinator) k.sizes now) t granted_call k.waits
+          (each-more (IsWaitingCall k.server k.epoch k.given (count_of k.coordinator) k.sizes k.lives) (IsWaitingCall k.server k.epoch k.given (count_of k.coordinator) k.sizes now)
+          (λ w. call_later k.server k.epoch k.given k.given (le_refl k.given) k.sizes (count_of k.coordinator) (count_of k.coordinator) (le_refl (count_of k.coordinator)) k.lives now w (λ z counted o l is. was w.trans l is)) k.waits h.waits.calls);
       files = grant_call (λ (w : WaitingCall). is_some w.counts ≡ true) t (λ w e. e) k.waits h.waits.files;
       apart = grant_apart t k.waits h.waits.apart;
       queued = each-both (λ (x : Waiter). is_waiter_of t x ≡ false) (IsOfCalls k.server k.epoch k.given k.lives k.waits) (IsOfCalls k.server k.epoch k.given now (grant_of t k.waits))
           (λ x e o. record { live = locked_live k.lives t m x.trans o.live; asks = grant_asks t x.trans k.waits (turned t x.trans (sym (tied_same t x.trans) ∙ e)) ∙ o.asks; beyond = o.beyond }) k.locks.waiting others h.waits.queued;
     };
     known = locked_each k.lives t m (λ u l. is_some (map.get k.locks.held u) ≡ true) h.known (λ l there. h.known t l there);
-    begun = locked_each k.lives t m (λ u l. IsNumbered k.drawn u) h.begun (λ l there. h.begun t l there);
+    own = own_alike k.coordinator k.lives now (locked_owner k.lives t m) h.own;
     opens = locked_each k.lives t m (λ u l. l.part.last ≤ n) h.opens (λ l there. h.opens t l there);
     opened = locked_each k.lives t m (λ u l. list_all (λ (o : Open). is_given k.server k.epoch k.given o.file) l.part.opens.items ≡ true) h.opened (λ l there. h.opened t l there);
     callers = locked_each k.lives t m (λ u l. is_some l.who ≡ true) h.callers (λ l there. h.callers t l there);
@@ -90,17 +93,18 @@ module _ {V : Type 0} (n : ℕ) (serves : Bool) (k : ServerState V) (t : TransId
     raised = h.raised;
     last = h.last;
     unheld = h.unheld;
-    decisions = h.decisions;
+    seat = h.seat;
+    times = h.times;
   }
     where
       now : LiveMap
       now = with_locks k.lives t m
 
-      granted_call : (w : WaitingCall) → IsWaitingCall k.server k.epoch k.given k.drawn k.sizes now w → IsWaitingCall k.server k.epoch k.given k.drawn k.sizes now (record w { is_granted = true })
+      granted_call : (w : WaitingCall) → IsWaitingCall k.server k.epoch k.given (count_of k.coordinator) k.sizes now w → IsWaitingCall k.server k.epoch k.given (count_of k.coordinator) k.sizes now (record w { is_granted = true })
       granted_call w o = record {
         named = o.named;
         file = λ z counted. (
-            let q : IsFileCall k.server k.epoch k.given k.drawn k.sizes now w z = o.file z counted in
+            let q : IsFileCall k.server k.epoch k.given (count_of k.coordinator) k.sizes now w z = o.file z counted in
             record {
               formed = q.formed;
               some = q.some;
@@ -117,7 +121,7 @@ module _ {V : Type 0} (n : ℕ) (serves : Bool) (k : ServerState V) (t : TransId
 
       fits : (l : Live) → map.get k.lives t ≡ Some l → IsWithin k.sizes (record l { locks = m })
       fits l there =
-          let g = grant_found (IsWaitingCall k.server k.epoch k.given k.drawn k.sizes k.lives) k.waits t m found h.waits.calls in
+          let g = grant_found (IsWaitingCall k.server k.epoch k.given (count_of k.coordinator) k.sizes k.lives) k.waits t m found h.waits.calls in
           let z = counts_there g.0.counts (file_counts t g.0 g.2) in
           let asked : z.0.asked ≡ m = same_count z.0.asked m (sym (ap count_asked z.1) ∙ g.3) in
           let limits : IsWithinLimits k.server k.epoch k.given k.sizes g.0 z.0 l = (g.1.file z.0 z.1).limits l (ap (map.get k.lives) (file_at t g.0 g.2) ∙ there) in
@@ -146,10 +150,6 @@ granted_all_ready n serves k [] others h = h
 granted_all_ready n serves k (t ∷ ts) others h =
     let parts = one_of t ts k.locks.waiting others in
     granted_all_ready n serves (granted_one k t) ts (subst (λ (x : List Waiter). AllByRecursion (IsNoneOf ts) x) (ap (λ x. x.waiting) (sym (granted_locks k t))) parts.1) (granted_one_ready n serves k t parts.0 h)
-
--- a transaction ends, and others have its locks
-pub let_go_ready : {V : Type 0} (n : ℕ) (serves : Bool) (k : ServerState V) (t : TransId) → IsReady n serves k → IsReady n serves (let_go k t)
-let_go_ready n serves k t h = granted_all_ready n serves (gone_kept n serves k t) (released k.locks t).woken (released-others k.locks t h.taken h.sound.apart) (gone_ready n serves k t h)
 
 -- ---- what a grant leaves of a server
 
@@ -184,61 +184,112 @@ let_go_none k t = granted_none (record k { lives = map.remove k.lives t; locks =
 pub let_go_of : {V : Type 0} (k : ServerState V) (t : TransId) → let_go k t ≡ record k { waits = (let_go k t).waits; lives = (let_go k t).lives; locks = record (released k.locks t) { woken = [] } }
 let_go_of k t = granted_of (record k { lives = map.remove k.lives t; locks = record (released k.locks t) { woken = [] } }) (released k.locks t).woken
 
--- it is let go, and its client is to be told
-pub late_ready : {V : Type 0} (n : ℕ) (serves : Bool) (k : ServerState V) (t : TransId) (client : ℕ) (c : Cause) → IsCalm k.server (record { client = client; trans = t; cause = c }) → IsReady n serves k
-    → IsReady n serves (record (let_go k t) { dead = k.dead ++ (record { client = client; trans = t; cause = c }) ∷ [] })
-late_ready {V} n serves k t client c calm h = buried_ready n serves (let_go k t) (k.dead ++ (record { client = client; trans = t; cause = c }) ∷ []) alive causes (let_go_ready n serves k t h)
+-- a coordinator and a clock that go on stand aside
+later_one : {V : Type 0} (k : ServerState V) (c : Coordinator) (clock : ℕ) (t : TransId) (x : Option ℕ) → granted_if (record k { coordinator = c; clock = clock }) t x ≡ record (granted_if k t x) { coordinator = c; clock = clock }
+later_one k c clock t None = refl
+later_one k c clock t (Some n) = refl
+
+later_all : {V : Type 0} (ts : List TransId) (k : ServerState V) (c : Coordinator) (clock : ℕ) → granted_all (record k { coordinator = c; clock = clock }) ts ≡ record (granted_all k ts) { coordinator = c; clock = clock }
+later_all [] k c clock = refl
+later_all {V} (t ∷ ts) k c clock = ap (λ (z : ServerState V). granted_all z ts) (later_one k c clock t (locks_of t k.waits)) ∙ later_all ts (granted_one k t) c clock
+
+-- ---- parts behind a grant
+
+-- each part is one of those before
+granted_parts : {V : Type 0} (P : Part → Type 0) (ts : List TransId) (k : ServerState V) → ((u : TransId) (l : Live) → map.get k.lives u ≡ Some l → P l.part) → (u : TransId) (l : Live) → map.get (granted_all k ts).lives u ≡ Some l → P l.part
+granted_parts P [] k all = all
+granted_parts P (t ∷ ts) k all = granted_parts P ts (granted_one k t) (go (locks_of t k.waits))
   where
-    off : (u : TransId) (l : Live) → map.get (let_go k t).lives u ≡ Some l → (b : Bool) → same_trans u t ≡ b → b ≡ false
-    off u l there false e = refl
-    off u l there true e = let wrong : None ≡ Some l = sym (let_go_none k t) ∙ sym (ap (map.get (let_go k t).lives) (same_trans-true u t e)) ∙ there in cc
+    go : (x : Option ℕ) → (u : TransId) (l : Live) → map.get (granted_if k t x).lives u ≡ Some l → P l.part
+    go None = all
+    go (Some m) = locked_each k.lives t m (λ u l. P l.part) all (λ l there. all t l there)
 
-    neither : (b d : Bool) → d ≡ false → (b && d) ≡ false
-    neither true d e = e
-    neither false d e = refl
+-- and there are as many
+granted_length : {V : Type 0} (ts : List TransId) (k : ServerState V) → map.len (granted_all k ts).lives ≡ map.len k.lives
+granted_length [] k = refl
+granted_length (t ∷ ts) k = granted_length ts (granted_one k t) ∙ go (locks_of t k.waits)
+  where
+    go : (x : Option ℕ) → map.len (granted_if k t x).lives ≡ map.len k.lives
+    go None = refl
+    go (Some m) = locked_length k.lives t m
 
-    causes : AllByRecursion (IsCalm (let_go k t).server) (k.dead ++ (record { client = client; trans = t; cause = c }) ∷ [])
-    causes = subst (λ (y : ServerState V). AllByRecursion (IsCalm y.server) (k.dead ++ (record { client = client; trans = t; cause = c }) ∷ [])) (sym (let_go_of k t))
-        (all-append (IsCalm k.server) k.dead ((record { client = client; trans = t; cause = c }) ∷ []) h.causes (calm, tt))
+pub let_go_parts : {V : Type 0} (P : Part → Type 0) (k : ServerState V) (t : TransId) → ((u : TransId) (l : Live) → map.get k.lives u ≡ Some l → P l.part) → (u : TransId) (l : Live) → map.get (let_go k t).lives u ≡ Some l → P l.part
+let_go_parts P k t all = granted_parts P (released k.locks t).woken (record k { lives = map.remove k.lives t; locks = record (released k.locks t) { woken = [] } }) (λ u l is. left u l (same_trans u t) (sym (get_gone k.lives t u) ∙ is))
+  where
+    left : (u : TransId) (l : Live) (b : Bool) → cond {A = Option Live} b None (map.get k.lives u) ≡ Some l → P l.part
+    left u l true is = let wrong : None ≡ Some l = is in cc
+    left u l false is = all u l is
 
-    alive : (u : TransId) (l : Live) → map.get (let_go k t).lives u ≡ Some l → cause_in (k.dead ++ (record { client = client; trans = t; cause = c }) ∷ []) l.client u ≡ None
-    alive u l there =
-        sym (dead_then k.dead client t c l.client u)
-        ∙ ap (λ (b : Bool). cond {A = Option Cause} b (Some c) (cause_in k.dead l.client u)) (neither (l.client == client) (same_trans u t) (off u l there (same_trans u t) refl))
-        ∙ sym (ap (λ (y : ServerState V). cause_in y.dead l.client u) (let_go_of k t))
-        ∙ (let_go_ready n serves k t h).alive u l there
+pub let_go_most : {V : Type 0} (k : ServerState V) (t : TransId) → map.len (let_go k t).lives ≤ map.len k.lives
+let_go_most k t =
+    let same : map.len (let_go k t).lives ≡ map.len (map.remove k.lives t) = granted_length (released k.locks t).woken (record k { lives = map.remove k.lives t; locks = record (released k.locks t) { woken = [] } }) in
+    let fewer : map.len (map.remove k.lives t) ≤ map.len k.lives = gone_length k.lives t in
+    omega (arith, same, fewer)
 
 -- ---- steps that let a transaction go
 
-module _ {V : Type 0} (n : ℕ) (k : ServerState V) (turn : Turn) (t : TransId) where
-  abbrev gone : ServerState V
-  gone = record k { waits = (let_go k t).waits; lives = (let_go k t).lives; locks = record (released k.locks t) { woken = [] } }
+module _ {V : Type 0} (n : ℕ) (k : ServerState V) (t : TransId) (c : Coordinator) where
+  abbrev pub let_gone : ℕ → ServerState V
+  let_gone clock = record k { waits = (let_go k t).waits; lives = (let_go k t).lives; locks = record (released k.locks t) { woken = [] }; coordinator = c; clock = clock }
 
-  gone_so : (serves : Bool) → IsReady n serves k → IsReady n serves gone
-  gone_so serves h = subst (λ (y : ServerState V). IsReady n serves y) (let_go_of k t) (let_go_ready n serves k t h)
+  -- others have its locks, and the coordinator and the clock go on
+  pub let_go_ready : (serves : Bool) (clock : ℕ) → k.clock ≤ clock → clock ≤ 2 ^ 62 → LetsGo k.coordinator c t clock → IsReady n serves k → IsReady n serves (let_gone clock)
+  let_go_ready serves clock later low lets h =
+      subst (λ (y : ServerState V). IsReady n serves y)
+      (later_all (released k.locks t).woken (record k { lives = map.remove k.lives t; locks = record (released k.locks t) { woken = [] } }) c clock ∙ ap (λ (y : ServerState V). record y { coordinator = c; clock = clock }) (let_go_of k t))
+      (granted_all_ready n serves (gone_kept n serves k t c clock) (released k.locks t).woken (released-others k.locks t h.taken h.sound.apart) (gone_ready n serves k t c clock later low lets h))
 
-  -- who lives on is not among the dead where one of them goes
-  alive_then : (serves : Bool) → IsReady n serves k → (u : TransId) (l : Live) → map.get gone.lives u ≡ Some l → cause_in (without_part turn.client t k.dead) l.client u ≡ None
-  alive_then serves h u l there =
-      alive_still (l.client == turn.client && same_trans u t) (cause_in k.dead l.client u) (cause_in (without_part turn.client t k.dead) l.client u) (part_left k.dead turn.client t l.client u) ((gone_so serves h).alive u l there)
+  gone_so : (serves : Bool) → LetsGo k.coordinator c t k.clock → IsReady n serves k → IsReady n serves (let_gone k.clock)
+  gone_so serves lets h = let_go_ready serves k.clock (le_refl k.clock) h.clock lets h
+
+  -- it ends as time runs out
+  pub timed_ready : (serves : Bool) → LetsGo k.coordinator c t k.clock → IsReady n serves k → IsReady n serves (record (let_go k t) { coordinator = c })
+  timed_ready serves lets h = subst (λ (y : ServerState V). IsReady n serves y) (ap (λ (y : ServerState V). record y { coordinator = c }) (sym (let_go_of k t))) (gone_so serves lets h)
+
+  -- its client is to be told
+  pub late_ready : (serves : Bool) (client : ℕ) (why : Cause) → IsCalm k.server (record { client = client; trans = t; cause = why }) → LetsGo k.coordinator c t k.clock → IsReady n serves k
+      → IsReady n serves (record (let_go k t) { dead = k.dead ++ (record { client = client; trans = t; cause = why }) ∷ []; coordinator = c })
+  late_ready serves client why calm lets h = buried_ready n serves (record (let_go k t) { coordinator = c }) (k.dead ++ (record { client = client; trans = t; cause = why }) ∷ []) alive causes (timed_ready serves lets h)
+    where
+      off : (u : TransId) (l : Live) → map.get (let_go k t).lives u ≡ Some l → (b : Bool) → same_trans u t ≡ b → b ≡ false
+      off u l there false e = refl
+      off u l there true e = let wrong : None ≡ Some l = sym (let_go_none k t) ∙ sym (ap (map.get (let_go k t).lives) (same_trans-true u t e)) ∙ there in cc
+
+      neither : (b d : Bool) → d ≡ false → (b && d) ≡ false
+      neither true d e = e
+      neither false d e = refl
+
+      causes : AllByRecursion (IsCalm (let_go k t).server) (k.dead ++ (record { client = client; trans = t; cause = why }) ∷ [])
+      causes = subst (λ (y : ServerState V). AllByRecursion (IsCalm y.server) (k.dead ++ (record { client = client; trans = t; cause = why }) ∷ [])) (sym (let_go_of k t))
+          (all-append (IsCalm k.server) k.dead ((record { client = client; trans = t; cause = why }) ∷ []) h.causes (calm, tt))
+
+      alive : (u : TransId) (l : Live) → map.get (let_go k t).lives u ≡ Some l → cause_in (k.dead ++ (record { client = client; trans = t; cause = why }) ∷ []) l.client u ≡ None
+      alive u l there =
+          sym (dead_then k.dead client t why l.client u)
+          ∙ ap (λ (b : Bool). cond {A = Option Cause} b (Some why) (cause_in k.dead l.client u)) (neither (l.client == client) (same_trans u t) (off u l there (same_trans u t) refl))
+          ∙ sym (ap (λ (y : ServerState V). cause_in y.dead l.client u) (let_go_of k t))
+          ∙ (timed_ready serves lets h).alive u l there
 
   -- its calls go, and its client is told
-  pub ended_ready : (serves : Bool) (r : Reply) → IsTurn k.sessions turn → IsKeepable k.clock r → IsReady n serves k → IsReady (n + 1) serves (ended k turn t r)
-  ended_ready serves r is keeps h =
+  pub ended_ready : (turn : Turn) (serves : Bool) (r : Reply) → LetsGo k.coordinator c t k.clock → IsTurn k.sessions turn → IsKeepable k.clock r → IsReady n serves k → IsReady (n + 1) serves (record (ended k turn t r) { coordinator = c })
+  ended_ready turn serves r lets is keeps h =
       subst (λ (y : ServerState V). IsReady (n + 1) serves y)
-      (ap (λ (y : ServerState V). record y { waits = without_calls_of turn.client t (let_go k t).waits; sessions = counted_in k.sessions turn r; dead = without_part turn.client t k.dead }) (sym (let_go_of k t)))
-      (buried_ready (n + 1) serves (record gone { waits = without_calls_of turn.client t (let_go k t).waits; sessions = counted_in k.sessions turn r }) (without_part turn.client t k.dead) (alive_then serves h)
+      (ap (λ (y : ServerState V). record y { waits = without_calls_of turn.client t (let_go k t).waits; sessions = counted_in k.sessions turn r; dead = without_part turn.client t k.dead; coordinator = c }) (sym (let_go_of k t)))
+      (buried_ready (n + 1) serves (record (let_gone k.clock) { waits = without_calls_of turn.client t (let_go k t).waits; sessions = counted_in k.sessions turn r }) (without_part turn.client t k.dead)
+      (λ u l there. alive_still (l.client == turn.client && same_trans u t) (cause_in k.dead l.client u) (cause_in (without_part turn.client t k.dead) l.client u) (part_left k.dead turn.client t l.client u) ((gone_so serves lets h).alive u l there))
       (each-filter (IsCalm k.server) (λ (d : DeadPart). not (is_part turn.client t d)) k.dead h.causes)
-      (counted_ready n serves (record gone { waits = without_calls_of turn.client t (let_go k t).waits }) turn r is keeps
-      (without_ready n serves gone turn.client t (live_others n serves gone t (let_go_none k t) (gone_so serves h)) (gone_so serves h))))
+      (counted_ready n serves (record (let_gone k.clock) { waits = without_calls_of turn.client t (let_go k t).waits }) turn r is keeps
+      (without_ready n serves (let_gone k.clock) turn.client t (live_others n serves (let_gone k.clock) t (let_go_none k t) (gone_so serves lets h)) (gone_so serves lets h))))
 
   -- it is committed
-  pub committed_ready : (before serves : Bool) (v : V) → IsTrue serves → k.is_down ≡ false → IsTurn k.sessions turn → k.clock < 2 ^ 62 → IsReady n before k
-      → IsReady (n + 1) serves (record (let_go k t) { sessions = counted_in k.sessions turn (reply.Committed (record { ts = k.clock + 1; trans = t })); clock = k.clock + 1; decisions = with_time k.decisions t.counter (k.clock + 1); vault = v })
-  committed_ready before serves v on up is early h =
+  pub committed_ready : (turn : Turn) (before serves : Bool) (v : V) → LetsGo k.coordinator c t (k.clock + 1) → IsTrue serves → k.is_down ≡ false → IsTurn k.sessions turn → k.clock < 2 ^ 62 → IsReady n before k
+      → IsReady (n + 1) serves (record (let_go k t) { sessions = counted_in k.sessions turn (reply.Committed (record { ts = k.clock + 1; trans = t })); clock = k.clock + 1; coordinator = c; vault = v })
+  committed_ready turn before serves v lets on up is early h =
       subst (λ (y : ServerState V). IsReady (n + 1) serves y)
-      (ap (λ (y : ServerState V). record y { sessions = counted_in k.sessions turn (reply.Committed (record { ts = k.clock + 1; trans = t })); clock = k.clock + 1; decisions = with_time k.decisions t.counter (k.clock + 1); vault = v }) (sym (let_go_of k t)))
-      (commit_ready n before serves gone v turn t on up is early (gone_so before h))
+      (ap (λ (y : ServerState V). record y { sessions = counted_in k.sessions turn (reply.Committed (record { ts = k.clock + 1; trans = t })); clock = k.clock + 1; coordinator = c; vault = v }) (sym (let_go_of k t)))
+      (ready_with (n + 1) before serves (record (let_gone (k.clock + 1)) { sessions = counted_in k.sessions turn (reply.Committed (record { ts = k.clock + 1; trans = t })) }) v on up
+      (counted_ready n before (let_gone (k.clock + 1)) turn (reply.Committed (record { ts = k.clock + 1; trans = t })) is (record { inside = tt; times = le_refl (k.clock + 1) })
+      (let_go_ready before (k.clock + 1) (omega arith) (omega (arith, early)) lets h)))
 
 -- it is the server before, but for what ends with the part
 pub ended_of : {V : Type 0} (k : ServerState V) (turn : Turn) (t : TransId) (r : Reply) → ended k turn t r ≡ record k {

@@ -81,7 +81,6 @@ module _ {V : Type 0} (a : Account) (held : Contents) (k : ServerState V) (h : I
       PutNoneBeyond a.holder.server a.ids.epoch k.given es
       × AreCountsOf cells_then es (record (p.counts) { places = p.counts.places - shared_in p.intents.puts blocks_then })
       × (is_some (map.get k.lives u) ≡ true)
-      × (u.epoch ≡ a.ids.epoch)
 
   pub stands_beside : (u : TransId) (x : Live) (y : Life) → map.get k.lives u ≡ Some x → a.holder.lives u ≡ Some y → same_trans u t ≡ false → StandsBeside u x.part y.edits
   stands_beside u x y there_u live_u away =
@@ -90,7 +89,6 @@ module _ {V : Type 0} (a : Account) (held : Contents) (k : ServerState V) (h : I
         subst (λ (i : Intents). AreCountsOf cells_then y.edits (record (x.part.counts) { places = x.part.counts.places - shared_in i.puts blocks_then })) (sym other.intents)
             (eased_counts a.holder.cells y.edits life.edits (Writes y.held) (Writes life.held) (away_others u y away live_u) other.within mine.within x.part.counts other.counts),
         ap is_some there_u,
-        h.current u y live_u,
       )
 
   -- what it needs stands

@@ -1,5 +1,5 @@
 -- what a client has of a transaction, as the server and as its journal say it
-use Rattle.std.specs.Prelude.{cond, Bool, true, false, ◌==◌, ◌&&◌, ◌||◌, not, Option, None, Some, IsSome, is_none, nat_lt, nat_le}
+use Rattle.std.specs.Prelude.{cond, Bool, true, false, ◌==◌, ◌&&◌, Option, None, Some, IsSome, is_none}
 use Rattle.std.specs.FinMap as map
 use Rattle.std.proofs.Common.{◌≡◌, ℕ, List, [], ◌∷◌, refl, sym, ◌∙◌, ap, subst, eq-eqb}
 use Rattle.alp_base.specs.declared.ids.TransId.{TransId}
@@ -34,6 +34,7 @@ use Rattle.alp_files.specs.Cells.{Cells}
 use Rattle.alp_journal.proofs.PartLemmas.{own_part_at}
 use Rattle.alp_node.proofs.DeadLemmas.{each_cause}
 use Rattle.alp_node.proofs.OneServer.{IsOne, one_pair, part_elsewhere}
+use Rattle.alp_node.proofs.TransactionLemmas.{undrawn_of_other}
 
 -- the part that the journal says
 abbrev pub part_of : Standing → Part
@@ -104,7 +105,7 @@ ends_none client cells locks rs t (Some l) None f b commit desk r h p not_own = 
 module _ {V : Type 0} (a : Account) (held : Contents) (k : ServerState V) (client : ℕ) (t : TransId) where
   -- an id of another server was not drawn here
   pub undrawn_elsewhere : IsAs a held k → (t.server == a.holder.server) ≡ false → a.fates t ≡ Undrawn
-  undrawn_elsewhere h away = h.undrawn t (ap (λ (b : Bool). not (b && nat_lt 0 t.counter && (nat_lt t.epoch a.ids.epoch || (t.epoch == a.ids.epoch && nat_le t.counter k.drawn)))) away)
+  undrawn_elsewhere h away = undrawn_of_other a h.quiet.settled.stands t away
 
   pub part_is : IsAs a held k → part_at (state_of a) client t ≡ part_of (standing_of client (map.get k.lives t) (cause_in k.dead client t))
   part_is h = go (t.server == a.holder.server) refl ∙ own_part_is client a.holder.cells k.locks.held (a.locked t) t (map.get k.lives t) (a.holder.lives t) (a.fates t) (a.dead client t) (h.lives t) (one_pair a held k h t)

@@ -43,13 +43,17 @@ use Rattle.alp_base.specs.declared.faults.Sizes.{Sizes}
 use Rattle.alp_journal.specs.Opening.{Start, start_at}
 use Rattle.alp_journal.proofs.NoteLemmas.{started_plain}
 use Rattle.alp_journal.proofs.StandLemmas.{none_known}
-use Rattle.alp_journal.specs.Coordinator.{Undrawn}
+use Rattle.alp_journal.specs.Along.{Where}
+use Rattle.alp_journal.specs.Coordinator.{Fate, Undrawn, client_of, decision_in}
 use Rattle.alp_journal.specs.Participant.{Unseen}
 use Rattle.alp_journal.specs.Holder.{holder_opened}
 use Rattle.alp_journal.specs.State.{opened}
 use Rattle.alp_journal.specs.Laws.{IsLawful}
 use Rattle.alp_journal.specs.Answered.{IsAnswered}
 use Rattle.alp_journal.specs.Account.{Account, state_of as account_state, HasTried, AreOwnEvents}
+use Rattle.alp_coord.specs.declared.coordinator.Coordinator.{Coordinator}
+use Rattle.alp_coord.specs.Coordinators.{IsOf, fate_in}
+use Rattle.alp_coord.specs.Likeness.{IsLike, same, IsLikeOld, nothing, IsFateOf}
 use Rattle.alp_node.specs.declared.server_state.ServerState.{ServerState}
 use Rattle.alp_node.specs.declared.lives.Live.{Live}
 use Rattle.alp_node.specs.NodeStates.{NodeState}
@@ -58,7 +62,7 @@ use Rattle.alp_node.specs.declared.start.StartFault.{StartFault}
 use Rattle.alp_node.specs.declared.start.StartFault.TheVariants as start_fault
 use Rattle.alp_node.specs.ServerState.{IsAs, IsReady, IsAlike, SeesNoneToCome}
 use Rattle.alp_node.specs.Totals.{LiveMap, totals_of, HaveRoom}
-use Rattle.alp_node.proofs.DecisionLemmas.{ends_none}
+use Rattle.alp_node.specs.Transactions.{owner_of}
 use Rattle.alp_node.proofs.TotalLemmas.{empty_totals}
 use Rattle.alp_node.specs.Nodes.{IsRight, state_of}
 use Rattle.alp_node.specs.Sessions.{no_sessions, session_at}
@@ -158,15 +162,13 @@ none_born server epoch last held old later f comes = go (map.get held (Leader f)
     go None e = refl
     go (Some c) e = (let young : f.epoch ≤ last = (old f c e).1 in let high : epoch ≤ f.epoch = no_older comes.1 in absurd (omega (arith, young, later, high)))
 
--- a server that did nothing yet
+-- a server that did nothing yet, with this coordinator
 abbrev pub new_kept : {V : Type 0} (old : ServerState V) (server : ℕ) (sizes : Sizes) (c : ClockNote) → ServerState V
 new_kept old server sizes c = record old {
   server = server;
   sizes = sizes;
   epoch = c.epoch;
   clock = c.clock;
-  drawn = 0;
-  decisions = [];
   given = 0;
   sessions = no_sessions;
   lives = map.empty;
@@ -226,10 +228,22 @@ alone_there server servers few first n = go (nat_lt 0 n) (nat_lt n (servers + 1)
         let high : n < servers + 1 = ltb-true n (servers + 1) f in
         ap not (eq-eqb n server (omega (arith, low, high, few, first)))
 
+-- its coordinator is that of its server and epoch, and of no transaction it keeps anything
+pub record IsNewCoordinator (server epoch : ℕ) (z : Coordinator) : Type 0 where
+  pub run : IsOf server epoch 0 z
+  pub none : (t : TransId) → fate_in z t ≡ Undrawn
+
+same_undrawn : (epoch : ℕ) (t : TransId) (f : Fate) → f ≡ Undrawn → IsFateOf epoch t f Undrawn
+same_undrawn epoch t f is = subst (λ (x : Fate). IsFateOf epoch t x Undrawn) (sym is) (go (t.epoch == epoch))
+  where
+    go : (b : Bool) → Where b (IsLike Undrawn Undrawn) (IsLikeOld Undrawn Undrawn)
+    go true = same Undrawn
+    go false = nothing Undrawn refl
+
 pub new_as : {V : Type 0} (old : ServerState V) (server servers last : ℕ) (sizes : Sizes) (c : ClockNote) (held : Contents)
     → ((f : FileId) (x : Cell) → map.get held.cells (Leader f) ≡ Some x → (f.server ≡ server) × (f.epoch ≤ last)) → last < c.epoch → clock_kept held.notes ≡ c → held.notes ≡ clock_notes c → IsVolumeOf sizes held.cells
-    → servers ≡ 1 → server ≡ 1 → IsAs (new_alone (start_at server servers sizes held.cells held.notes)) held (new_kept old server sizes c)
-new_as old server servers last sizes c held ids later kept noted volume few first =
+    → servers ≡ 1 → server ≡ 1 → IsNewCoordinator server c.epoch old.coordinator → IsAs (new_alone (start_at server servers sizes held.cells held.notes)) held (new_kept old server sizes c)
+new_as old server servers last sizes c held ids later kept noted volume few first nothing_known =
     let epoch : (clock_kept held.notes).epoch ≡ c.epoch = ap (λ (x : ClockNote). x.epoch) kept in
     record {
       server = refl;
@@ -245,12 +259,11 @@ new_as old server servers last sizes c held ids later kept noted volume few firs
       lives = alike_none held.cells;
       room = new_room sizes held.cells volume;
       unborn = λ t l is. (let wrong : None ≡ Some l = is in cc);
-      current = λ t l is. (let wrong : None ≡ Some l = is in cc);
-      drawn = refl;
-      begun = record { early = []; old = tt; all = refl };
-      undrawn = λ t beyond. refl;
+      coordinator = record {
+        run = subst (λ (n : ℕ). IsOf server n 0 old.coordinator) (sym epoch) nothing_known.run;
+        fates = λ t. same_undrawn (clock_kept held.notes).epoch t (fate_in old.coordinator t) (nothing_known.none t);
+      };
       plain = λ t. tt;
-      ends = ends_none server (clock_kept held.notes).epoch [] (λ t. Undrawn);
       lone = alone_there server servers few first;
       files = refl;
       made = record { early = []; old = tt; all = refl };
@@ -301,15 +314,16 @@ some_epoch : (m n : ℕ) → m < n → 0 < n
 some_epoch m n later = omega (arith, later)
 
 pub new_ready : {V : Type 0} (steps : ℕ) (old : ServerState V) (server : ℕ) (sizes : Sizes) (c : ClockNote) (serves : Bool) → IsTrue serves → c.clock ≤ 2 ^ 62 → 0 < c.epoch → c.epoch < 2 ^ 32 → 64 ≤ sizes.area → IsSound (new_kept old server sizes c).locks
-    → IsReady steps serves (new_kept old server sizes c)
-new_ready steps old server sizes c serves up within later last area sound = record {
+    → IsNewCoordinator server c.epoch old.coordinator → IsReady steps serves (new_kept old server sizes c)
+new_ready steps old server sizes c serves up within later last area sound nothing_known = record {
   serving = λ _. up;
   halted = λ down. (let wrong : false ≡ true = down in cc);
   sound = sound;
   taken = refl;
   waits = record { calls = tt; files = tt; apart = tt; queued = tt };
   known = λ t l is. (let wrong : None ≡ Some l = sym (none_live t) ∙ is in cc);
-  begun = λ t l is. (let wrong : None ≡ Some l = sym (none_live t) ∙ is in cc);
+  seat = (nothing_known.run.server_same, nothing_known.run.epoch_same);
+  own = λ t. ap client_of (nothing_known.none t) ∙ ap owner_of (sym (none_live t));
   opens = λ t l is. (let wrong : None ≡ Some l = sym (none_live t) ∙ is in cc);
   opened = λ t l is. (let wrong : None ≡ Some l = sym (none_live t) ∙ is in cc);
   callers = λ t l is. (let wrong : None ≡ Some l = sym (none_live t) ∙ is in cc);
@@ -318,7 +332,7 @@ new_ready steps old server sizes c serves up within later last area sound = reco
   places = refl;
   calls = λ client w is. (let wrong : None ≡ Some w = sym (no_session client) ∙ is in cc);
   replies = λ client w is. (let wrong : None ≡ Some w = sym (no_session client) ∙ is in cc);
-  drawn = omega arith;
+  drawn = le_of steps nothing_known.run.count_same;
   given = omega arith;
   few = le_of steps (len-empty trans_cmp Live);
   most = few_of (len-empty trans_cmp Live);
@@ -327,7 +341,7 @@ new_ready steps old server sizes c serves up within later last area sound = reco
   clock = within;
   raised = later;
   last = last;
-  decisions = record { all = refl; past = tt };
+  times = λ t stamp js is. (let wrong : None ≡ Some (stamp, js) = ap decision_in (sym (nothing_known.none t)) ∙ is in cc);
   unheld = λ t n high. none_locked t (Whole (record { server = server; epoch = c.epoch; counter = n }));
 }
 
@@ -365,7 +379,7 @@ module _ {V : Type 0} (G : Ghosts V) (old : V) (only : Only (G.held old) (G.may_
     where
       seen : (c : Contents) → Besides G old (IsWritten p.intents k (G.held old)) c → IsKeptOrRaised (G.held old) c
       seen c (inl before) = inl (only c before)
-      seen c (inr (inl same)) = inl same
+      seen c (inr (inl kept)) = inl kept
       seen c (inr (inr w)) = (let cells : c.cells ≡ (G.held old).cells = w.cells ∙ no_change (G.held old).cells p none in inr (k, is, (λ i. record { cells = cells i; notes = w.notes i })))
 
 pub vault_same : (f g : VaultFault) → start_fault.Vault f ≡ start_fault.Vault g → f ≡ g

@@ -22,6 +22,9 @@ use Rattle.alp_node.proofs.SeatLemmas.{left_alone, left_step_as, left_step}
 use Rattle.alp_journal.specs.declared.event.Event.{Event}
 use Rattle.alp_journal.specs.declared.event.Event.TheVariants as event
 use Rattle.alp_journal.specs.Account.{Account, state_of}
+use Rattle.alp_journal.specs.Deeds.{Ends}
+use Rattle.alp_coord.specs.declared.coordinator.Coordinator.{Coordinator}
+use Rattle.alp_coord.specs.Coordinators.{IsAlong, Comes}
 use Rattle.alp_vault.specs.declared.vault.Vault.{Ghosts}
 use Rattle.alp_node.specs.ServerState.{IsAs, IsReady}
 use Rattle.alp_node.specs.Steps.{Stepped, IsStepAs, IsStep, IsTurn, counted_in, ended, told_answer, refused_answer, entry_of}
@@ -34,6 +37,7 @@ use Rattle.alp_node.proofs.GivenLemmas.{counts_none, counts_down, reply_given, c
 use Rattle.alp_node.proofs.ReadyLemmas.{counted_ready, down_ready}
 use Rattle.alp_node.proofs.ReleaseLemmas.{ended_ready, ended_as, grants_go_on, grants_caused}
 use Rattle.alp_node.specs.Releases.{grant_acts}
+use Rattle.alp_node.proofs.TransactionLemmas.{lets_end}
 use Rattle.alp_node.proofs.TurnLemmas.{counts_refused}
 
 -- a step in which the vault was stopped, or failed in its commit
@@ -98,16 +102,16 @@ module _ {V : Type 0} (G : Ghosts V) (k new : ServerState V) where
       (λ on. subst (λ (y : Answer). HasTurned None k new e y.kept) (sym so) (record { later = omega (arith, clock); times = tt; sessions = sessions; pages = tt }))
 
   -- a part ends without effect, and others have its locks
-  pub ended_step : (turn : Turn) (t : TransId) (ts : List TransId) (c : Call) (cause : Cause) (x : Answer) → (is_fault_reply k.server (Some (reply.Refused (refusal.Aborted cause))) || false) ≡ false → IsTurn k.sessions turn → k.is_down ≡ false
-      → new ≡ ended k turn t (reply.Refused (refusal.Aborted cause)) → x ≡ refused_answer (refusal.Aborted cause) (act.Released t ∷ grant_acts ts)
+  pub ended_step : (turn : Turn) (t : TransId) (ts : List TransId) (c : Call) (cause : Cause) (x : Answer) (z : Coordinator) → IsAlong k.coordinator z → ((client : ℕ) → Comes (Ends t client cause) k.coordinator z) → (is_fault_reply k.server (Some (reply.Refused (refusal.Aborted cause))) || false) ≡ false → IsTurn k.sessions turn → k.is_down ≡ false
+      → new ≡ record (ended k turn t (reply.Refused (refusal.Aborted cause))) { coordinator = z } → x ≡ refused_answer (refusal.Aborted cause) (act.Released t ∷ grant_acts ts)
       → (IsTrue (G.tells k.vault) → (a : Account) → IsAs a (G.held k.vault) k
-      → Stepped a (G.faults k.vault) (G.faults k.vault) (G.held k.vault) (ended k turn t (reply.Refused (refusal.Aborted cause))) (event.Call turn.client k.epoch turn.number c) x)
+      → Stepped a (G.faults k.vault) (G.faults k.vault) (G.held k.vault) (record (ended k turn t (reply.Refused (refusal.Aborted cause))) { coordinator = z }) (event.Call turn.client k.epoch turn.number c) x)
       → IsStep G k new (event.Call turn.client k.epoch turn.number c) (Ok x)
-  ended_step turn t ts c cause x quiet is up done so steps =
+  ended_step turn t ts c cause x z along ends quiet is up done so steps =
       let r : Reply = reply.Refused (refusal.Aborted cause) in
       plain_step turn c x r (act.Released t ∷ grant_acts ts) (ap (λ (y : ServerState V). y.vault) done ∙ ended_as k turn t r (λ (y : ServerState V). y.vault)) (ap (λ (y : ServerState V). y.server) done ∙ ended_as k turn t r (λ (y : ServerState V). y.server))
       (ap (λ (y : ServerState V). y.sizes) done ∙ ended_as k turn t r (λ (y : ServerState V). y.sizes)) (ap (λ (y : ServerState V). y.epoch) done ∙ ended_as k turn t r (λ (y : ServerState V). y.epoch)) up
       (ap (λ (y : ServerState V). y.is_down) done ∙ ended_as k turn t r (λ (y : ServerState V). y.is_down) ∙ up) quiet so (grants_go_on ts) (λ m n b. grants_caused m n b ts)
-      (λ n h. subst (λ (y : ServerState V). IsReady (n + 1) (G.serves k.vault) y) (sym done) (ended_ready n k turn t (G.serves k.vault) r is (record { inside = tt; times = tt }) h))
+      (λ n h. subst (λ (y : ServerState V). IsReady (n + 1) (G.serves k.vault) y) (sym done) (ended_ready n k t z turn (G.serves k.vault) r (lets_end k.coordinator z t cause k.clock along ends h.times) is (record { inside = tt; times = tt }) h))
       (λ told a h. subst (λ (y : ServerState V). Stepped a (G.faults k.vault) (G.faults k.vault) (G.held k.vault) y (event.Call turn.client k.epoch turn.number c) x) (sym done) (steps told a h))
       (counts_refused k new turn is c (refusal.Aborted cause) tt (ap (λ (y : ServerState V). y.clock) done ∙ ended_as k turn t r (λ (y : ServerState V). y.clock)) (ap (λ (y : ServerState V). y.sessions) done))

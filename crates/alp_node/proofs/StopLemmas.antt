@@ -24,7 +24,7 @@ ready_beside n before serves k v same h = record {
   taken = h.taken;
   waits = h.waits;
   known = h.known;
-  begun = h.begun;
+  own = h.own;
   opens = h.opens;
   opened = h.opened;
   callers = h.callers;
@@ -43,7 +43,8 @@ ready_beside n before serves k v same h = record {
   raised = h.raised;
   last = h.last;
   unheld = h.unheld;
-  decisions = h.decisions;
+  seat = h.seat;
+  times = h.times;
 }
 
 module _ {V : Type 0} (G : Ghosts V) (old : NodeState V) (v : V) (h : IsConsistent G old) (same : IsSameVault G.tells G.volume G.server G.servers old.kept.vault v) (serves : G.serves v ≡ G.serves old.kept.vault)

@@ -1,5 +1,5 @@
 -- Servers that fell, and how they start again.
-use Rattle.std.specs.Prelude.{◌≡◌, ◌⊎◌, ℕ, ◌+◌, ◌<◌, ◌≤◌, ◌^◌, true, false, IsTrue, [], ◌∷◌, ◌++◌, None, Some}
+use Rattle.std.specs.Prelude.{◌≡◌, ◌⊎◌, ℕ, ◌+◌, ◌<◌, ◌≤◌, ◌^◌, false, IsTrue, [], ◌∷◌, ◌++◌, None, Some}
 use Rattle.std.specs.FinMap as map
 use Rattle.alp_base.specs.Crashes.{Either, NoMore, Adds}
 use Rattle.alp_base.specs.Faults.{HasFaultCause, IsCountKept, IsOfVolume}
@@ -25,12 +25,13 @@ use Rattle.alp_journal.specs.State.{State, is_other_server}
 use Rattle.alp_journal.specs.Laws.{IsLawful}
 use Rattle.alp_journal.specs.Answered.{IsAnswered}
 use Rattle.alp_journal.specs.Account.{Account, state_of as account_state, IsQuiet, AreEarlier, AreOwnEvents}
+use Rattle.alp_coord.specs.Coordinators.{count_of, fate_in}
 use Rattle.alp_node.specs.Decisions.{IsPlain}
 use Rattle.alp_node.specs.DownStates.{DownState}
 use Rattle.alp_node.specs.NodeStates.{NodeState}
 use Rattle.alp_node.specs.Durable.{stored_by, Leaves}
 use Rattle.alp_node.specs.Nodes.{IsSoundStart, state_of, start_by, sent_in}
-use Rattle.alp_node.specs.ServerState.{SeesNoneToCome, PutNoneBeyond, AreMade, HaveBegun, is_beyond}
+use Rattle.alp_node.specs.ServerState.{SeesNoneToCome, PutNoneBeyond, AreMade}
 use Rattle.alp_node.specs.Sessions.{no_sessions}
 use Rattle.alp_node.specs.declared.server_state.ServerState.{ServerState}
 use Rattle.alp_node.specs.declared.start.StartFault.{StartFault}
@@ -52,8 +53,8 @@ pub record IsLeftOf (s : State) (c : Contents) : Type 0 where
 
 -- ---- a server that fell
 
--- Of the state that a server fell in these stay: which it is, and that no other is of the run; the ids that it gave and those that it
--- did not; that no decision has joins; what was applied; and that it was quiet.
+-- Of the state that a server fell in these stay: which it is, and that no other is of the run; the ids of files that it gave and those
+-- that it did not; that no decision has joins; what was applied; and that it was quiet.
 pub record IsPast (a : Account) (server epoch : ℕ) (sizes : Sizes) : Type 0 where
   pub number : a.holder.server ≡ server
   pub lone : (n : ℕ) → is_other_server (account_state a) n ≡ false
@@ -61,8 +62,6 @@ pub record IsPast (a : Account) (server epoch : ℕ) (sizes : Sizes) : Type 0 wh
   pub now : a.ids.epoch ≡ epoch
   pub clock : a.holder.clock ≤ 2 ^ 62
   pub unborn : (t : TransId) (l : Life) → a.holder.lives t ≡ Some l → PutNoneBeyond a.holder.server a.ids.epoch a.ids.files l.edits
-  pub begun : HaveBegun a.holder.server a.ids.epoch a.ids.transactions a.begun
-  pub undrawn : (t : TransId) → is_beyond a.holder.server a.ids.epoch a.ids.transactions t ≡ true → a.fates t ≡ Undrawn
   pub plain : (t : TransId) → IsPlain (a.fates t)
   pub made : AreMade a.holder.server a.ids.epoch a.ids.files a.holder.made
   pub born : SeesNoneToCome a.holder.server a.ids.epoch a.ids.files (map.get a.holder.cells)
@@ -135,8 +134,8 @@ entry_again clock = record { event = event.Restart; reply = None; acts = act.Reg
 
 -- nothing of a client is kept
 pub record KeepsNobody {V : Type 0} (k : ServerState V) : Type 0 where
-  pub drawn : k.drawn ≡ 0
-  pub decisions : k.decisions ≡ []
+  pub count : count_of k.coordinator ≡ 0
+  pub fates : (t : TransId) → fate_in k.coordinator t ≡ Undrawn
   pub given : k.given ≡ 0
   pub sessions : k.sessions ≡ no_sessions
   pub lives : k.lives ≡ map.empty

@@ -1,6 +1,7 @@
 pub mod Sessions
 pub mod Orders
 pub mod Durable
+pub mod Transactions
 pub mod Decisions
 pub mod ServerState
 pub mod Asks
@@ -15,11 +16,11 @@ pub mod Dead
 pub mod Standings
 pub mod Rooms
 pub mod Releases
+pub mod Draws
 pub mod Calls
 pub mod Turns
 pub mod Steps
 pub mod Served
-pub mod Endings
 pub mod Starts
 pub mod NodeStates
 pub mod Nodes

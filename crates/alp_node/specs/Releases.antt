@@ -1,5 +1,5 @@
 -- What a server keeps where a transaction lets its locks go, and others get theirs.
-use Rattle.std.specs.Prelude.{ℕ, List, [], ◌∷◌, ◌++◌, Option, None, Some, map as list_map}
+use Rattle.std.specs.Prelude.{ℕ, List, [], ◌∷◌, Option, None, Some, map as list_map}
 use Rattle.std.specs.FinMap as map
 use Rattle.alp_base.specs.declared.ids.TransId.{TransId}
 use Rattle.alp_journal.specs.declared.act.Act.{Act}
@@ -37,9 +37,9 @@ granted_all k (t ∷ ts) = granted_all (granted_one k t) ts
 abbrev pub woken_taken : {V : Type 0} → ServerState V → ServerState V
 woken_taken k = granted_all (record k { locks = record (k.locks) { woken = [] } }) k.locks.woken
 
--- the transaction is live, holds no lock, and is not decided
+-- the transaction is live, and holds no lock
 abbrev pub with_trans : {V : Type 0} → ServerState V → TransId → Live → ServerState V
-with_trans k t l = record k { lives = map.insert k.lives t l; locks = entered k.locks t; decisions = k.decisions ++ 0 ∷ [] }
+with_trans k t l = record k { lives = map.insert k.lives t l; locks = entered k.locks t }
 
 -- the transaction is live no more, and its locks are gone
 abbrev pub without_trans : {V : Type 0} → ServerState V → TransId → ServerState V

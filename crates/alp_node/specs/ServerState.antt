@@ -1,13 +1,13 @@
 -- What a server keeps is what its journal says. Of each part of the journal's state:
--- the coordinator: the live transactions are just those that run, and no id beyond the count was drawn;
+-- the coordinator: what is kept of each transaction that began here, and the live transactions are just those that run;
 -- the participant: no join is live, as no other server is of the run;
 -- the holder: the vault has the cells, and one note, of the epoch and the kept clock; each live part has its intents, opens and locks;
 -- the desk: the sessions are just those, each with its principal, its last number and the reply to that; the calls that wait and
 -- the parts that ended and are to be told of are those of the lists, and the table's queue is that of the calls that have not their locks;
 -- the counts: each live part has its own, and beside the cells there is room for what all of them come to;
--- the ids: the counts of transactions and of files in this epoch, and when each of the transactions was decided, if it was. What
--- older epochs of this server left may stand in what began, was made and was decided; each live transaction is of this epoch.
-use Rattle.std.specs.Prelude.{◌≡◌, ◌⊎◌, ◌||◌, ℕ, zero, suc, ◌+◌, ◌^◌, ◌<◌, ◌≤◌, ◌==◌, ◌&&◌, not, nat_lt, nat_le, Bool, true, false, IsTrue, List, [], ◌∷◌, ◌++◌, length, Option, None, Some, is_some}
+-- the ids: the counts of transactions and of files in this epoch. What older epochs of this server left may stand in what began,
+-- was made and was decided.
+use Rattle.std.specs.Prelude.{◌≡◌, ◌⊎◌, ℕ, zero, suc, ◌+◌, ◌^◌, ◌<◌, ◌≤◌, Bool, true, false, IsTrue, List, [], ◌∷◌, ◌++◌, length, Option, None, Some, is_some}
 use Rattle.std.specs.List.{list_all, AllByRecursion}
 use Rattle.std.specs.FinMap as map
 use Rattle.alp_base.specs.declared.ids.FileId.{FileId}
@@ -23,12 +23,12 @@ use Rattle.alp_files.specs.Apart.{AreSized, IsWithin as AreWithin, OpensRead}
 use Rattle.alp_files.specs.Cells.{Cells, View}
 use Rattle.alp_files.specs.Edits.{Edit, edits_at}
 use Rattle.alp_files.specs.Needs.{intents_of}
+use Rattle.alp_coord.specs.Coordinators.{server_of, epoch_of, count_of, fate_in}
 use Rattle.alp_locks.specs.Tables.{Holders, holding}
 use Rattle.alp_locks.specs.Sound.{IsSound}
 use Rattle.alp_vault.specs.Contents.{Contents}
 use Rattle.alp_trans.specs.Parts.{own_of}
 use Rattle.alp_trans.specs.Counting.{AreCountsOf}
-use Rattle.alp_journal.specs.Coordinator.{Undrawn}
 use Rattle.alp_journal.specs.Answered.{is_fault_reply}
 use Rattle.alp_journal.specs.Answers.{more_locks}
 use Rattle.alp_journal.specs.Counts.{Locked, with_resources, request_in}
@@ -40,11 +40,12 @@ use Rattle.alp_journal.specs.Account.{Account, state_of, IsQuiet, AreEarlier}
 use Rattle.alp_node.specs.Asks.{is_given}
 use Rattle.alp_node.specs.Covers.{AreHeld, AreSizedEdits}
 use Rattle.alp_node.specs.Dead.{cause_in}
-use Rattle.alp_node.specs.Decisions.{AreTimes, HaveEnds, IsPlain}
+use Rattle.alp_node.specs.Decisions.{IsPlain}
 use Rattle.alp_node.specs.Durable.{clock_notes}
 use Rattle.alp_node.specs.Rooms.{IsWithin}
 use Rattle.alp_node.specs.Sessions.{session_at}
 use Rattle.alp_node.specs.Totals.{totals_of, HaveRoom}
+use Rattle.alp_node.specs.Transactions.{IsCoordinatorOf, IsOwnOf, AreDecidedBy}
 use Rattle.alp_node.specs.Turns.{IsKeepable}
 use Rattle.alp_node.specs.Waits.{waiting_calls, AreWaiting}
 use Rattle.alp_turns.specs.Queues.{queue_of}
@@ -105,30 +106,11 @@ abbrev pub ids_to : ℕ → ℕ → ℕ → List FileId
 ids_to server epoch zero = []
 ids_to server epoch (suc n) = (record { server = server; epoch = epoch; counter = suc n }) ∷ ids_to server epoch n
 
--- those of transactions, the first first
-abbrev pub trans_to : ℕ → ℕ → ℕ → List TransId
-trans_to server epoch zero = []
-trans_to server epoch (suc n) = trans_to server epoch n ++ (record { server = server; epoch = epoch; counter = suc n }) ∷ []
-
 -- the files that were made: those of this epoch up to a counter, and before them some of older epochs of this server
 pub record AreMade (server epoch count : ℕ) (made : List FileId) : Type 0 where
   pub early : List FileId
   pub old : AllByRecursion (λ (f : FileId). is_drawn server epoch 0 f.server f.epoch f.counter ≡ true) early
   pub all : made ≡ ids_to server epoch count ++ early
-
--- the transactions that began: some of older epochs, and those of this one up to a counter
-pub record HaveBegun (server epoch count : ℕ) (begun : List TransId) : Type 0 where
-  pub early : List TransId
-  pub old : AllByRecursion (λ (t : TransId). t.epoch < epoch) early
-  pub all : begun ≡ early ++ trans_to server epoch count
-
--- an id that was not drawn here, in this epoch or an older one
-abbrev pub is_beyond : ℕ → ℕ → ℕ → TransId → Bool
-is_beyond server epoch count t = not (t.server == server && nat_lt 0 t.counter && (nat_lt t.epoch epoch || (t.epoch == epoch && nat_le t.counter count)))
-
--- a live transaction has one of the counters that were given
-abbrev pub IsNumbered : ℕ → TransId → Type 0
-IsNumbered drawn t = (0 < t.counter) × (t.counter ≤ drawn)
 
 -- ---- calls that wait
 
@@ -165,12 +147,8 @@ pub record IsAs {V : Type 0} (a : Account) (held : Contents) (k : ServerState V)
   pub lives : (t : TransId) → IsAlike a.holder.cells k.locks.held (a.locked t) t (map.get k.lives t) (a.holder.lives t)
   pub room : HaveRoom k.sizes a.holder.cells (totals_of k.lives)
   pub unborn : (t : TransId) (l : Life) → a.holder.lives t ≡ Some l → PutNoneBeyond a.holder.server a.ids.epoch k.given l.edits
-  pub current : (t : TransId) (l : Life) → a.holder.lives t ≡ Some l → t.epoch ≡ a.ids.epoch
-  pub drawn : a.ids.transactions ≡ k.drawn
-  pub begun : HaveBegun a.holder.server a.ids.epoch k.drawn a.begun
-  pub undrawn : (t : TransId) → is_beyond a.holder.server a.ids.epoch k.drawn t ≡ true → a.fates t ≡ Undrawn
+  pub coordinator : IsCoordinatorOf a k.coordinator
   pub plain : (t : TransId) → IsPlain (a.fates t)
-  pub ends : HaveEnds a.holder.server a.ids.epoch k.drawn k.decisions a.fates
   pub files : a.ids.files ≡ k.given
   pub made : AreMade a.holder.server a.ids.epoch k.given a.holder.made
   pub born : SeesNoneToCome a.holder.server a.ids.epoch k.given (map.get a.holder.cells)
@@ -184,17 +162,18 @@ IsCalm here d = is_fault_reply here (Some (reply.Refused (refusal.Aborted d.caus
 
 -- Whatever its vault tells: its vault serves just while it is up, the table's locks agree, nobody is woken and not taken, those who
 -- wait in it do so for calls that the server keeps, and these may be performed once they have their locks. The table knows each live
--- transaction, each live part is within its limits, acts for somebody and is not among the dead, as many as there may be, no fault
--- of the device ended one of the dead, nobody has a file open or holds a lock on one that was not made yet, each session keeps what
--- it may, no transaction was decided later than the clock, and no count went further than so many steps.
+-- transaction, and just these run, each live part is within its limits, acts for somebody and is not among the dead, as many as there
+-- may be, no fault of the device ended one of the dead, nobody has a file open or holds a lock on one that was not made yet, each
+-- session keeps what it may, no transaction was decided later than the clock, and no count went further than so many steps.
 pub record IsReady {V : Type 0} (steps : ℕ) (serves : Bool) (k : ServerState V) : Type 0 where
   pub serving : k.is_down ≡ false → IsTrue serves
   pub halted : k.is_down ≡ true → serves ≡ false
   pub sound : IsSound k.locks
   pub taken : k.locks.woken ≡ []
-  pub waits : AreWaiting k.server k.epoch k.given k.drawn k.sizes k.lives k.waits k.locks.waiting
+  pub waits : AreWaiting k.server k.epoch k.given (count_of k.coordinator) k.sizes k.lives k.waits k.locks.waiting
   pub known : (t : TransId) (l : Live) → map.get k.lives t ≡ Some l → is_some (map.get k.locks.held t) ≡ true
-  pub begun : (t : TransId) (l : Live) → map.get k.lives t ≡ Some l → IsNumbered k.drawn t
+  pub seat : (server_of k.coordinator ≡ k.server) × (epoch_of k.coordinator ≡ k.epoch)
+  pub own : (t : TransId) → IsOwnOf (map.get k.lives t) (fate_in k.coordinator t)
   pub opens : (t : TransId) (l : Live) → map.get k.lives t ≡ Some l → l.part.last ≤ steps
   pub opened : (t : TransId) (l : Live) → map.get k.lives t ≡ Some l → list_all (λ o. is_given k.server k.epoch k.given o.file) l.part.opens.items ≡ true
   pub callers : (t : TransId) (l : Live) → map.get k.lives t ≡ Some l → is_some l.who ≡ true
@@ -203,8 +182,8 @@ pub record IsReady {V : Type 0} (steps : ℕ) (serves : Bool) (k : ServerState V
   pub places : length k.sessions.places ≡ 17
   pub calls : (client : ℕ) (w : Session) → session_at k.sessions client ≡ Some w → w.last ≤ steps
   pub replies : (client : ℕ) (w : Session) → session_at k.sessions client ≡ Some w → IsKeepable k.clock w.reply
-  pub drawn : k.drawn ≤ steps
-  pub decisions : AreTimes k.drawn k.clock k.decisions
+  pub drawn : count_of k.coordinator ≤ steps
+  pub times : AreDecidedBy k.clock k.coordinator
   pub given : k.given ≤ steps
   pub few : map.len k.lives ≤ steps
   pub most : map.len k.lives ≤ 64

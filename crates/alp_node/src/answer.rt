@@ -6,7 +6,7 @@ ghost use Rattle.alp_node.specs.Asks.{is_made as is_made_said};
 ghost use Rattle.alp_node.specs.Calls.{given_of};
 ghost use Rattle.alp_node.specs.Steps.{told_answer, refused_answer};
 
-use alp_base::{OutOfMemory, Stamp};
+use alp_base::{OutOfMemory, Stamp, TransId};
 use alp_files::{Ended, Refusal, Reply};
 use alp_journal::Acts;
 
@@ -39,6 +39,16 @@ impl Answer {
         Answer {
             kept: None,
             handed: None,
+            acts,
+        }
+    }
+
+    pub fn begun(trans: TransId, acts: Acts) -> Answer
+        ensures { result ≡ told_answer (Some (reply.Begun trans)) acts }
+    {
+        Answer {
+            kept: Some(Reply::Begun { trans }),
+            handed: Some(Reply::Begun { trans }),
             acts,
         }
     }

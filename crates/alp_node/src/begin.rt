@@ -1,9 +1,14 @@
 //! Sessions and transactions begin.
-ghost use Rattle.std.specs.Prelude.{◌≡◌, ◌+◌, ◌<◌, ◌≤◌, ◌^◌, None, Some, false, OnOk, OnErr};
+ghost use Rattle.std.specs.Prelude.{◌≡◌, ◌≤◌, ◌^◌, None, false, nat_le, IfOk, OnOk, OnErr};
 ghost use Rattle.std.specs.FinMap as map;
 ghost use Rattle.alp_files.specs.declared.call.Call.TheVariants as call;
+ghost use Rattle.alp_files.specs.declared.refusal.Refusal.TheVariants as refusal;
+ghost use Rattle.alp_files.specs.declared.refusal.What.TheVariants as what;
+ghost use Rattle.alp_journal.specs.Answers.{if_over};
 ghost use Rattle.alp_journal.specs.declared.event.Event.TheVariants as event;
 ghost use Rattle.alp_trans.specs.Counting.{no_counts};
+ghost use Rattle.alp_coord.specs.Coordinators.{counted_of};
+ghost use Rattle.alp_node.specs.Draws.{HasDrawn, IsBackAgain};
 ghost use Rattle.alp_node.specs.Releases.{buried, cleared, with_trans};
 ghost use Rattle.alp_node.specs.Sessions.{session_at};
 ghost use Rattle.alp_node.specs.ServerState.{IsReadyForMore};
@@ -20,7 +25,7 @@ use alp_journal::{Act, Acts};
 use alp_trans::Part;
 use alp_vault::Vault;
 
-/// So many transactions may be live at a server.
+/// So many transactions may count at a server.
 const MOST_TRANSACTIONS: usize = 64;
 
 impl<V: Vault> ServerState<V> {
@@ -42,7 +47,7 @@ impl<V: Vault> ServerState<V> {
         Ok(answer)
     }
 
-    /// A transaction begins, where not too many are live. Its id is the next one, and the clock is at least what the client saw.
+    /// A transaction begins, where not too many count. Its id is the next one, and the clock is at least what the client saw.
     /// The client asks for no dead part any more.
     pub fn begin(&mut self, turn: &Turn, seen: Stamp) -> Result<Answer, OutOfMemory>
         requires turn { IsTurn self.old.sessions turn.now }
@@ -51,26 +56,40 @@ impl<V: Vault> ServerState<V> {
         requires time { seen.ts ≤ 2 ^ 62 }
         ensures { IsStep V.Vault self.old self.new (event.Call turn.now.client self.old.epoch turn.now.number (call.Begin seen)) result }
     {
-        if self.lives.len() >= MOST_TRANSACTIONS {
+        if let Some(refusal) = self.too_many()? {
             self.clear(turn.client);
-            return Ok(self.refuse(
-                turn,
-                Refusal::TooMany {
-                    what: What::Transactions,
-                    limit: MOST_TRANSACTIONS as u32,
-                },
-            ));
+            return Ok(self.refuse(turn, refusal));
         }
-        let counter = self.drawn + 1;
-        let clock = self.clock.max(seen.ts);
-        let trans = TransId {
-            server: self.server,
-            epoch: self.epoch,
-            counter,
-        };
-        let acts = Acts::new(vec![in self.alloc; Act::Drawn { trans }]?);
-        let reply = Reply::Begun { trans };
-        let answer = Answer::new(&reply, acts)?;
+        let mut acts = Vec::with_capacity(self.alloc, 1)?;
+        let trans = self.draw(turn)?;
+        acts.push_reserved(Act::Drawn { trans });
+        self.clock = self.clock.max(seen.ts);
+        self.bury(turn.client);
+        self.sessions.count(turn, Reply::Begun { trans });
+        Ok(Answer::begun(trans, Acts::new(acts)))
+    }
+
+    // That as many transactions as there may be count here already, if it is so.
+    fn too_many(&self) -> Result<Option<Refusal>, OutOfMemory>
+        ensures { IfOk result (λ r. r ≡ if_over (nat_le 64 (counted_of self.now.coordinator)) (refusal.TooMany what.Transactions 64)) }
+    {
+        let count = self.coordinator.counted()?;
+        if count < MOST_TRANSACTIONS {
+            return Ok(None);
+        }
+        Ok(Some(Refusal::TooMany {
+            what: What::Transactions,
+            limit: MOST_TRANSACTIONS as u32,
+        }))
+    }
+
+    // The next id is given to a transaction of the client, which is live from now on.
+    fn draw(&mut self, turn: &Turn) -> Result<TransId, OutOfMemory>
+        requires ready { IsReadyForMore (V.serves self.old.vault) self.old }
+        ensures drawn { IfOk result (λ t. HasDrawn turn.now t self.old self.new) }
+        ensures err { OnErr result (IsBackAgain self.old self.new) }
+    {
+        let trans = self.coordinator.begin(turn.client)?;
         let live = Live {
             client: turn.client,
             who: Some(turn.who),
@@ -78,29 +97,23 @@ impl<V: Vault> ServerState<V> {
             locks: 0,
             join: None,
         };
-        self.enter(trans, live)?;
-        self.drawn = counter;
-        self.clock = clock;
-        self.clear(turn.client);
-        self.sessions.count(turn, reply);
-        Ok(answer)
+        if self.enter(trans, live).is_err() {
+            self.coordinator.take_back();
+            return Err(OutOfMemory);
+        }
+        Ok(trans)
     }
 
-    // The transaction is live from now on. It holds no lock, and is not decided.
+    // The transaction is live from now on. It holds no lock.
     fn enter(&mut self, trans: TransId, live: Live) -> Result<(), OutOfMemory>
         requires new { map.get self.old.lives trans ≡ None }
         requires idle { live.part.counts ≡ no_counts }
         ensures ok { OnOk result (self.new ≡ with_trans self.old trans live) }
         ensures err { OnErr result (self.new ≡ self.old) }
     {
-        self.decisions.begin()?;
-        if self.lives.add(trans, live).is_err() {
-            self.decisions.take_back();
-            return Err(OutOfMemory);
-        }
+        self.lives.add(trans, live)?;
         if self.locks.enter(trans).is_err() {
             self.lives.remove(&trans);
-            self.decisions.take_back();
             return Err(OutOfMemory);
         }
         Ok(())

@@ -3,12 +3,12 @@ ghost use Rattle.std.specs.Prelude.{◌≡◌, ◌<◌, ◌≤◌, IsTrue, false
 ghost use Rattle.alp_base.specs.declared.allowance.Allowance.TheVariants.{Free};
 ghost use Rattle.alp_vault.specs.Vault.{IsOneOf};
 ghost use Rattle.alp_locks.specs.Sound.{IsSound};
+ghost use Rattle.alp_coord.specs.Coordinators.{IsOf};
 ghost use Rattle.alp_journal.specs.declared.entry.Entry.{Entry as AnEntry};
 ghost use Rattle.alp_node.specs.declared.start.StartFault.TheVariants as start_fault;
 ghost use Rattle.alp_node.specs.Downs.{IsFallen, HasFallen, IsPoweredOff, IsNext, HasNextCause, HasBegunEpoch, HasNotBegun, HasRestarted, IsStillDown, KeepsNobody, entry_again};
 
 use crate::dead::Dead;
-use crate::decisions::Decisions;
 use crate::lives::Lives;
 use crate::node::Node;
 use crate::opened::Opened;
@@ -19,6 +19,7 @@ use crate::stored::{StoreFault, store};
 use crate::waits::Waits;
 use alp_base::{OutOfMemory, VaultFault};
 use alp_calls::are_server_notes;
+use alp_coord::Coordinator;
 use alp_fields::{ClockNote, clock_note_name, read_clock};
 use alp_journal::{Act, Acts, Entry, Event, Journal, Parts, Stamps};
 use alp_locks::LockTable;
@@ -178,6 +179,7 @@ fn fill(alloc: Global, journal: &mut Journal, mut acts: Vec<Act>, clock: ClockNo
 // A server that keeps nothing of a client.
 fn with_nobody<V: Vault>(alloc: Global, server: u8, clock: ClockNote, vault: V) -> ServerState<V>
     ensures nobody { KeepsNobody result }
+    ensures run { IsOf server clock.epoch 0 result.coordinator }
     ensures sound { IsSound result.locks }
     ensures server { result.server ≡ server }
     ensures sizes { result.sizes ≡ V.volume vault }
@@ -191,14 +193,13 @@ fn with_nobody<V: Vault>(alloc: Global, server: u8, clock: ClockNote, vault: V) 
         sizes,
         epoch: clock.epoch,
         clock: clock.clock,
-        drawn: 0,
         given: 0,
+        coordinator: Coordinator::new(alloc, server, clock.epoch),
         sessions: Sessions::new(),
         lives: Lives::new(alloc),
         dead: Dead::new(alloc),
         waits: Waits::new(alloc),
         locks: LockTable::new(alloc),
-        decisions: Decisions::new(alloc),
         vault,
         is_down: false,
     }

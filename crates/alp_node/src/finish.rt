@@ -1,5 +1,5 @@
 //! Transactions end.
-ghost use Rattle.std.specs.Prelude.{◌≡◌, ◌+◌, ◌<◌, ◌≤◌, ◌^◌, [], ◌∷◌, ◌++◌, IsTrue, IfOk, Ok, None, Some, true, false, length, vec_capacity};
+ghost use Rattle.std.specs.Prelude.{◌≡◌, ℕ, ◌+◌, ◌<◌, ◌≤◌, ◌^◌, [], ◌∷◌, ◌++◌, IsTrue, IfOk, Ok, None, Some, true, false, length, vec_capacity};
 ghost use Rattle.std.specs.FinMap as map;
 ghost use Rattle.alp_calls.specs.declared.fault.CallFault.TheVariants as call_fault;
 ghost use Rattle.alp_files.specs.Sound.{AreSound};
@@ -9,6 +9,8 @@ ghost use Rattle.alp_trans.specs.Parts.{change_of};
 ghost use Rattle.alp_files.specs.declared.call.Call.TheVariants as call;
 ghost use Rattle.alp_journal.specs.declared.act.Act.TheVariants as act;
 ghost use Rattle.alp_journal.specs.declared.event.Event.TheVariants as event;
+ghost use Rattle.alp_journal.specs.Deeds.{Ends};
+ghost use Rattle.alp_coord.specs.Coordinators.{IsAlong, Comes};
 ghost use Rattle.alp_node.specs.declared.lives.Live.{Live as ALive};
 ghost use Rattle.alp_node.specs.Dead.{cause_in};
 ghost use Rattle.alp_node.specs.Standings.{standing_of};
@@ -56,10 +58,13 @@ impl<V: Vault> ServerState<V> {
         requires none { self.old.locks.woken ≡ [] }
         requires most { map.len self.old.lives ≤ 64 }
         requires part { (t : TransId) (l : ALive) → map.get self.old.lives t ≡ Some l → IsPart l.part }
-        ensures kept { self.new ≡ ended self.old turn.now trans (reply.Refused (refusal.Aborted cause)) }
+        ensures kept { self.new ≡ record (ended self.old turn.now trans (reply.Refused (refusal.Aborted cause))) { coordinator = self.new.coordinator } }
+        ensures along { IsAlong self.old.coordinator self.new.coordinator }
+        ensures ends { (client : ℕ) → Comes (Ends trans client cause) self.old.coordinator self.new.coordinator }
         ensures answer { result ≡ refused_answer (refusal.Aborted cause) (acts.items ++ grant_acts (granted_behind self.old trans)) }
     {
         self.release(trans, &mut acts);
+        self.coordinator.end(&trans, cause);
         self.waits.remove_of(turn.client, &trans);
         self.dead.remove(turn.client, trans);
         let refusal = Refusal::Aborted { cause };
@@ -113,6 +118,7 @@ impl<V: Vault> ServerState<V> {
         let mut acts = self.released(trans)?;
         self.dead.add(client, trans, Cause::TimedOut)?;
         self.release(trans, &mut acts);
+        self.coordinator.end(&trans, Cause::TimedOut);
         Ok(Answer::silence(Acts::new(acts)))
     }
 
@@ -180,7 +186,8 @@ impl<V: Vault> ServerState<V> {
         self.release(trans, &mut acts);
         self.ease_all(others.as_slice(), blocks.as_slice());
         self.clock = stamp.ts;
-        self.decisions.decide(trans.counter, stamp.ts);
+        self.coordinator.finish(&trans);
+        self.coordinator.decide(&trans, stamp.ts);
         self.sessions.count(turn, Reply::Committed { stamp });
         Ok(Answer::committed(stamp, Acts::new(acts)))
     }

@@ -9,7 +9,6 @@ mod blocks;
 mod calls;
 mod collect;
 mod dead;
-mod decisions;
 mod down;
 mod easing;
 mod finish;

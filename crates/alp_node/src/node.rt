@@ -7,6 +7,7 @@ ghost use Rattle.alp_files.specs.declared.refusal.Refusal.TheVariants as refusal
 ghost use Rattle.alp_files.specs.declared.reply.Reply.TheVariants as reply;
 ghost use Rattle.alp_journal.specs.declared.entry.Entry.{Entry as AnEntry};
 ghost use Rattle.alp_journal.specs.Account.{Account};
+ghost use Rattle.alp_coord.specs.Coordinators.{count_of};
 ghost use Rattle.alp_node.specs.ServerState.{IsAs, IsReadyForMore, IsOfJournal};
 ghost use Rattle.alp_base.specs.Allowances.{Sets};
 ghost use Rattle.alp_base.specs.Crashes.{Either, SameOutcomes, Adds};
@@ -45,13 +46,14 @@ pub struct Node<V: Vault> {
 
 impl<V: Vault> Model for Node<V> {
     ghost use Rattle.std.specs.Coded.{codes};
+    ghost use Rattle.alp_coord.specs.contracts.coordinator.Coordinator as coordinator_type;
     ghost use Rattle.alp_locks.specs.contracts.table.LockTable as table_type;
     ghost use Rattle.alp_node.specs.contracts.lives.Lives as lives_type;
     ghost use Rattle.alp_node.specs.NodeStates.{NodeState};
 
     ghost Value = { NodeState V };
 
-    ghost coded = { Prim.hlevel (codes, V.code, table_type.the_row.coded, lives_type.the_row.coded) };
+    ghost coded = { Prim.hlevel (codes, V.code, table_type.the_row.coded, coordinator_type.the_row.coded, lives_type.the_row.coded) };
 
     ghost use Rattle.alp_node.specs.Nodes.{IsConsistent};
 
@@ -137,10 +139,10 @@ impl<V: Vault> Node<V> {
     }
 
     /// How many transactions began here since it was started, or started again.
-    pub fn begun(&self) -> u32
-        ensures { result ≡ self.now.kept.drawn }
+    pub fn begun(&self) -> usize
+        ensures { result ≡ count_of self.now.kept.coordinator }
     {
-        self.kept.drawn
+        self.kept.coordinator.count()
     }
 
     /// The transactions that are live, least id first.

@@ -3,7 +3,6 @@ ghost use Rattle.std.specs.Prelude.{◌≡◌, Ok, false};
 ghost use Rattle.std.specs.FinMap as map;
 ghost use Rattle.alp_files.specs.declared.call.Call.TheVariants as call;
 ghost use Rattle.alp_journal.specs.declared.event.Event.TheVariants as event;
-ghost use Rattle.alp_node.specs.Endings.{is_begun as is_begun_said, ending_in};
 ghost use Rattle.alp_node.specs.ServerState.{IsReadyForMore};
 ghost use Rattle.alp_node.specs.Steps.{IsStep, IsTurn, IsOf};
 
@@ -11,42 +10,12 @@ use crate::answer::Answer;
 use crate::served::Standing;
 use crate::server_state::ServerState;
 use crate::sessions::Turn;
-use alp_base::{Stamp, TransId};
-use alp_files::{Ended, Refusal, Reply};
+use alp_base::TransId;
+use alp_files::{Refusal, Reply};
 use alp_journal::Acts;
 use alp_vault::Vault;
 
 impl<V: Vault> ServerState<V> {
-    // Whether the id was given to a transaction here, in this epoch or an older one.
-    fn is_begun(&self, trans: &TransId) -> bool
-        ensures { result ≡ is_begun_said self.now trans.now }
-    {
-        let is_here = trans.server == self.server && 0 < trans.epoch && 0 < trans.counter;
-        let is_now = trans.epoch == self.epoch && trans.counter <= self.drawn;
-        is_here && (trans.epoch < self.epoch || is_now)
-    }
-
-    // How a transaction stands, where its id was given here. Of older epochs nothing is known.
-    fn ending(&self, trans: &TransId) -> Option<Ended>
-        ensures { result ≡ ending_in self.now trans.now }
-    {
-        if !self.is_begun(trans) {
-            return None;
-        }
-        if trans.epoch != self.epoch {
-            return Some(Ended::Unknown);
-        }
-        if self.lives.get(trans).is_some() {
-            return Some(Ended::Running);
-        }
-        let ts = self.decisions.time(trans.counter);
-        if ts == 0 {
-            return Some(Ended::Aborted);
-        }
-        let stamp = Stamp { ts, trans: *trans };
-        Some(Ended::Committed { stamp })
-    }
-
     /// How a transaction stands that began here. Any client may ask, with a part of it or without.
     pub fn outcome(&mut self, turn: &Turn, trans: TransId) -> Answer
         requires turn { IsTurn self.old.sessions turn.now }
@@ -54,7 +23,7 @@ impl<V: Vault> ServerState<V> {
         requires ready { IsReadyForMore (V.serves self.old.vault) self.old }
         ensures { IsStep V.Vault self.old self.new (event.Call turn.now.client self.old.epoch turn.now.number (call.Outcome trans)) (Ok result) }
     {
-        let Some(ended) = self.ending(&trans) else {
+        let Some(ended) = self.coordinator.outcome(&trans) else {
             return self.refuse(turn, Refusal::UnknownTrans);
         };
         self.sessions.count(turn, Reply::Ended(ended));

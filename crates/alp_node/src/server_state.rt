@@ -1,10 +1,10 @@
 //! What a server keeps beside its journal.
 use crate::dead::Dead;
-use crate::decisions::Decisions;
 use crate::lives::Lives;
 use crate::sessions::Sessions;
 use crate::waits::Waits;
 use alp_base::Sizes;
+use alp_coord::Coordinator;
 use alp_locks::LockTable;
 use alp_vault::Vault;
 use std::alloc::Global;
@@ -18,11 +18,10 @@ pub struct ServerState<V: Vault> {
     pub sizes: Sizes,
     pub epoch: u32,
     pub clock: u64,
-    /// How many transactions began in this epoch, and how many files were created.
-    pub drawn: u32,
+    /// How many files were created in this epoch.
     pub given: u32,
-    /// When each of those transactions was decided, if it was.
-    pub decisions: Decisions,
+    /// Transactions that began here.
+    pub coordinator: Coordinator,
     pub sessions: Sessions,
     pub lives: Lives,
     /// Parts that ended while their clients do not know, each up to its client's `Finish` of it or next `Begin` or `Join`.

@@ -15,7 +15,6 @@ ghost use Rattle.alp_node.specs.Nodes.{IsNew};
 ghost use Rattle.alp_node.specs.Starts.{AreOfServer, HasRaised, IsKeptOrRaised, after_clock, raised, HasStartCause, IsNoteFault};
 
 use crate::dead::Dead;
-use crate::decisions::Decisions;
 use crate::lives::Lives;
 use crate::node::Node;
 use crate::opened::Opened;
@@ -25,6 +24,7 @@ use crate::stored::{StoreFault, store};
 use crate::waits::Waits;
 use alp_base::VaultFault;
 use alp_calls::are_server_notes;
+use alp_coord::Coordinator;
 use alp_fields::{ClockNote, clock_note_name, read_clock};
 use alp_journal::Journal;
 use alp_locks::LockTable;
@@ -140,14 +140,13 @@ impl<V: Vault> Node<V> {
             sizes,
             epoch: clock.epoch,
             clock: clock.clock,
-            drawn: 0,
             given: 0,
+            coordinator: Coordinator::new(alloc, server, clock.epoch),
             sessions: Sessions::new(),
             lives: Lives::new(alloc),
             dead: Dead::new(alloc),
             waits: Waits::new(alloc),
             locks: LockTable::new(alloc),
-            decisions: Decisions::new(alloc),
             vault,
             is_down: false,
         };

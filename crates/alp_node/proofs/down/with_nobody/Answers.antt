@@ -3,13 +3,13 @@ use Rattle.alp_node.proofs.down.with_nobody.Goals as goal
 
 pub returns-clause-nobody : goal.returns-clause-nobody
 returns-clause-nobody g c = record {
-  drawn = refl;
-  decisions = c.new-6.ensures;
+  count = c.new.ensures.run.count_same;
+  fates = c.new.ensures.none;
   given = refl;
-  sessions = c.new.ensures;
-  lives = c.new-2.ensures;
-  dead = c.new-3.ensures;
-  waits = c.new-4.ensures;
-  locks = c.new-5.ensures.empty;
+  sessions = c.new-2.ensures;
+  lives = c.new-3.ensures;
+  dead = c.new-4.ensures;
+  waits = c.new-5.ensures;
+  locks = c.new-6.ensures.empty;
   up = refl;
 }

@@ -23,7 +23,7 @@ invariant_of-result g c =
     let only : IsTrue (G.tells k.vault) → Only (G.held k.vault) (G.may_leave k.vault) =
     λ told. subst (λ (w : g.row.V.Denot). Only (G.held w) (G.may_leave w)) (sym at) (c.knows.ensures.settled (told_of told) c.in-Ok.ensures.epoch.serving) in
     restarted_kept G d n c.in-Ok.clock c.self.invariant b c.in-Ok.ensures.low refl refl c.in-Ok.ensures.journal c.with_nobody.ensures.nobody c.with_nobody.ensures.server (c.with_nobody.ensures.sizes ∙ sym (ap G.volume at)) c.with_nobody.ensures.clock.0
-    c.with_nobody.ensures.clock.1 c.with_nobody.ensures.sound (subst (λ (w : g.row.V.Denot). 64 ≤ (G.volume w).area) (sym at) c.knows.ensures.limits.area_least) volume only
+    c.with_nobody.ensures.clock.1 c.with_nobody.ensures.run c.with_nobody.ensures.sound (subst (λ (w : g.row.V.Denot). 64 ≤ (G.volume w).area) (sym at) c.knows.ensures.limits.area_least) volume only
 
 pub returns-in-Ok : goal.returns-in-Ok
 returns-in-Ok g c =
@@ -35,7 +35,7 @@ returns-in-Ok g c =
     let b : HasBegunEpoch G d.epoch d.vault k.vault c.in-Ok.clock = subst (λ (w : g.row.V.Denot). HasBegunEpoch G d.epoch d.vault w c.in-Ok.clock) (sym at) c.in-Ok.ensures.epoch in
     subst (λ (x : DownState g.row.V.Denot). HasRestarted G x n) c.self.view_is
     (has_restarted G d n c.in-Ok.clock c.self.invariant b c.in-Ok.ensures.low refl refl c.in-Ok.ensures.journal c.with_nobody.ensures.nobody c.with_nobody.ensures.server (c.with_nobody.ensures.sizes ∙ sym (ap G.volume at)) c.with_nobody.ensures.clock.0
-    c.with_nobody.ensures.clock.1)
+    c.with_nobody.ensures.clock.1 c.with_nobody.ensures.run)
 
 pub invariant_of-down : goal.invariant_of-down
 invariant_of-down g c =

@@ -26,7 +26,7 @@ use Rattle.alp_node.proofs.StoreLemmas.{ends_later}
 use Rattle.alp_node.proofs.NoteLemmas.{put_first}
 use Rattle.alp_node.specs.ServerState.{IsAs, IsReady}
 use Rattle.alp_node.specs.Nodes.{IsRight, start_by, sent_in}
-use Rattle.alp_node.proofs.StartLemmas.{raised_later, raised_within, raised_some, raised_last, no_change, new_kept, new_alone, new_says, new_as, new_ready, new_right, volume_sized, kept_leaves, raised_leaves, vault_same}
+use Rattle.alp_node.proofs.StartLemmas.{IsNewCoordinator, raised_later, raised_within, raised_some, raised_last, no_change, new_kept, new_alone, new_says, new_as, new_ready, new_right, volume_sized, kept_leaves, raised_leaves, vault_same}
 use Rattle.alp_node.proofs.node.Node.start.Goals as goal
 
 pub store-requires-clause-clock : goal.store-requires-clause-clock
@@ -60,14 +60,13 @@ invariant_of-result g c =
       sizes = c.sizes-sizes.result;
       epoch = c.in-Ok.clock.epoch;
       clock = c.in-Ok.clock.clock;
-      drawn = 0;
       given = 0;
-      sessions = c.new-2.result;
-      lives = c.new-3.result;
-      dead = c.new-4.result;
-      waits = c.new-5.result;
-      locks = c.new-6.result;
-      decisions = c.new-7.result;
+      coordinator = c.new-2.result;
+      sessions = c.new-3.result;
+      lives = c.new-4.result;
+      dead = c.new-5.result;
+      waits = c.new-6.result;
+      locks = c.new-7.result;
       vault = v;
       is_down = false;
     } in
@@ -78,8 +77,9 @@ invariant_of-result g c =
     (let first : 1 ≤ c.args.server = subst (λ (m : ℕ). 1 ≤ m) c.requires.server.0 c.knows.ensures.server.first in
     let among : c.args.server ≤ 1 = subst (λ (m : ℕ). m ≤ 1) c.requires.server.0 (subst (λ (m : ℕ). G.server c.args.vault ≤ m) (c.requires.server.1 ∙ c.requires.alone) c.knows.ensures.server.among) in
     omega (arith, first, among)) in
+    let fresh : IsNewCoordinator c.args.server c.in-Ok.clock.epoch k.coordinator = record { run = c.new-2.ensures.run; none = c.new-2.ensures.none } in
     let same : new ≡ k =
-    (λ i. record k { sizes = (c.store.ensures.kept.sizes ∙ sym c.sizes-sizes.ensures) i; sessions = sym c.new-2.ensures i; lives = sym c.new-3.ensures i; dead = sym c.new-4.ensures i; waits = sym c.new-5.ensures i; locks = sym c.new-6.ensures.empty i; decisions = sym c.new-7.ensures i }) in
+    (λ i. record k { sizes = (c.store.ensures.kept.sizes ∙ sym c.sizes-sizes.ensures) i; sessions = sym c.new-3.ensures i; lives = sym c.new-4.ensures i; dead = sym c.new-5.ensures i; waits = sym c.new-6.ensures i; locks = sym c.new-7.ensures.empty i }) in
     let right : IsTrue (G.tells v) → IsRight (start_by G c.args.server c.of.result.value) held n =
     λ tells. (
     let told : IsTrue (G.tells c.args.vault) = subst IsTrue c.store.ensures.kept.telling tells in
@@ -95,7 +95,7 @@ invariant_of-result g c =
     (new_as k c.args.server (G.servers v) (clock_kept before.notes).epoch (G.volume v) c.in-Ok.clock held (λ f x there. c.requires.given told f x (sym (ap (λ (m : Cells). map.get m (Leader f)) cells) ∙ there))
     (raised_later before c.in-Ok.clock c.in-Ok.ensures.clock) c.in_default.ensures.clock
     (c.in_default.ensures.notes ∙ put_first (G.server c.args.vault) (G.servers c.args.vault) before.notes c.in-Ok.clock c.in-Ok.ensures.notes)
-    (subst (λ (s : Sizes). IsVolumeOf s held.cells) (sym c.store.ensures.kept.sizes) (subst (IsVolumeOf (G.volume c.args.vault)) (sym cells) volume)) servers_one server_one)))
+    (subst (λ (s : Sizes). IsVolumeOf s held.cells) (sym c.store.ensures.kept.sizes) (subst (IsVolumeOf (G.volume c.args.vault)) (sym cells) volume)) servers_one server_one fresh)))
     ) in
     record {
       number = c.store.ensures.kept.number ∙ c.requires.server.0;
@@ -108,7 +108,7 @@ invariant_of-result g c =
           (subst (IsReady 0 (G.serves v)) same
           (new_ready 0 k c.args.server (G.volume v) c.in-Ok.clock (G.serves v) c.in_default.ensures.ended.0 (raised_within before c.in-Ok.clock c.in-Ok.ensures.clock) (raised_some before c.in-Ok.clock c.in-Ok.ensures.clock) (raised_last before c.in-Ok.clock c.in-Ok.ensures.clock)
           (subst (λ (s : Sizes). 64 ≤ s.area) (sym c.store.ensures.kept.sizes) c.knows.ensures.limits.area_least)
-          (subst IsSound c.new-6.ensures.empty c.new-6.ensures.sound)));
+          (subst IsSound c.new-7.ensures.empty c.new-7.ensures.sound) fresh));
       right = right;
     }
 

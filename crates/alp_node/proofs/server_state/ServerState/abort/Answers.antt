@@ -23,5 +23,5 @@ returns g c =
     let faults = G.faults k.vault in
     let mine = of_client turn.client (map.get k.lives t) c.requires.own in
     let so = c.end.ensures.answer ∙ ap (λ (acts : List Act). refused_answer (refusal.Aborted cause.Asked) (acts ++ grant_acts (granted_behind k t))) c.in_ok-acts.ensures.acts in
-    ended_step G k c.end.new.self turn t (granted_behind k t) (call.Finish t false) cause.Asked c.end.result refl c.requires.turn c.requires.up c.end.ensures.kept so
-    (λ told a h. abort_stepped a faults faults (G.held k.vault) k turn t mine.0 c.requires.ready.0 (G.serves k.vault) h c.requires.ready.2 c.requires.turn c.requires.up c.requires.here mine.1 mine.2 c.end.result so)
+    ended_step G k c.end.new.self turn t (granted_behind k t) (call.Finish t false) cause.Asked c.end.result c.end.new.self.coordinator c.end.ensures.along c.end.ensures.ends refl c.requires.turn c.requires.up c.end.ensures.kept so
+    (λ told a h. abort_stepped a faults faults (G.held k.vault) k turn t mine.0 c.requires.ready.0 (G.serves k.vault) h c.requires.ready.2 c.requires.turn c.requires.up c.requires.here mine.1 mine.2 c.end.result c.end.new.self.coordinator c.end.ensures.along c.end.ensures.ends so)

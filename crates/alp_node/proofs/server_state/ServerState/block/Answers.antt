@@ -12,6 +12,7 @@ use Rattle.alp_locks.specs.Sound.{IsPrepared}
 use Rattle.alp_locks.specs.Tables.{holding}
 use Rattle.alp_queue.specs.Order.{waits}
 use Rattle.alp_queue.specs.declared.waiter.Waiter.{Waiter}
+use Rattle.alp_coord.specs.Coordinators.{count_of}
 use Rattle.alp_node.specs.Asks.{AreGiven, plan_of}
 use Rattle.alp_node.specs.ServerState.{IsReady}
 use Rattle.alp_node.specs.Shapes.{counts_then, too_locked, may_wait}
@@ -41,7 +42,7 @@ wait-requires-clause-idle g c =
     let turn = c.args.turn.now in
     let mine = of_client turn.client (map.get k.lives c.args.trans) c.requires.own in
     let calls = c.requires.ready.2.waits.calls in
-    let away : HasNoCall turn.client c.args.trans k.waits = none_waiting k.server k.epoch k.given k.drawn k.sizes k.lives turn.client c.args.trans mine.0 k.waits mine.1 mine.2 c.requires.idle calls in
+    let away : HasNoCall turn.client c.args.trans k.waits = none_waiting k.server k.epoch k.given (count_of k.coordinator) k.sizes k.lives turn.client c.args.trans mine.0 k.waits mine.1 mine.2 c.requires.idle calls in
     ap (λ (w : Waiter). waits k.locks.waiting w.trans) c.requires.plan
     ∙ idle_in k.server k.epoch k.given k.lives k.waits c.args.trans k.locks.waiting (asks_none c.args.trans k.waits away.others) c.requires.ready.2.waits.queued
 
@@ -56,8 +57,8 @@ returns-then-not-may_wait g c =
     let ns : List Need = c.args.asked.1.needs in
     let mine = of_client turn.client (map.get k.lives t) c.requires.own in
     let l : Live = mine.0 in
-    let named : AreNamed k.waits = named_all k.server k.epoch k.given k.drawn k.sizes k.lives k.waits c.requires.ready.2.waits.calls in
-    let away : HasNoCall turn.client t k.waits = none_waiting k.server k.epoch k.given k.drawn k.sizes k.lives turn.client t l k.waits mine.1 mine.2 c.requires.idle c.requires.ready.2.waits.calls in
+    let named : AreNamed k.waits = named_all k.server k.epoch k.given (count_of k.coordinator) k.sizes k.lives k.waits c.requires.ready.2.waits.calls in
+    let away : HasNoCall turn.client t k.waits = none_waiting k.server k.epoch k.given (count_of k.coordinator) k.sizes k.lives turn.client t l k.waits mine.1 mine.2 c.requires.idle c.requires.ready.2.waits.calls in
     let never : may_wait call ≡ false = sym c.may_wait.ensures ∙ c.if-not-may_wait.true in
     let few : too_locked k.sizes.area l.part.counts.cells (counts_then l.locks (holding k.locks.held t) ns call).made ≡ None =
     ap (λ (n : LockCounts). too_locked k.sizes.area l.part.counts.cells n.made) (sym (c.requires.counts l mine.1)) ∙ c.requires.few l mine.1 in
@@ -94,7 +95,7 @@ returns g c =
     let ready = c.requires.ready.2 in
     let faults = G.faults k.vault in
     let e = event.Call turn.client k.epoch turn.number call in
-    let away : HasNoCall turn.client t k.waits = none_waiting k.server k.epoch k.given k.drawn k.sizes k.lives turn.client t l k.waits mine.1 mine.2 c.requires.idle ready.waits.calls in
+    let away : HasNoCall turn.client t k.waits = none_waiting k.server k.epoch k.given (count_of k.coordinator) k.sizes k.lives turn.client t l k.waits mine.1 mine.2 c.requires.idle ready.waits.calls in
     let chooses : may_wait call ≡ true = sym c.may_wait.ensures ∙ c.if-not-may_wait.false in
     let counts_are : c.args.asked.0 ≡ counts_then l.locks (holding k.locks.held t) ns call = c.requires.counts l mine.1 in
     let few : too_locked k.sizes.area l.part.counts.cells (counts_then l.locks (holding k.locks.held t) ns call).made ≡ None = ap (λ (n : LockCounts). too_locked k.sizes.area l.part.counts.cells n.made) (sym counts_are) ∙ c.requires.few l mine.1 in

@@ -17,6 +17,7 @@ use Rattle.alp_calls.proofs.PartLaws.{sees_files}
 use Rattle.alp_journal.specs.declared.act.Act.{Act}
 use Rattle.alp_journal.specs.declared.act.Act.TheVariants as act
 use Rattle.alp_journal.specs.declared.event.Event.TheVariants as event
+use Rattle.alp_coord.specs.Coordinators.{count_of}
 use Rattle.alp_node.specs.Asks.{asks_made, makes_file, is_made, plan_if, plan_of, count_made, with_made}
 use Rattle.alp_node.specs.Calls.{name_in, next_file, Performed}
 use Rattle.alp_node.specs.Steps.{IsStep, IsOf, IsDown, counted_in, told_answer}
@@ -54,8 +55,8 @@ perform-requires-clause-ready g c l there =
     let k = c.args.self.now in
     let ready = c.requires.ready.2 in
     let w : WaitingCall = record { client = c.args.turn.now.client; number = c.args.number; trans = c.args.trans; call = c.args.call.now; counts = Some c.args.counts; is_granted = true } in
-    let its : IsWaitingCall k.server k.epoch k.given k.drawn k.sizes k.lives w = call_is k c.args.turn.now.client c.args.number w c.requires.ready.0 (g.V.Vault.serves k.vault) ready c.requires.waiting in
-    let file : IsFileCall k.server k.epoch k.given k.drawn k.sizes k.lives w c.args.counts = its.file c.args.counts refl in
+    let its : IsWaitingCall k.server k.epoch k.given (count_of k.coordinator) k.sizes k.lives w = call_is k c.args.turn.now.client c.args.number w c.requires.ready.0 (g.V.Vault.serves k.vault) ready c.requires.waiting in
+    let file : IsFileCall k.server k.epoch k.given (count_of k.coordinator) k.sizes k.lives w c.args.counts = its.file c.args.counts refl in
     let low : l.part.last ≤ c.requires.ready.0 = ready.opens c.args.trans l there in
     record {
       part = (ready.within c.args.trans l there).part;

@@ -1,13 +1,13 @@
 use Rattle.std.specs.Prelude.{Ok, Err, None, Some, flat_map}
 use Rattle.std.specs.FinMap as map
-use Rattle.std.proofs.Common.{◌≡◌, ℕ, ◌+◌, ◌*◌, ◌≤◌, List, [], ◌∷◌, ◌++◌, length, inl, inr, true, refl, sym, ap, ◌∙◌, subst, arith}
+use Rattle.std.proofs.Common.{◌≡◌, ◌+◌, ◌*◌, ◌≤◌, List, [], ◌∷◌, ◌++◌, inl, inr, true, refl, sym, ap, ◌∙◌, subst, arith}
 use Rattle.alp_files.specs.declared.call.Call.TheVariants as call
 use Rattle.alp_files.specs.declared.refusal.Refusal.TheVariants as refusal
 use Rattle.alp_journal.specs.declared.act.Act.TheVariants as act
 use Rattle.alp_files.specs.declared.reply.Reply.TheVariants as reply
 use Rattle.alp_journal.specs.declared.event.Event.TheVariants as event
+use Rattle.alp_coord.specs.Coordinators.{IsAlong, Comes, fate_in}
 use Rattle.alp_node.specs.ServerState.{IsAs}
-use Rattle.alp_node.specs.Decisions.{with_time}
 use Rattle.alp_node.specs.Eases.{eased}
 use Rattle.alp_node.specs.Releases.{grant_acts, granted_behind, let_go}
 use Rattle.alp_node.specs.Steps.{IsOf, IsStep, told_answer, refused_answer, counted_in}
@@ -19,7 +19,8 @@ use Rattle.alp_node.specs.declared.answer.Answer.{Answer}
 use Rattle.alp_node.proofs.TurnLemmas.{counts_on}
 use Rattle.alp_node.proofs.GivenLemmas.{counts_none, reply_given}
 use Rattle.alp_node.proofs.ReadyLemmas.{ready_with}
-use Rattle.alp_node.proofs.ReleaseLemmas.{let_go_of, let_go_ready, committed_ready, grants_go_on, grants_caused}
+use Rattle.alp_node.proofs.ReleaseLemmas.{let_go_of, let_go_parts, let_go_most, committed_ready, grants_go_on, grants_caused}
+use Rattle.alp_node.proofs.TransactionLemmas.{lets_decide}
 use Rattle.alp_base.specs.declared.ids.Stamp.{Stamp}
 use Rattle.alp_base.specs.declared.key.Key.{Key}
 use Rattle.alp_node.proofs.EaseLemmas.{eased_ready}
@@ -31,7 +32,10 @@ use Rattle.alp_journal.specs.Account.{Account, state_of}
 use Rattle.alp_journal.specs.Desk.{waiting_of}
 use Rattle.alp_journal.specs.Holder.{with_life}
 use Rattle.alp_journal.specs.Moves.{act_deeds}
-use Rattle.alp_journal.specs.Deeds.{Releases}
+use Rattle.alp_journal.specs.Coordinator.{joins_of}
+use Rattle.alp_journal.specs.Deeds.{Releases, Finishes, Decides}
+use Rattle.alp_calls.specs.Parts.{IsPart}
+use Rattle.alp_coord.specs.declared.coordinator.Coordinator.{Coordinator}
 use Rattle.alp_vault.specs.Contents.{Contents}
 use Rattle.alp_node.proofs.SeatLemmas.{same_format}
 use Rattle.alp_node.specs.Halts.{Ends}
@@ -52,30 +56,14 @@ pub ease_all-requires-clause-most : goal.ease_all-requires-clause-most
 ease_all-requires-clause-most g c =
     let k = c.args.self.now in
     let v = c.store.new.vault in
-    let serving = ready_with c.requires.ready.0 (g.V.Vault.serves k.vault) (g.V.Vault.serves v) k v c.in-Ok.ensures.ended.0 c.requires.up c.requires.ready.2 in
-    subst (λ (y : ServerState _). map.len y.lives ≤ 64) (sym c.release.ensures.after) (let_go_ready c.requires.ready.0 (g.V.Vault.serves v) (record k { vault = v }) c.args.trans serving).most
+    let few : map.len (let_go (record k { vault = v }) c.args.trans).lives ≤ 64 = (let fewer : map.len (let_go (record k { vault = v }) c.args.trans).lives ≤ map.len k.lives = let_go_most (record k { vault = v }) c.args.trans in omega (arith, fewer, c.requires.ready.2.most)) in
+    subst (λ (y : ServerState _). map.len y.lives ≤ 64) (sym c.release.ensures.after) few
 
 pub ease_all-requires-clause-part : goal.ease_all-requires-clause-part
 ease_all-requires-clause-part g c u l there =
     let k = c.args.self.now in
     let v = c.store.new.vault in
-    let serving = ready_with c.requires.ready.0 (g.V.Vault.serves k.vault) (g.V.Vault.serves v) k v c.in-Ok.ensures.ended.0 c.requires.up c.requires.ready.2 in
-    ((let_go_ready c.requires.ready.0 (g.V.Vault.serves v) (record k { vault = v }) c.args.trans serving).within u l (sym (ap (λ (y : ServerState _). map.get y.lives u) c.release.ensures.after) ∙ there)).part
-
-pub decide-requires-clause-some : goal.decide-requires-clause-some
-decide-requires-clause-some g c = (c.requires.ready.2.begun c.args.trans c.in-Some.live.now (sym c.in-Some.ensures)).0
-
-pub decide-requires-clause-begun : goal.decide-requires-clause-begun
-decide-requires-clause-begun g c =
-    let k = c.args.self.now in
-    let v = c.store.new.vault in
-    let t = c.args.trans in
-    let given : t.counter ≤ k.drawn = (c.requires.ready.2.begun t c.in-Some.live.now (sym c.in-Some.ensures)).1 in
-    let same : (c.ease_all.new.self).decisions ≡ k.decisions =
-    ap (λ (y : ServerState _). y.decisions) (c.ease_all.ensures ∙ ap (λ (y : ServerState _). record y { lives = eased c.as_slice-2.result.now y.lives c.as_slice.result.now }) (c.release.ensures.after ∙ let_go_vault k v t))
-    ∙ ap (λ (y : ServerState _). y.decisions) (let_go_of k t) in
-    let long : length (c.ease_all.new.self).decisions ≡ k.drawn = ap (λ (times : List ℕ). length times) same ∙ c.requires.ready.2.decisions.all in
-    omega (arith, given, long)
+    let_go_parts IsPart (record k { vault = v }) c.args.trans (λ w m at. (c.requires.ready.2.within w m at).part) u l (sym (ap (λ (y : ServerState _). map.get y.lives u) c.release.ensures.after) ∙ there)
 
 pub store-requires-clause-part : goal.store-requires-clause-part
 store-requires-clause-part g c = (c.requires.ready.2.within c.args.trans c.in-Some.live.now (sym c.in-Some.ensures)).part
@@ -177,6 +165,8 @@ returns g c =
     let G = g.V.Vault in
     let t = c.args.trans in
     let v = c.store.new.vault in
+    let mid : Coordinator = c.finish.new.self in
+    let z : Coordinator = c.decide.new.self in
     let x = c.committed.result in
     let stored = c.in-Ok.ensures in
     let stamp : Stamp = record { ts = k.clock + 1; trans = t } in
@@ -192,7 +182,7 @@ returns g c =
       lives = eased blocks (let_go k t).lives (map.keys k.lives);
       sessions = counted_in k.sessions turn (reply.Committed stamp);
       clock = k.clock + 1;
-      decisions = with_time k.decisions t.counter (k.clock + 1);
+      coordinator = z;
       vault = v;
     } in
     let gone : c.release.new.self ≡ record (let_go k t) { vault = v } = c.release.ensures.after ∙ let_go_vault k v t in
@@ -201,25 +191,28 @@ returns g c =
     ∙ (λ i. record (let_go k t) { lives = eased (c.as_slice-2.ensures.value i) (let_go k t).lives ((c.as_slice.ensures.value ∙ c.in_ok-others.ensures.ids) i); vault = v }) in
     let sessions : c.count.new.self ≡ counted_in k.sessions turn (reply.Committed stamp) =
     c.count.ensures ∙ ap (λ (y : ServerState _). counted_in y.sessions turn (reply.Committed stamp)) (eased_now ∙ ap (λ (y : ServerState _). record y { lives = eased blocks (let_go k t).lives (map.keys k.lives); vault = v }) (let_go_of k t)) in
-    let decisions : c.decide.new.self ≡ with_time k.decisions t.counter (k.clock + 1) =
-    c.decide.ensures ∙ ap (λ (times : List ℕ). with_time times t.counter (k.clock + 1)) (ap (λ (y : ServerState _). y.decisions) eased_now ∙ ap (λ (y : ServerState _). y.decisions) (let_go_of k t)) in
-    let kept : record (c.ease_all.new.self) { clock = k.clock + 1; decisions = c.decide.new.self; sessions = c.count.new.self } ≡ after =
-    (λ i. record (eased_now i) { clock = k.clock + 1; decisions = decisions i; sessions = sessions i }) in
+    let was : (c.ease_all.new.self).coordinator ≡ k.coordinator = ap (λ (y : ServerState _). y.coordinator) eased_now ∙ ap (λ (y : ServerState _). y.coordinator) (let_go_of k t) in
+    let first : IsAlong k.coordinator mid = subst (λ (x : Coordinator). IsAlong x mid) was c.finish.ensures.along in
+    let finished : Comes (Finishes t) k.coordinator mid = subst (λ (x : Coordinator). Comes (Finishes t) x mid) was c.finish.ensures.finished in
+    let second : IsAlong mid z = c.decide.ensures.along in
+    let decided : Comes (Decides stamp (joins_of (fate_in mid t))) mid z = c.decide.ensures.decided in
+    let kept : record (c.ease_all.new.self) { clock = k.clock + 1; coordinator = z; sessions = c.count.new.self } ≡ after =
+    (λ i. record (eased_now i) { clock = k.clock + 1; coordinator = z; sessions = sessions i }) in
     let so : x ≡ told_answer (Some (reply.Committed stamp)) acts =
     c.committed.ensures
     ∙ ap (told_answer (Some (reply.Committed stamp)))
     (c.new.ensures ∙ c.release.ensures.acts ∙ ap (λ (ys : List Act). ys ++ grants) (c.push_reserved-2.ensures.items ∙ ap (λ (ys : List Act). ys ++ act.Released t ∷ []) (c.push_reserved.ensures.items ∙ ap (λ (ys : List Act). ys ++ c.decision.result ∷ []) c.in_ok-acts.ensures.items ∙ ap (λ (y : Act). y ∷ []) c.decision.ensures))) in
     subst (λ (y : ServerState _). IsStep G k y e (Ok x)) (sym kept) (record {
       stepped = λ told a h.
-          commit_stepped a (G.faults k.vault) (G.faults v) (G.held k.vault) (G.held v) k turn t live v c.requires.ready.0 (G.serves k.vault) h c.requires.ready.2 c.requires.turn c.requires.up c.requires.clock c.requires.here there own
-          (waits_none a (G.held k.vault) k turn.client t live c.requires.ready.0 (G.serves k.vault) h c.requires.ready.2 there own c.requires.idle) fits x blocks (c.in_ok-blocks.ensures told live there) (stored.cells told) stored.notes so;
+          commit_stepped a (G.faults k.vault) (G.faults v) (G.held k.vault) (G.held v) k turn t live v mid z c.requires.ready.0 (G.serves k.vault) h c.requires.ready.2 c.requires.turn c.requires.up c.requires.clock c.requires.here there own
+          (waits_none a (G.held k.vault) k turn.client t live c.requires.ready.0 (G.serves k.vault) h c.requires.ready.2 there own c.requires.idle) fits first finished second decided x blocks (c.in_ok-blocks.ensures told live there) (stored.cells told) stored.notes so;
       given =
           reply_given k.server (G.faults k.vault) (G.faults v) (G.allowance v) (let_go k t).is_down (reply.Committed stamp) acts x so
           (counts_none k.server (G.faults k.vault) (G.faults v) (let_go k t).is_down (Some (reply.Committed stamp)) refl stored.ended.1 (ap (λ (y : ServerState _). y.is_down) (let_go_of k t) ∙ c.requires.up))
           (ap (λ (y : ServerState _). y.is_down) (let_go_of k t) ∙ c.requires.up ∙ sym (grants_go_on (granted_behind k t))) (grants_caused (G.faults k.vault) (G.faults v) (G.allowance v) (granted_behind k t));
       ready = λ n h.
-          eased_ready (n + 1) (G.serves v) (record (let_go k t) { sessions = counted_in k.sessions turn (reply.Committed stamp); clock = k.clock + 1; decisions = with_time k.decisions t.counter (k.clock + 1); vault = v }) blocks (map.keys k.lives)
-          (committed_ready n k turn t (G.serves k.vault) (G.serves v) v stored.ended.0 c.requires.up c.requires.turn c.requires.clock h);
+          eased_ready (n + 1) (G.serves v) (record (let_go k t) { sessions = counted_in k.sessions turn (reply.Committed stamp); clock = k.clock + 1; coordinator = z; vault = v }) blocks (map.keys k.lives)
+          (committed_ready n k t z turn (G.serves k.vault) (G.serves v) v (lets_decide k.coordinator mid z t (joins_of (fate_in mid t)) k.clock (k.clock + 1) first finished second decided (omega arith) h.times) stored.ended.0 c.requires.up c.requires.turn c.requires.clock h);
       noted = λ h. ((λ up. stored.format), (λ up. ap (λ (n : ClockNote). n.epoch) stored.clock ∙ sym (ap (λ (y : ServerState _). y.epoch) (let_go_of k t))));
       still = tt;
       seat = record {

@@ -3,6 +3,7 @@ use Rattle.std.specs.Prelude.{Some, Bool, IsTrue}
 use Rattle.std.proofs.Common.{◌≡◌, ℕ, length, ap, refl, sym, ◌∙◌, subst}
 use Rattle.alp_journal.specs.declared.event.Event.TheVariants as event
 use Rattle.alp_vault.specs.Contents.{Contents}
+use Rattle.alp_coord.specs.Coordinators.{count_of}
 use Rattle.alp_node.specs.Asks.{IsAsked}
 use Rattle.alp_node.specs.ServerState.{IsAs, IsReady}
 use Rattle.alp_locks.specs.Tables.{holding}
@@ -60,8 +61,8 @@ returns-in-Some-shape_refusal g c =
     let l : Live = c.in-Some.live.now in
     let there : map.get k.lives t ≡ Some l = sym c.in-Some.ensures in
     let mine : l.client ≡ turn.client = subst (IsOf turn.client) there (standing_own turn.client (map.get k.lives t) _ own) in
-    let named : AreNamed k.waits = named_all k.server k.epoch k.given k.drawn k.sizes k.lives k.waits c.requires.ready.2.waits.calls in
-    let away : HasNoCall turn.client t k.waits = none_waiting k.server k.epoch k.given k.drawn k.sizes k.lives turn.client t l k.waits there mine (sym c.has.ensures ∙ c.if-has.false) c.requires.ready.2.waits.calls in
+    let named : AreNamed k.waits = named_all k.server k.epoch k.given (count_of k.coordinator) k.sizes k.lives k.waits c.requires.ready.2.waits.calls in
+    let away : HasNoCall turn.client t k.waits = none_waiting k.server k.epoch k.given (count_of k.coordinator) k.sizes k.lives turn.client t l k.waits there mine (sym c.has.ensures ∙ c.if-has.false) c.requires.ready.2.waits.calls in
     let is : shape_of k.server k.epoch k.given (length l.part.opens.items) c.args.call.now ≡ Some f =
     ap (λ (n : ℕ). shape_of k.server k.epoch k.given n c.args.call.now) (sym l.part.opens.ok.0 ∙ sym c.len.ensures) ∙ sym c.shape_refusal.ensures ∙ c.in-Some-shape_refusal.is in
     refused_step G k refuse.new.self turn c.args.call.now refuse.result f (shape_quiet k.server k.server k.epoch k.given (length l.part.opens.items) c.args.call.now f is) c.requires.turn c.requires.up refuse.ensures.kept refuse.ensures.answer
@@ -91,7 +92,7 @@ returns-then-has g c =
     let mine = of_client turn.client (map.get k.lives t) (standing_own turn.client (map.get k.lives t) _ (sym c.standing.ensures ∙ c.in-Work.is)) in
     refused_step G k refuse.new.self turn c.args.call.now refuse.result refusal.NotYet refl c.requires.turn c.requires.up refuse.ensures.kept refuse.ensures.answer
     (λ told a h. (
-    let busy : IsBusy a turn.client t = busy_told a turn.client t k.waits h.waits (named_all k.server k.epoch k.given k.drawn k.sizes k.lives k.waits c.requires.ready.2.waits.calls) (sym c.has.ensures ∙ c.if-has.true) in
+    let busy : IsBusy a turn.client t = busy_told a turn.client t k.waits h.waits (named_all k.server k.epoch k.given (count_of k.coordinator) k.sizes k.lives k.waits c.requires.ready.2.waits.calls) (sym c.has.ensures ∙ c.if-has.true) in
     busy_stepped a (G.faults k.vault) (G.faults k.vault) (G.held k.vault) k turn t mine.0 busy.call refuse.result h c.requires.turn c.requires.up mine.1 mine.2 busy.waits refuse.ensures.answer c.args.call.now c.requires.named))
     tt
 
@@ -168,8 +169,8 @@ returns-in-Err g c =
     let l : Live = c.in-Some.live.now in
     let there : map.get k.lives t ≡ Some l = sym c.in-Some.ensures in
     let own : l.client ≡ turn.client = subst (IsOf turn.client) there (standing_own turn.client (map.get k.lives t) _ (sym c.standing.ensures ∙ c.in-Work.is)) in
-    let named : AreNamed k.waits = named_all k.server k.epoch k.given k.drawn k.sizes k.lives k.waits c.requires.ready.2.waits.calls in
-    let away : HasNoCall turn.client t k.waits = none_waiting k.server k.epoch k.given k.drawn k.sizes k.lives turn.client t l k.waits there own (sym c.has.ensures ∙ c.if-has.false) c.requires.ready.2.waits.calls in
+    let named : AreNamed k.waits = named_all k.server k.epoch k.given (count_of k.coordinator) k.sizes k.lives k.waits c.requires.ready.2.waits.calls in
+    let away : HasNoCall turn.client t k.waits = none_waiting k.server k.epoch k.given (count_of k.coordinator) k.sizes k.lives turn.client t l k.waits there own (sym c.has.ensures ∙ c.if-has.false) c.requires.ready.2.waits.calls in
     let look = c.in-Err.ensures.looked in
     let w = c.without_answer in
     without_step G k k.lives N.vault N w.new.self turn t c.args.call.now c.in-Err.fault w.result c.in-Err.ensures.kept look c.requires.turn c.requires.up c.requires.named (λ a h. idle_told a turn.client t k.waits h.waits named away.idle)

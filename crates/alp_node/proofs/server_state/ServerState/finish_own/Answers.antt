@@ -4,6 +4,7 @@ use Rattle.std.proofs.Common.{◌≡◌, true, refl, sym, ◌∙◌, subst}
 use Rattle.alp_files.specs.declared.call.Call.TheVariants as call
 use Rattle.alp_files.specs.declared.refusal.Refusal.TheVariants as refusal
 use Rattle.alp_journal.specs.declared.event.Event.TheVariants as event
+use Rattle.alp_coord.specs.Coordinators.{count_of}
 use Rattle.alp_node.specs.Steps.{IsStep}
 use Rattle.alp_node.proofs.BesideLemmas.{IsBusy, busy_told}
 use Rattle.alp_node.proofs.BlockLemmas.{busy_finish_stepped}
@@ -27,6 +28,6 @@ returns-then-has g c =
     subst (λ (b : Bool). IsStep G k c.refuse.new.self (event.Call turn.client k.epoch turn.number (call.Finish t b)) (Ok c.refuse.result)) (sym commits)
     (refused_step G k c.refuse.new.self turn (call.Finish t true) c.refuse.result refusal.NotYet refl c.requires.turn c.requires.up c.refuse.ensures.kept c.refuse.ensures.answer
     (λ told a h. (
-    let busy : IsBusy a turn.client t = busy_told a turn.client t k.waits h.waits (named_all k.server k.epoch k.given k.drawn k.sizes k.lives k.waits c.requires.ready.2.waits.calls) (sym c.has.ensures ∙ c.if-has.true) in
+    let busy : IsBusy a turn.client t = busy_told a turn.client t k.waits h.waits (named_all k.server k.epoch k.given (count_of k.coordinator) k.sizes k.lives k.waits c.requires.ready.2.waits.calls) (sym c.has.ensures ∙ c.if-has.true) in
     busy_finish_stepped a (G.faults k.vault) (G.faults k.vault) (G.held k.vault) k turn t mine.0 busy.call c.refuse.result h c.requires.turn c.requires.up mine.1 mine.2 busy.waits c.refuse.ensures.answer))
     tt)

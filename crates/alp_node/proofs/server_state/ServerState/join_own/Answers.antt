@@ -3,6 +3,7 @@ use Rattle.std.specs.FinMap as map
 use Rattle.std.proofs.Common.{◌≡◌, [], refl, sym, ◌∙◌, ap}
 use Rattle.alp_files.specs.declared.refusal.Refusal.TheVariants as refusal
 use Rattle.alp_files.specs.declared.reply.Reply.TheVariants as reply
+use Rattle.alp_coord.specs.Coordinators.{count_of}
 use Rattle.alp_node.specs.Releases.{buried}
 use Rattle.alp_node.specs.Steps.{counted_in, told_answer}
 use Rattle.alp_node.specs.declared.server_state.ServerState.{ServerState}
@@ -22,7 +23,7 @@ returns-then-has_waiting g c =
     let t = c.args.trans in
     let x = c.refuse.result in
     let mine = of_client turn.client (map.get k.lives t) c.requires.own in
-    let named : AreNamed k.waits = named_all k.server k.epoch k.given k.drawn k.sizes k.lives k.waits c.requires.ready.2.waits.calls in
+    let named : AreNamed k.waits = named_all k.server k.epoch k.given (count_of k.coordinator) k.sizes k.lives k.waits c.requires.ready.2.waits.calls in
     let kept : c.refuse.new.self ≡ record (buried k turn.client) { sessions = counted_in k.sessions turn (reply.Refused refusal.NotYet) } =
     c.refuse.ensures.kept ∙ ap (λ (y : ServerState _). record y { sessions = counted_in y.sessions turn (reply.Refused refusal.NotYet) }) c.bury.ensures in
     buried_step G k c.refuse.new.self turn t x (reply.Refused refusal.NotYet) kept c.requires.turn c.requires.up refl (record { inside = tt; times = tt }) tt c.refuse.ensures.answer
@@ -38,7 +39,7 @@ returns g c =
     let t = c.args.trans in
     let x = c.joined.result in
     let mine = of_client turn.client (map.get k.lives t) c.requires.own in
-    let named : AreNamed k.waits = named_all k.server k.epoch k.given k.drawn k.sizes k.lives k.waits c.requires.ready.2.waits.calls in
+    let named : AreNamed k.waits = named_all k.server k.epoch k.given (count_of k.coordinator) k.sizes k.lives k.waits c.requires.ready.2.waits.calls in
     let so : x ≡ told_answer (Some reply.Joined) [] = c.joined.ensures ∙ ap (told_answer (Some reply.Joined)) (c.new-2.ensures ∙ c.new.ensures.items) in
     let counted : c.count.new.self ≡ counted_in k.sessions turn reply.Joined = c.count.ensures ∙ ap (λ (y : ServerState _). counted_in y.sessions turn reply.Joined) c.bury.ensures in
     buried_step G k _ turn t x reply.Joined (λ i. record (c.bury.ensures i) { sessions = counted i }) c.requires.turn c.requires.up refl (record { inside = tt; times = tt }) tt so

@@ -14,6 +14,7 @@ use Rattle.alp_calls.specs.Limits.{refused_for}
 use Rattle.alp_calls.specs.Looks.{IsLeft}
 use Rattle.alp_calls.specs.Parts.{Answered, GivesOnly}
 use Rattle.alp_calls.proofs.PartLaws.{sees_files}
+use Rattle.alp_coord.specs.Coordinators.{count_of}
 use Rattle.alp_node.specs.Asks.{IsAsked, AreGiven, asks_made, asks_given, makes_file, is_made, plan_for, count_made, plan_of, with_plan, acts_of}
 use Rattle.alp_node.specs.Calls.{name_in, next_file, given_of, Performed}
 use Rattle.alp_node.specs.Rooms.{locks_given}
@@ -131,8 +132,8 @@ returns-in-Some-too_locked g c =
     let there : map.get k.lives t ≡ Some l = sym c.in-Some.ensures in
     let own : l.client ≡ turn.client = subst (IsOf turn.client) there c.requires.own in
     let n : LockCounts = counts_then l.locks (holding k.locks.held t) c.args.needs call in
-    let named : AreNamed k.waits = named_all k.server k.epoch k.given k.drawn k.sizes k.lives k.waits c.requires.ready.2.waits.calls in
-    let away : HasNoCall turn.client t k.waits = none_waiting k.server k.epoch k.given k.drawn k.sizes k.lives turn.client t l k.waits there own c.requires.idle c.requires.ready.2.waits.calls in
+    let named : AreNamed k.waits = named_all k.server k.epoch k.given (count_of k.coordinator) k.sizes k.lives k.waits c.requires.ready.2.waits.calls in
+    let away : HasNoCall turn.client t k.waits = none_waiting k.server k.epoch k.given (count_of k.coordinator) k.sizes k.lives turn.client t l k.waits there own c.requires.idle c.requires.ready.2.waits.calls in
     let f = c.in-Some-too_locked.refusal in
     let many : too_locked k.sizes.area l.part.counts.cells n.made ≡ Some f = ap (λ (y : LockCounts). too_locked k.sizes.area l.part.counts.cells y.made) (sym c.lock_counts-counts.ensures) ∙ sym c.too_locked.ensures ∙ c.in-Some-too_locked.is in
     let counted : IsCountRefusal f = too_locked_is k.sizes.area l.part.counts.cells n.made f many in
@@ -186,7 +187,7 @@ returns-in-Ok g c =
     let l : Live = c.in-Some.live.now in
     let there : map.get k.lives t ≡ Some l = sym c.in-Some.ensures in
     let own : l.client ≡ turn.client = subst (IsOf turn.client) there c.requires.own in
-    let away : HasNoCall turn.client t k.waits = none_waiting k.server k.epoch k.given k.drawn k.sizes k.lives turn.client t l k.waits there own c.requires.idle c.requires.ready.2.waits.calls in
+    let away : HasNoCall turn.client t k.waits = none_waiting k.server k.epoch k.given (count_of k.coordinator) k.sizes k.lives turn.client t l k.waits there own c.requires.idle c.requires.ready.2.waits.calls in
     let asked : IsAsked (G.tells k.vault) (G.held k.vault).cells (holding k.locks.held t) l.part call ns = c.requires.asked l there in
     let n : LockCounts = counts_then l.locks (holding k.locks.held t) ns call in
     let n_is : c.lock_counts-counts.result ≡ n = c.lock_counts-counts.ensures in
@@ -265,8 +266,8 @@ returns-in-Err g c =
     let l : Live = c.in-Some.live.now in
     let there : map.get k.lives t ≡ Some l = sym c.in-Some.ensures in
     let own : l.client ≡ turn.client = subst (IsOf turn.client) there c.requires.own in
-    let named : AreNamed k.waits = named_all k.server k.epoch k.given k.drawn k.sizes k.lives k.waits c.requires.ready.2.waits.calls in
-    let away : HasNoCall turn.client t k.waits = none_waiting k.server k.epoch k.given k.drawn k.sizes k.lives turn.client t l k.waits there own c.requires.idle c.requires.ready.2.waits.calls in
+    let named : AreNamed k.waits = named_all k.server k.epoch k.given (count_of k.coordinator) k.sizes k.lives k.waits c.requires.ready.2.waits.calls in
+    let away : HasNoCall turn.client t k.waits = none_waiting k.server k.epoch k.given (count_of k.coordinator) k.sizes k.lives turn.client t l k.waits there own c.requires.idle c.requires.ready.2.waits.calls in
     let did = c.in-Err.ensures.performed l there in
     let look = c.in-Err.ensures.looked in
     let w = c.without_answer in
