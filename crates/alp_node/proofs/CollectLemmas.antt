@@ -134,7 +134,7 @@ module _ {V : Type 0} (k : ServerState V) (client n : ℕ) (w : WaitingCall) (m 
   its_number = eqb-true w.number n (and_right (w.client == client) (w.number == n) its.1)
 
   -- so far file calls alone wait
-  is_file : is_some w.counts ≡ true
+  pub is_file : is_some w.counts ≡ true
   is_file = (find_each (λ (u : WaitingCall). is_some u.counts ≡ true) (is_at client n) k.waits w found ready.waits.files).0
 
   pub its_counts : (z : LockCounts) × (w.counts ≡ Some z)

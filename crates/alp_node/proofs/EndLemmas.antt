@@ -263,10 +263,13 @@ module _ {V : Type 0} (a : Account) (held : Contents) (k : ServerState V) (clien
       told None e s = let wrong : false ≡ true = s in cc
       told (Some c) e s = let wrong : false ≡ true = e in cc
 
+      its : (l : Live) → map.get k.lives v.trans ≡ Some l → l.client ≡ client → has_part client (map.get lives v.trans) ≡ true
+      its l there own = ap (has_part client) (kept v.trans l there) ∙ eq-eqb l.client client own
+
       live : (x : Option Life) → a.holder.lives v.trans ≡ x → IsPartOf v.client x (a.dead v.client v.trans) → v.client ≡ client → is_none (cause_in k.dead client v.trans) ≡ true → has_part client (map.get lives v.trans) ≡ true
       live (Some life) at p own none =
-          let part = its_part life (map.get k.lives v.trans) (a.holder.lives v.trans) at (h.lives v.trans) in
-          ap (has_part client) (kept v.trans part.0 part.1) ∙ eq-eqb part.0.client client (part.2 ∙ sym p ∙ own)
+          let part : (l : Live) × (map.get k.lives v.trans ≡ Some l) × (l.client ≡ life.client) = its_part life (map.get k.lives v.trans) (a.holder.lives v.trans) at (h.lives v.trans) in
+          its part.0 part.1 (part.2 ∙ (sym p ∙ own))
       live None at p own none = absurd (told (cause_in k.dead client v.trans) none (subst (λ (x : Option Cause). IsSome x) (ap (λ (n : ℕ). a.dead n v.trans) own ∙ h.dead client v.trans) p))
 
       by : (b : Bool) → (v.client == client) ≡ b → (not b || is_none (cause_in k.dead client v.trans)) ≡ true → (not b || has_part client (map.get lives v.trans)) ≡ true

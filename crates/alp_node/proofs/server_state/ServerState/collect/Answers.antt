@@ -13,8 +13,8 @@ use Rattle.alp_node.proofs.StandingLemmas.{standing_own, calm_told}
 use Rattle.alp_node.proofs.StepLemmas.{refused_step}
 use Rattle.alp_node.proofs.server_state.ServerState.collect.Goals as goal
 
-pub unreachable-requires-in_default-counts : goal.unreachable-requires-in_default-counts
-unreachable-requires-in_default-counts g c =
+pub unreachable-requires : goal.unreachable-requires
+unreachable-requires g c =
     let k = c.args.self.now in
     let w : WaitingCall = c.in-Some.waiting.now in
     let found : call_at c.args.turn.now.client c.args.number k.waits ≡ Some w = sym c.in-Some.ensures in
