@@ -1,5 +1,5 @@
 -- calls that are kept waiting: for their locks, or because another call of their part waits
-use Rattle.std.specs.Prelude.{Bool, true, false, ◌==◌, ◌&&◌, ◌||◌, is_some, is_none, Option, None, Some}
+use Rattle.std.specs.Prelude.{Bool, true, false, ◌&&◌, ◌||◌, is_some, is_none, Option, None, Some}
 use Rattle.std.specs.List.{AllByRecursion}
 use Rattle.std.specs.Option.{option_or}
 use Rattle.std.specs.FinMap as map
@@ -27,7 +27,6 @@ use Rattle.alp_trans.specs.Parts.{own_of}
 use Rattle.alp_calls.specs.Parts.{seen}
 use Rattle.alp_vault.specs.Contents.{Contents}
 use Rattle.alp_journal.specs.declared.event.Event.TheVariants as event
-use Rattle.alp_journal.specs.Ids.{same_trans}
 use Rattle.alp_journal.specs.Coordinator.{Running}
 use Rattle.alp_journal.specs.Counts.{request_in}
 use Rattle.alp_journal.specs.Desk.{Session, Waiting, file_trans, waiting_of}

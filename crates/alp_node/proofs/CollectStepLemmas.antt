@@ -24,7 +24,6 @@ use Rattle.alp_trans.specs.declared.part.Part.{Part}
 use Rattle.alp_journal.specs.declared.act.Act.TheVariants as act
 use Rattle.alp_journal.specs.declared.event.Event.{Event}
 use Rattle.alp_journal.specs.declared.event.Event.TheVariants as event
-use Rattle.alp_journal.specs.Ids.{same_trans}
 use Rattle.alp_coord.specs.Coordinators.{count_of}
 use Rattle.alp_node.specs.Asks.{plan_of, with_plan}
 use Rattle.alp_node.specs.Calls.{name_in, given_of, next_file}

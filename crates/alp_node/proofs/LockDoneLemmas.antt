@@ -51,7 +51,6 @@ use Rattle.alp_journal.specs.Answered.{GrantsFor, asks, grants_by}
 use Rattle.alp_journal.specs.Account.{Account, state_of, IsQuiet, Leads}
 use Rattle.alp_journal.proofs.CallLemmas.{call_entry}
 use Rattle.alp_journal.proofs.FileCalls.{PerformOwes, performed_leads, granted_leads, with_call}
-use Rattle.alp_journal.specs.Moves.{is_stop}
 use Rattle.alp_coord.specs.Coordinators.{count_of}
 use Rattle.alp_node.specs.Asks.{is_of_given, AreGiven, asks_of, asks_given, makes_file, plan_of, with_plan, acts_of}
 use Rattle.alp_node.specs.Calls.{name_in, IsServedCall, given_of, next_file}

@@ -64,7 +64,7 @@ impl<V: Vault> ServerState<V> {
         let trans = self.draw(turn)?;
         acts.push_reserved(Act::Drawn { trans });
         self.clock = self.clock.max(seen.ts);
-        self.bury(turn.client);
+        self.clear(turn.client);
         self.sessions.count(turn, Reply::Begun { trans });
         Ok(Answer::begun(trans, Acts::new(acts)))
     }

@@ -80,9 +80,7 @@ impl<V: Vault> ServerState<V> {
         let Some(found) = self.lives.get(&trans) else {
             unreachable!()
         };
-        let Some(who) = found.who else {
-            unreachable!()
-        };
+        let Some(who) = found.who else { unreachable!() };
         let blank = found.blank(self.alloc);
         let mut live = self.lives.swap(trans, blank);
         let given = perform(

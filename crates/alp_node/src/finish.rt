@@ -86,13 +86,7 @@ impl<V: Vault> ServerState<V> {
     }
 
     /// A part of the client that ended for that cause is known of from now on.
-    pub fn tell_dead(
-        &mut self,
-        turn: &Turn,
-        trans: TransId,
-        commit: bool,
-        cause: Cause,
-    ) -> Answer
+    pub fn tell_dead(&mut self, turn: &Turn, trans: TransId, commit: bool, cause: Cause) -> Answer
         requires turn { IsTurn self.old.sessions turn.now }
         requires dead { standing_of turn.now.client (map.get self.old.lives trans) (cause_in self.old.dead turn.now.client trans) ≡ standing.Ended cause }
         requires here { trans.server ≡ self.old.server }

@@ -142,16 +142,15 @@ impl Waits {
     pub fn bury(&mut self, client: u8, dead: &Dead)
         ensures { self.new ≡ without_dead client dead.now self.old }
     {
-        self.calls
-            .retain(|call| call.client != client || dead.cause(client, &call.trans).is_none());
+        self.calls.retain(|call| call.client != client
+            || dead.cause(client, &call.trans).is_none());
     }
 
     /// Of the client's calls those alone wait on whose parts are live.
     pub fn clear(&mut self, client: u8, lives: &Lives)
         ensures { self.new ≡ live_calls client lives.now self.old }
     {
-        self.calls
-            .retain(|call| call.client != client || has_part(lives, client, &call.trans));
+        self.calls.retain(|call| call.client != client || has_part(lives, client, &call.trans));
     }
 }
 

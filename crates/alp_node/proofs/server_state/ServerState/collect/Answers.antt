@@ -5,7 +5,6 @@ use Rattle.std.proofs.Common.{◌≡◌, ℕ, refl, sym, ap, ◌∙◌}
 use Rattle.alp_files.specs.declared.call.Call.TheVariants as call
 use Rattle.alp_files.specs.declared.refusal.Refusal.TheVariants as refusal
 use Rattle.alp_node.specs.Waits.{call_at}
-use Rattle.alp_coord.specs.Coordinators.{count_of}
 use Rattle.alp_node.specs.declared.waits.WaitingCall.{WaitingCall}
 use Rattle.alp_node.proofs.CollectLemmas.{is_file, its_client, its_number, known_standing, collect_none_stepped, collect_dead_stepped, collect_waits_stepped}
 use Rattle.alp_node.proofs.KeptLemmas.{of_client}

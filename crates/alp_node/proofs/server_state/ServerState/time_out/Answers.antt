@@ -16,7 +16,7 @@ use Rattle.alp_node.specs.declared.server_state.ServerState.{ServerState}
 use Rattle.alp_node.proofs.EndingLemmas.{timeout_stepped, let_go_aside}
 use Rattle.alp_node.proofs.FinishLemmas.{idle_stepped}
 use Rattle.alp_node.proofs.ReadyLemmas.{stepped_ready}
-use Rattle.alp_node.proofs.ReleaseLemmas.{let_go_of, late_ready, grants_go_on, grants_caused, timed_ready}
+use Rattle.alp_node.proofs.ReleaseLemmas.{let_go_of, late_ready, grants_go_on, grants_caused}
 use Rattle.alp_node.proofs.TransactionLemmas.{lets_end}
 use Rattle.alp_node.proofs.StepLemmas.{silent_step}
 use Rattle.alp_node.proofs.server_state.ServerState.time_out.Goals as goal
