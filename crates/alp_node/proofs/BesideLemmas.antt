@@ -25,9 +25,44 @@ use Rattle.alp_journal.specs.Answered.{is_conversion, is_conversion_of, rises_on
 use Rattle.alp_turns.specs.Queues.{request_for, request_at, queue_of}
 use Rattle.alp_turns.proofs.MoveLemmas.{AsksAlike, TurnsAlike, queue_kept}
 use Rattle.alp_node.specs.ServerState.{IsAskedAs, IsWaitingAs}
-use Rattle.alp_node.specs.Waits.{waiting, waiting_calls, has_waiting, is_at, call_at}
+use Rattle.alp_node.specs.Waits.{waiting, waiting_calls, has_waiting, call_at, IsCallBy, IsNamed}
 use Rattle.alp_node.specs.Waits as node
+use Rattle.alp_node.specs.declared.lock_counts.LockCounts.{LockCounts}
 use Rattle.alp_node.specs.declared.waits.WaitingCall.{WaitingCall}
+
+-- ---- file calls, and the others
+
+-- a file call that is not on this transaction is of another
+pub file_away : (w : WaitingCall) (n : LockCounts) (t : TransId) → w.counts ≡ Some n → node.is_file_on t w ≡ false → same_trans w.trans t ≡ false
+file_away w n t counted off = sym (ap (λ (x : Option LockCounts). is_some x && same_trans w.trans t) counted) ∙ off
+
+-- a file call is of the part of its transaction
+file_part : (c : Call) (t : TransId) → file_trans c ≡ Some t → part_trans c ≡ Some t
+file_part (call.Join u) t e = cc
+file_part (call.Finish u commit) t e = cc
+file_part c t e = e
+
+-- and so is each call
+pub part_named : (w : WaitingCall) → IsNamed w → part_trans w.call ≡ Some w.trans
+part_named w h = go w.counts h
+  where
+    go : (x : Option LockCounts) → IsCallBy w.call w.trans x → part_trans w.call ≡ Some w.trans
+    go None k = k.1
+    go (Some n) k = file_part w.call w.trans k
+
+-- a file call has counts
+pub file_named : (t : TransId) (w : WaitingCall) → IsNamed w → is_of t (file_trans w.call) ≡ node.is_file_on t w
+file_named t w h = go w.counts h
+  where
+    go : (x : Option LockCounts) → IsCallBy w.call w.trans x → is_of t (file_trans w.call) ≡ (is_some x && same_trans w.trans t)
+    go None k = ap (is_of t) k.0
+    go (Some n) k = ap (is_of t) k
+
+pub counted_named : (w : WaitingCall) (n : LockCounts) → w.counts ≡ Some n → IsNamed w → file_trans w.call ≡ Some w.trans
+counted_named w n counted h = subst (IsCallBy w.call w.trans) counted h
+
+pub part_alike : (client : ℕ) (t : TransId) (w : WaitingCall) → IsNamed w → is_of_part client t (waiting w) ≡ node.is_of client t w
+part_alike client t w h = ap (λ (x : Option TransId). w.client == client && is_of t x) (part_named w h)
 
 -- ---- one part goes on
 
@@ -67,13 +102,14 @@ module _ (h then : Holder) (parts others : Holders) (t : TransId) (cells : then.
       (each-more (λ (w : Waiting). is_of t (file_trans w.call) ≡ false) (TurnsAlike h then parts others) turns_so ws away)
 
   -- and so does what they count
-  pub asked_beside : (locked now : Locked) → ((u : TransId) → same_trans u t ≡ false → now u ≡ locked u) → (ws : List WaitingCall) → AllByRecursion (λ (w : WaitingCall). same_trans w.trans t ≡ false) ws
+  pub asked_beside : (locked now : Locked) → ((u : TransId) → same_trans u t ≡ false → now u ≡ locked u) → (ws : List WaitingCall) → AllByRecursion (λ (w : WaitingCall). node.is_file_on t w ≡ false) ws
       → AllByRecursion (IsWaitingAs h locked) ws → AllByRecursion (IsWaitingAs then now) ws
-  asked_beside locked now rs ws = each-both (λ (w : WaitingCall). same_trans w.trans t ≡ false) (IsWaitingAs h locked) (IsWaitingAs then now) one ws
+  asked_beside locked now rs ws = each-both (λ (w : WaitingCall). node.is_file_on t w ≡ false) (IsWaitingAs h locked) (IsWaitingAs then now) one ws
     where
-      one : (w : WaitingCall) → same_trans w.trans t ≡ false → IsWaitingAs h locked w → IsWaitingAs then now w
-      one w away o l is =
-          let x : IsAskedAs h locked w l = o l (sym (lives w.trans away) ∙ is) in
+      one : (w : WaitingCall) → node.is_file_on t w ≡ false → IsWaitingAs h locked w → IsWaitingAs then now w
+      one w off o n l counted is =
+          let away : same_trans w.trans t ≡ false = file_away w n t counted off in
+          let x : IsAskedAs h locked w n l = o n l counted (sym (lives w.trans away) ∙ is) in
           record {
             asked = x.asked ∙ ap (λ (ns : List Need). length (with_resources ns (locked w.trans))) (sym (asked_same w.call l)) ∙ ap (λ (qs : List Resource). length (with_resources (request_in then w.call (Some l)) qs)) (sym (rs w.trans away));
             made = x.made;
@@ -84,35 +120,42 @@ module _ (h then : Holder) (parts others : Holders) (t : TransId) (cells : then.
 
 -- its calls are those of their transactions
 abbrev pub AreNamed : List WaitingCall → Type 0
-AreNamed ws = AllByRecursion (λ (w : WaitingCall). file_trans w.call ≡ Some w.trans) ws
+AreNamed ws = AllByRecursion IsNamed ws
 
--- none is of this transaction
+-- each is a file call
+abbrev pub AreFileCalls : List WaitingCall → Type 0
+AreFileCalls ws = AllByRecursion (λ (w : WaitingCall). is_some w.counts ≡ true) ws
+
+-- none is a file call of this transaction
 abbrev pub AreOthers : TransId → List WaitingCall → Type 0
-AreOthers t ws = AllByRecursion (λ (w : WaitingCall). same_trans w.trans t ≡ false) ws
+AreOthers t ws = AllByRecursion (λ (w : WaitingCall). node.is_file_on t w ≡ false) ws
+
+-- and none is of the client's part
+pub record HasNoCall (client : ℕ) (t : TransId) (ws : List WaitingCall) : Type 0 where
+  pub others : AreOthers t ws
+  pub idle : has_waiting client t ws ≡ false
 
 pub others_told : (t : TransId) (ws : List WaitingCall) → AreNamed ws → AreOthers t ws → AllByRecursion (λ (w : Waiting). is_of t (file_trans w.call) ≡ false) (waiting_calls ws)
 others_told t [] named away = tt
-others_told t (w ∷ ws) named away = (ap (is_of t) named.0 ∙ away.0, others_told t ws named.1 away.1)
-
--- a file call is of the part of its transaction
-pub part_named : (c : Call) (t : TransId) → file_trans c ≡ Some t → part_trans c ≡ Some t
-part_named (call.Join u) t e = cc
-part_named (call.Finish u commit) t e = cc
-part_named c t e = e
+others_told t (w ∷ ws) named away = (file_named t w named.0 ∙ away.0, others_told t ws named.1 away.1)
 
 -- who has no call that waits has none in the journal
-pub none_told : (client : ℕ) (t : TransId) (ws : List WaitingCall) → AreNamed ws → AreOthers t ws → find (is_of_part client t) (waiting_calls ws) ≡ None
-none_told client t [] named away = refl
-none_told client t (w ∷ ws) named away =
-    ap (λ (b : Bool). cond {A = Option Waiting} b (Some (waiting w)) (find (is_of_part client t) (waiting_calls ws))) (no (w.client == client) (ap (is_of t) (part_named w.call w.trans named.0) ∙ away.0))
-    ∙ none_told client t ws named.1 away.1
+pub none_told : (client : ℕ) (t : TransId) (ws : List WaitingCall) → AreNamed ws → has_waiting client t ws ≡ false → find (is_of_part client t) (waiting_calls ws) ≡ None
+none_told client t [] named idle = refl
+none_told client t (w ∷ ws) named idle =
+    ap (λ (b : Bool). cond {A = Option Waiting} b (Some (waiting w)) (find (is_of_part client t) (waiting_calls ws))) (part_alike client t w named.0 ∙ left (node.is_of client t w) (has_waiting client t ws) idle)
+    ∙ none_told client t ws named.1 (right (node.is_of client t w) (has_waiting client t ws) idle)
   where
-    no : (b : Bool) {c : Bool} → c ≡ false → (b && c) ≡ false
-    no true e = e
-    no false e = refl
+    left : (b c : Bool) → (b || c) ≡ false → b ≡ false
+    left false c e = refl
+    left true c e = let wrong : true ≡ false = e in cc
 
-pub idle_told : (a : Account) (client : ℕ) (t : TransId) (ws : List WaitingCall) → a.waits ≡ waiting_calls ws → AreNamed ws → AreOthers t ws → waiting_of (state_of a).desk client t ≡ None
-idle_told a client t ws is named away = ap (find (is_of_part client t)) is ∙ none_told client t ws named away
+    right : (b c : Bool) → (b || c) ≡ false → c ≡ false
+    right false c e = e
+    right true c e = let wrong : true ≡ false = e in cc
+
+pub idle_told : (a : Account) (client : ℕ) (t : TransId) (ws : List WaitingCall) → a.waits ≡ waiting_calls ws → AreNamed ws → has_waiting client t ws ≡ false → waiting_of (state_of a).desk client t ≡ None
+idle_told a client t ws is named idle = ap (find (is_of_part client t)) is ∙ none_told client t ws named idle
 
 -- who has one has it there
 pub record IsBusy (a : Account) (client : ℕ) (t : TransId) : Type 0 where
@@ -124,7 +167,7 @@ busy_told a client t ws is named has = let found = some_told ws named has in rec
   where
     some_told : (vs : List WaitingCall) → AreNamed vs → has_waiting client t vs ≡ true → (v : Waiting) × (find (is_of_part client t) (waiting_calls vs) ≡ Some v)
     some_told [] named e = cc
-    some_told (w ∷ vs) named e = go (node.is_of client t w) (ap (λ (x : Option TransId). w.client == client && is_of t x) (part_named w.call w.trans named.0)) e (some_told vs named.1)
+    some_told (w ∷ vs) named e = go (node.is_of client t w) (part_alike client t w named.0) e (some_told vs named.1)
       where
         go : (b : Bool) → is_of_part client t (waiting w) ≡ b → (b || has_waiting client t vs) ≡ true → (has_waiting client t vs ≡ true → (v : Waiting) × (find (is_of_part client t) (waiting_calls vs) ≡ Some v))
             → (v : Waiting) × (cond {A = Option Waiting} (is_of_part client t (waiting w)) (Some (waiting w)) (find (is_of_part client t) (waiting_calls vs)) ≡ Some v)

@@ -1,5 +1,5 @@
 -- calls that are kept waiting: for their locks, or because another call of their part waits
-use Rattle.std.specs.Prelude.{Bool, true, false, ◌&&◌, is_some, is_none, Option, None, Some}
+use Rattle.std.specs.Prelude.{Bool, true, false, ◌&&◌, ◌||◌, is_some, is_none, Option, None, Some}
 use Rattle.std.specs.List.{AllByRecursion}
 use Rattle.std.specs.Option.{option_or}
 use Rattle.std.specs.FinMap as map
@@ -27,7 +27,6 @@ use Rattle.alp_trans.specs.Parts.{own_of}
 use Rattle.alp_calls.specs.Parts.{seen}
 use Rattle.alp_vault.specs.Contents.{Contents}
 use Rattle.alp_journal.specs.declared.event.Event.TheVariants as event
-use Rattle.alp_journal.specs.Ids.{same_trans}
 use Rattle.alp_journal.specs.Coordinator.{Running}
 use Rattle.alp_journal.specs.Counts.{request_in}
 use Rattle.alp_journal.specs.Desk.{Session, Waiting, file_trans, waiting_of}
@@ -45,26 +44,28 @@ use Rattle.alp_turns.proofs.MoveLemmas.{queue_with}
 use Rattle.alp_coord.specs.Coordinators.{count_of}
 use Rattle.alp_node.specs.Asks.{AreGiven, asks_of, plan_of}
 use Rattle.alp_node.specs.Calls.{IsServedCall}
-use Rattle.alp_node.specs.ServerState.{IsAs, IsReady, IsAlike, IsLife, IsAskedAs, IsWaitingAs}
+use Rattle.alp_node.specs.ServerState.{IsAs, IsReady, IsAlike, IsCaller, IsLife, IsAskedAs, IsWaitingAs}
 use Rattle.alp_node.specs.Shapes.{shape_of, counts_then, too_locked, may_wait, ReadsSome}
 use Rattle.alp_node.specs.Steps.{Stepped, IsTurn, counted_in, refused_answer}
-use Rattle.alp_node.specs.Waits.{waiting, waiting_calls, IsWithinLimits, IsWaitingCall, IsOfCalls}
+use Rattle.alp_node.specs.Waits.{waiting, waiting_calls, is_of, has_waiting, IsWithinLimits, IsFileCall, IsWaitingCall, IsOfOther, IsOfCalls}
 use Rattle.alp_node.specs.declared.answer.Answer.{Answer as Handed}
 use Rattle.alp_node.specs.declared.lives.Live.{Live}
 use Rattle.alp_node.specs.declared.lock_counts.LockCounts.{LockCounts}
 use Rattle.alp_node.specs.declared.server_state.ServerState.{ServerState}
 use Rattle.alp_node.specs.declared.sessions.Turn.{Turn}
 use Rattle.alp_node.specs.declared.waits.WaitingCall.{WaitingCall}
-use Rattle.alp_node.proofs.BesideLemmas.{AreOthers, idle_told}
+use Rattle.alp_node.proofs.BesideLemmas.{AreOthers, HasNoCall, idle_told}
+use Rattle.alp_journal.proofs.WaitLemmas.{turned}
 use Rattle.alp_node.proofs.ConflictLemmas.{held_elsewhere}
+use Rattle.alp_node.proofs.DeadLemmas.{turned_eq}
 use Rattle.alp_node.proofs.FinishLemmas.{turn_session, counts_as}
 use Rattle.alp_node.proofs.GrantLemmas.{asked_below}
 use Rattle.alp_node.proofs.KeptLemmas.{session_of, IsLive, live_there, same_live, stepped_so}
 use Rattle.alp_node.proofs.LiveSums.{live_here}
 use Rattle.alp_node.proofs.TransactionLemmas.{owned_placed}
 use Rattle.alp_node.proofs.LockCallLemmas.{lock_request, lock_choice, not_refused, asked_locks, shut_none, chosen, none_asked_free}
-use Rattle.alp_node.proofs.OneServer.{live_runs, life_works}
-use Rattle.alp_node.proofs.ReadyLemmas.{counted_ready, numbered, turned}
+use Rattle.alp_node.proofs.OneServer.{live_runs, life_works, lone_caller}
+use Rattle.alp_node.proofs.ReadyLemmas.{counted_ready, numbered}
 use Rattle.alp_node.proofs.ShapeLemmas.{IsShut, shape_cases, may_lock}
 use Rattle.alp_node.proofs.WaitLemmas.{named_all, asks_none, idle_in, pushed_each, pushed_apart, pushed_asks, asks_last}
 use Rattle.alp_node.proofs.WithinLemmas.{MayLock}
@@ -118,7 +119,7 @@ module _ {V : Type 0} (k : ServerState V) (turn : Turn) (t : TransId) (l : Live)
   counts = counts_then l.locks (holding k.locks.held t) ns c
 
   abbrev pub new_call : WaitingCall
-  new_call = record { client = turn.client; number = turn.number; trans = t; call = c; counts = counts; is_granted = false }
+  new_call = record { client = turn.client; number = turn.number; trans = t; call = c; counts = Some counts; is_granted = false }
 
   -- the table with the request, and the server with the call
   abbrev pub blocked_locks : Table
@@ -131,10 +132,29 @@ module _ {V : Type 0} (k : ServerState V) (turn : Turn) (t : TransId) (l : Live)
   pub blocked_is : is_some (map.get k.locks.held t) ≡ true → with_waiter k.locks plan ≡ blocked_locks
   blocked_is known = ap (λ (x : Table). record x { waiting = placed k.locks.waiting plan }) (entered-known k.locks t known)
 
-  others_turned : (ws : List WaitingCall) → AreOthers t ws → AllByRecursion (λ (v : WaitingCall). same_trans t v.trans ≡ false) ws
-  others_turned ws away = each-more (λ (v : WaitingCall). same_trans v.trans t ≡ false) (λ (v : WaitingCall). same_trans t v.trans ≡ false) (λ v e. turned v.trans t e) ws away
+  same_counts : (y z : LockCounts) → Some y ≡ Some z → y ≡ z
+  same_counts y z e = cc
 
-  module _ (n : ℕ) (serves : Bool) (is : IsTurn k.sessions turn) (there : map.get k.lives t ≡ Some l) (own : l.client ≡ turn.client) (away : AreOthers t k.waits) (named : file_trans c ≡ Some t) (formed : IsFormed c) (some : ReadsSome c)
+  -- the call is apart from all that wait
+  others_apart : (ws : List WaitingCall) → AreOthers t ws → has_waiting turn.client t ws ≡ false → AllByRecursion (λ (v : WaitingCall). IsOfOther v new_call) ws
+  others_apart [] away idle = tt
+  others_apart (v ∷ vs) away idle = (
+    record {
+      files = ap (λ (b : Bool). is_some v.counts && b) (turned t v.trans) ∙ away.0;
+      parts = (λ i. turned_eq turn.client v.client i && turned t v.trans i) ∙ left (is_of turn.client t v) (has_waiting turn.client t vs) idle;
+    },
+    others_apart vs away.1 (right (is_of turn.client t v) (has_waiting turn.client t vs) idle),
+  )
+    where
+      left : (b d : Bool) → (b || d) ≡ false → b ≡ false
+      left false d e = refl
+      left true d e = let wrong : true ≡ false = e in cc
+
+      right : (b d : Bool) → (b || d) ≡ false → d ≡ false
+      right false d e = e
+      right true d e = let wrong : true ≡ false = e in cc
+
+  module _ (n : ℕ) (serves : Bool) (is : IsTurn k.sessions turn) (there : map.get k.lives t ≡ Some l) (own : l.client ≡ turn.client) (away : HasNoCall turn.client t k.waits) (named : file_trans c ≡ Some t) (formed : IsFormed c) (some : ReadsSome c)
       (shape : shape_of k.server k.epoch k.given (length l.part.opens.items) c ≡ None) (few : too_locked k.sizes.area l.part.counts.cells counts.made ≡ None) (files : AreGiven k.server k.epoch k.given ns) where
     abbrev waiting_kept : ServerState V
     waiting_kept = record k { waits = k.waits ++ new_call ∷ []; locks = blocked_locks }
@@ -142,7 +162,7 @@ module _ {V : Type 0} (k : ServerState V) (turn : Turn) (t : TransId) (l : Live)
     blocked_sound : IsReady n serves k → IsSound blocked_locks
     blocked_sound h =
         subst IsSound (blocked_is (h.known t l there))
-        (refuse-sound k.locks plan choice.Wait refl h.sound (idle_in k.server k.epoch k.given k.lives k.waits t k.locks.waiting (asks_none t k.waits away) h.waits.queued))
+        (refuse-sound k.locks plan choice.Wait refl h.sound (idle_in k.server k.epoch k.given k.lives k.waits t k.locks.waiting (asks_none t k.waits away.others) h.waits.queued))
 
     may : MayLock k.sizes l counts
     may = may_lock k.sizes l (holding k.locks.held t) ns c few
@@ -150,10 +170,12 @@ module _ {V : Type 0} (k : ServerState V) (turn : Turn) (t : TransId) (l : Live)
     new_waiting : IsReady n serves k → IsWaitingCall k.server k.epoch k.given (count_of k.coordinator) k.sizes k.lives new_call
     new_waiting h = record {
       named = named;
-      formed = formed;
-      some = some;
-      begun = (owned_placed k.coordinator t (map.get k.lives t) l (h.own t) there).within;
-      limits = λ x at. subst (IsWithinLimits k.server k.epoch k.given k.sizes new_call) (same_live l x (sym there ∙ at)) (record { its = sym own; shape = shape; fewer = may.asked; locks = may.few; log = may.log });
+      file = λ z counted. subst (IsFileCall k.server k.epoch k.given (count_of k.coordinator) k.sizes k.lives new_call) (same_counts counts z counted) (record {
+        formed = formed;
+        some = some;
+        begun = (owned_placed k.coordinator t (map.get k.lives t) l (h.own t) there).within;
+        limits = λ x at. subst (IsWithinLimits k.server k.epoch k.given k.sizes new_call counts) (same_live l x (sym there ∙ at)) (record { its = sym own; shape = shape; fewer = may.asked; locks = may.few; log = may.log });
+      });
     }
 
     none_beyond : IsReady n serves k → (m : ℕ) → k.given < m → map.get plan.after (numbered k m) ≡ None
@@ -168,15 +190,19 @@ module _ {V : Type 0} (k : ServerState V) (turn : Turn) (t : TransId) (l : Live)
       taken = h.taken;
       waits = record {
         calls = pushed_each (IsWaitingCall k.server k.epoch k.given (count_of k.coordinator) k.sizes k.lives) k.waits new_call h.waits.calls (new_waiting h);
-        apart = pushed_apart k.waits new_call h.waits.apart (others_turned k.waits away);
+        files = pushed_each (λ (v : WaitingCall). is_some v.counts ≡ true) k.waits new_call h.waits.files refl;
+        apart = pushed_apart k.waits new_call h.waits.apart (others_apart k.waits away.others away.idle);
         queued = each-placed (IsOfCalls k.server k.epoch k.given k.lives (k.waits ++ new_call ∷ [])) k.locks.waiting plan
             (each-more (IsOfCalls k.server k.epoch k.given k.lives k.waits) (IsOfCalls k.server k.epoch k.given k.lives (k.waits ++ new_call ∷ [])) (λ x o. record { live = o.live; asks = pushed_asks k.waits new_call x.trans o.asks; beyond = o.beyond }) k.locks.waiting h.waits.queued)
-            (record { live = ap is_some there; asks = asks_last k.waits new_call refl; beyond = none_beyond h });
+            (record { live = ap is_some there; asks = asks_last k.waits new_call refl refl; beyond = none_beyond h });
       };
       known = h.known;
       own = h.own;
       opens = h.opens;
       opened = h.opened;
+      callers = h.callers;
+      alive = h.alive;
+      causes = h.causes;
       places = h.places;
       calls = h.calls;
       replies = h.replies;
@@ -199,7 +225,7 @@ module _ {V : Type 0} (k : ServerState V) (turn : Turn) (t : TransId) (l : Live)
 
   -- ---- as the journal tells it
 
-  module _ (a : Account) (before now : ℕ) (held : Contents) (m : ℕ) (on : Bool) (ready : IsReady m on k) (h : IsAs a held k) (is : IsTurn k.sessions turn) (up : k.is_down ≡ false) (there : map.get k.lives t ≡ Some l) (own : l.client ≡ turn.client) (away : AreOthers t k.waits)
+  module _ (a : Account) (before now : ℕ) (held : Contents) (m : ℕ) (on : Bool) (ready : IsReady m on k) (h : IsAs a held k) (is : IsTurn k.sessions turn) (up : k.is_down ≡ false) (there : map.get k.lives t ≡ Some l) (own : l.client ≡ turn.client) (away : HasNoCall turn.client t k.waits)
       (served : IsServedCall c) (named : file_trans c ≡ Some t) (told : ns ≡ asks_of (holding k.locks.held t) (seen held.cells l.part) (own_of l.part) c)
       (shape : shape_of k.server k.epoch k.given (length l.part.opens.items) c ≡ None) (few : too_locked k.sizes.area l.part.counts.cells counts.made ≡ None) (chooses : may_wait c ≡ true) (holder : TransId) (blocked : blocker k.locks.held t plan.rises ≡ Some holder) where
     abbrev w : Session
@@ -214,25 +240,28 @@ module _ {V : Type 0} (k : ServerState V) (turn : Turn) (t : TransId) (l : Live)
     alike : IsLife a.holder.cells k.locks.held (a.locked t) t l life
     alike = there_live.alike
 
+    abbrev caller : IsCaller l life
+    caller = lone_caller a held k h a.holder.cells k.locks.held (a.locked t) t l life there_live.is alike
+
     asked_is : request_in a.holder c (Some life) ≡ ns
-    asked_is = lock_request a held k t l c ns life h up alike served told
+    asked_is = lock_request a held k t l c ns life h up alike caller served told
 
     no_need : ns ≡ [] → ⊥
     no_need none = none_asked_free k.locks.held t holder (subst (λ (ms : List Need). blocker k.locks.held t (plan_of k.locks t ms).rises ≡ Some holder) none blocked)
 
     waits_for : choice_of c ≡ Some choice.Wait
-    waits_for = go (lock_choice a held k t l c ns life h up alike served told)
+    waits_for = go (lock_choice a held k t l c ns life h up alike caller served told)
       where
         go : ((x : Choice) × (choice_of c ≡ Some x)) ⊎ (ns ≡ []) → choice_of c ≡ Some choice.Wait
         go (inl some) = chosen c true some.0 some.1 chooses
         go (inr none) = absurd (no_need none)
 
     passed : option_or (shape_refusal (state_of a) life c) (lock_refusal (state_of a) t life c) ≡ None
-    passed = not_refused a held k t l c ns life h up alike served told (go (shape_cases a held k h ready.raised t l life alike c served shape)) few
+    passed = not_refused a held k t l c ns life h up alike caller served told (go (shape_cases a held k h ready.raised t l life caller c served shape)) few
       where
-        go : (shape_refusal (state_of a) life c ≡ None) ⊎ IsShut a held k h ready.raised t l life alike c → shape_refusal (state_of a) life c ≡ None
+        go : (shape_refusal (state_of a) life c ≡ None) ⊎ IsShut a held k h ready.raised t l life caller c → shape_refusal (state_of a) life c ≡ None
         go (inl passes) = passes
-        go (inr shut) = absurd (no_need (shut_none a held k t l c ns life h up alike served told ready.raised shut))
+        go (inr shut) = absurd (no_need (shut_none a held k t l c ns life h up alike caller served told ready.raised shut))
 
     taken : IsFree a.holder t life c → ⊥
     taken free =
@@ -257,7 +286,7 @@ module _ {V : Type 0} (k : ServerState V) (turn : Turn) (t : TransId) (l : Live)
     leads : Leads false a (call_entry a turn.client turn.number w c (reply.Refused refusal.NotYet) []) (with_wait a turn.client turn.number w t life c)
     leads = waits_leads a turn.client turn.number w t life c h.quiet (h.down ∙ up) (turn_session a held k turn h is) is.number
         (life_works a h.lone h.quiet.settled.stands t life turn.client there_live.is (alike.client ∙ own)) there_live.is (alike.client ∙ own) named
-        (idle_told a turn.client t k.waits h.waits (named_all k.server k.epoch k.given (count_of k.coordinator) k.sizes k.lives k.waits ready.waits.calls) away) passed waits_for taken
+        (idle_told a turn.client t k.waits h.waits (named_all k.server k.epoch k.given (count_of k.coordinator) k.sizes k.lives k.waits ready.waits.calls) away.idle) passed waits_for taken
 
     waits_as : IsAs (with_wait a turn.client turn.number w t life c) held blocked_kept
     waits_as = record {
@@ -285,7 +314,7 @@ module _ {V : Type 0} (k : ServerState V) (turn : Turn) (t : TransId) (l : Live)
       queue = ap (λ (qs : List Waiter). placed qs plan) h.queue ∙ ap (λ (ms : List Need). placed (queue_of a.holder k.locks.held a.waits) (plan_of k.locks t ms)) (sym asked_is)
           ∙ sym (queue_with a.holder k.locks.held (held_alike a held k h) a.waits wait_here t life waiting_for requested);
       asked = pushed_each (IsWaitingAs a.holder a.locked) k.waits new_call h.asked
-          (λ x at. subst (IsAskedAs a.holder a.locked new_call) (same_life life x (sym there_live.is ∙ at)) (record { asked = sym (asked_locks a held k t l c ns life h up alike served told); made = refl; covered = λ e. cc }));
+          (λ z x counted at. subst (λ (y : LockCounts). IsAskedAs a.holder a.locked new_call y x) (same_counts counts z counted) (subst (IsAskedAs a.holder a.locked new_call counts) (same_life life x (sym there_live.is ∙ at)) (record { asked = sym (asked_locks a held k t l c ns life h up alike caller served told); made = refl; covered = λ e. cc })));
       quiet = leads.quiet;
       down = as_then.down;
     }

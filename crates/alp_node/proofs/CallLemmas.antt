@@ -45,14 +45,14 @@ use Rattle.alp_trans.specs.declared.part.Part.{Part}
 use Rattle.alp_calls.specs.Looks.{Looks, fault_in}
 use Rattle.alp_vault.specs.declared.vault.Vault.{Ghosts}
 use Rattle.alp_journal.specs.declared.act.Act.{Act}
-use Rattle.alp_node.specs.Calls.{given_of, IsAnswerTo, Outcome, Performed, next_file}
+use Rattle.alp_node.specs.Calls.{name_in, given_of, IsAnswerTo, Outcome, Performed, next_file}
 use Rattle.alp_node.specs.declared.answer.Given.{Given}
 use Rattle.alp_node.specs.Covers.{AreHeld, AreSizedEdits}
 use Rattle.alp_node.specs.Rooms.{IsRoomOf, locks_given}
 use Rattle.alp_node.specs.Totals.{LiveMap, totals_of}
 use Rattle.alp_node.specs.declared.lock_counts.LockCounts.{LockCounts}
 use Rattle.alp_node.proofs.TotalLemmas.{AreRoomed, same_room, swapped_room}
-use Rattle.alp_node.specs.ServerState.{IsLife, IsAlike, IsAs, IsToCome, SeesNoneToCome, PutNoneBeyond, AreMade, ids_to}
+use Rattle.alp_node.specs.ServerState.{IsCaller, IsLife, IsAlike, IsAs, IsToCome, SeesNoneToCome, PutNoneBeyond, AreMade, ids_to}
 use Rattle.alp_node.proofs.ToComeLemmas.{next_to_come, comes_later, to_come_kept}
 use Rattle.alp_node.specs.Steps.{IsTurn, counted_in}
 use Rattle.alp_node.specs.declared.sessions.Turn.{Turn}
@@ -62,9 +62,9 @@ use Rattle.alp_node.proofs.BesideLemmas.{AreNamed, AreOthers, others_told, queue
 use Rattle.alp_node.proofs.MapLemmas.{put_twice, get_put, places_set}
 use Rattle.alp_node.proofs.KeptLemmas.{IsLive, session_of, session_then, live_there, same_live, alike_set, each_set, sessions_as}
 
-outcome_of : (tells : Bool) (cells : Cells) (id : FileId) (l : Live) (p : Part) (c : Call) (room : Room) (acts : List Act) (given : Result Reply CallFault) (r : Result Given CallFault) → IfOk given (Answered tells cells l.part p l.who id c room) → OnErr given (IsAsBefore l.part p)
+outcome_of : (tells : Bool) (cells : Cells) (id : FileId) (l : Live) (p : Part) (c : Call) (room : Room) (acts : List Act) (given : Result Reply CallFault) (r : Result Given CallFault) → IfOk given (Answered tells cells l.part p (name_in l.who) id c room) → OnErr given (IsAsBefore l.part p)
     → IsAnswerTo given acts r → Outcome tells cells id l p c room acts r
-outcome_of tells cells id l p c room acts (Ok g) (Ok x) done err to = record { is = to ∙ ap (λ (y : Given). given_of y.reply acts) (sym to); given = subst (λ (y : Given). Answered tells cells l.part p l.who id c room y.reply) (sym to) done }
+outcome_of tells cells id l p c room acts (Ok g) (Ok x) done err to = record { is = to ∙ ap (λ (y : Given). given_of y.reply acts) (sym to); given = subst (λ (y : Given). Answered tells cells l.part p (name_in l.who) id c room y.reply) (sym to) done }
 outcome_of tells cells id l p c room acts (Ok g) (Err e) done err to = done.reads to.1
 outcome_of tells cells id l p c room acts (Err f) (Ok x) done err to = let wrong : Ok x ≡ Err f = to in cc
 outcome_of tells cells id l p c room acts (Err f) (Err e) done err to = err
@@ -79,7 +79,7 @@ looked_answer G old new acts (Err f) r to look = subst (λ (y : Result Given Cal
 pub performed_so : {V : Type 0} (tells : Bool) (cells : Cells) (old : ServerState V) (v : V) (t : TransId) (l found blank : Live) (p : Part) (c : Call) (n : LockCounts) (room : Room) (locks : ℕ) (acts : List Act) (given : Result Reply CallFault) (r : Result Given CallFault) (taken lives : LiveMap) (id : FileId)
     → id ≡ next_file old → IsRoomOf tells cells old n.made room → IsPart p → locks ≡ locks_given found.locks n r
     → map.get old.lives t ≡ Some l → map.get old.lives t ≡ Some found → taken ≡ map.insert old.lives t blank → lives ≡ map.insert taken t (record found { part = p; locks = locks })
-    → IfOk given (Answered tells cells found.part p found.who id c room) → OnErr given (IsAsBefore found.part p) → IsAnswerTo given acts r → Performed tells cells old (record old { lives = lives; vault = v }) t l c n acts r
+    → IfOk given (Answered tells cells found.part p (name_in found.who) id c room) → OnErr given (IsAsBefore found.part p) → IsAnswerTo given acts r → Performed tells cells old (record old { lives = lives; vault = v }) t l c n acts r
 performed_so tells cells old v t l found blank p c n room locks acts given r taken lives id next of part counted there was out back done err to =
     let same : found ≡ l = same_live found l (sym was ∙ there) in
     let put : lives ≡ map.insert old.lives t (record found { part = p; locks = locks_given found.locks n r }) =
@@ -103,14 +103,14 @@ module _ {V : Type 0} (a : Account) (held : Contents) (k : ServerState V) where
       ap (λ (i : Intents). through i (map.get held.cells)) is.intents ∙ through_of life.edits (map.get held.cells) ∙ ap (λ (c : Cells). after life.edits (map.get c)) (h.cells up) ∙ sym (get-edits_map life.edits a.holder.cells)
 
   -- a part gave what the journal says that a thread is answered
-  pub right_as : (t : TransId) (l : Live) (p : Part) (c : Call) (r : Reply) (life : Life) (rs : List Resource) (later : Counts) (refused : Option Refusal) → IsAs a held k → k.is_down ≡ false → IsLife a.holder.cells k.locks.held rs t l life
-      → IsRight held.cells l.part p later refused r (answer k.server [] (seen held.cells l.part) l.who (own_of l.part) c r) → IsRight a.holder.cells l.part p later refused r (answer_in a.holder life (record { call = c; reply = r }))
-  right_as t l p c r life rs later refused h up is first =
-      let same : answer k.server [] (seen held.cells l.part) l.who (own_of l.part) c r ≡ answer a.holder.server [] (view_in a.holder life) life.who life.own c r =
-      ap (λ (m : ℕ). answer m [] (seen held.cells l.part) l.who (own_of l.part) c r) (sym h.server)
-      ∙ ap (λ (x : View). answer a.holder.server [] x l.who (own_of l.part) c r) (sees t rs l life h up is)
-      ∙ ap (λ (x : List ℕ). answer a.holder.server [] (view_in a.holder life) x (own_of l.part) c r) (sym is.who)
-      ∙ ap (λ (x : Own). answer a.holder.server [] (view_in a.holder life) life.who x c r) is.own in
+  pub right_as : (t : TransId) (l : Live) (p : Part) (c : Call) (r : Reply) (life : Life) (rs : List Resource) (later : Counts) (refused : Option Refusal) → IsAs a held k → k.is_down ≡ false → IsLife a.holder.cells k.locks.held rs t l life → IsCaller l life
+      → IsRight held.cells l.part p later refused r (answer k.server [] (seen held.cells l.part) (name_in l.who) (own_of l.part) c r) → IsRight a.holder.cells l.part p later refused r (answer_in a.holder life (record { call = c; reply = r }))
+  right_as t l p c r life rs later refused h up is caller first =
+      let same : answer k.server [] (seen held.cells l.part) (name_in l.who) (own_of l.part) c r ≡ answer a.holder.server [] (view_in a.holder life) life.who life.own c r =
+      ap (λ (m : ℕ). answer m [] (seen held.cells l.part) (name_in l.who) (own_of l.part) c r) (sym h.server)
+      ∙ ap (λ (x : View). answer a.holder.server [] x (name_in l.who) (own_of l.part) c r) (sees t rs l life h up is)
+      ∙ ap (λ (x : List ℕ). answer a.holder.server [] (view_in a.holder life) x (own_of l.part) c r) (ap name_in caller.who)
+      ∙ ap (λ (x : Own). answer a.holder.server [] (view_in a.holder life) life.who x c r) caller.own in
       subst (λ (m : Cells). IsRight m l.part p later refused r (answer_in a.holder life (record { call = c; reply = r }))) (h.cells up) (subst (λ (x : Answer). IsRight held.cells l.part p later refused r x) same first)
 
   -- the next file is new to each
@@ -163,11 +163,10 @@ module _ {V : Type 0} (a : Account) (held : Contents) (k : ServerState V) where
           let x : IsLive a.holder.cells k.locks.held (a.locked u) u l (a.holder.lives u) = live_there a.holder.cells k.locks.held (a.locked u) u (map.get k.lives u) (a.holder.lives u) l (sym (ap (map.get k.lives) one) ∙ there) (h.lives u) in
           subst (λ (y : Option Life). IsAlike a.holder.cells k.locks.held (a.locked u) u (Some (record l { part = p; locks = n })) y) (sym x.is) (record {
             client = x.alike.client;
-            who = x.alike.who;
+            join = x.alike.join;
             intents = before.0 ∙ x.alike.intents;
-            own = before.1 ∙ x.alike.own;
             held = x.alike.held;
-            opens = x.alike.opens;
+            calls = λ unvoted. (let o : IsCaller l x.life = x.alike.calls unvoted in record { who = o.who; own = before.1 ∙ o.own; opens = o.opens });
             counts = subst (AreCountsOf a.holder.cells x.life.edits) (sym before.2) x.alike.counts;
             within = x.alike.within;
             intended = x.alike.intended;
@@ -300,11 +299,10 @@ module _ {V : Type 0} (a : Account) (held : Contents) (k : ServerState V) (turn 
           lives = λ u. subst (λ (x : Option Live). IsAlike a.holder.cells locks.held (lock_set a.locked t now u) u x (cond {A = Option Life} (same_trans u t) (Some new) (a.holder.lives u))) (sym (get_put k.lives t (record l { part = p; locks = n }) u))
               (alike_set a.holder.cells k.locks.held locks.held a.locked t (Some (record l { part = p; locks = n })) (Some new) now (map.get k.lives) a.holder.lives h.lives others (record {
                 client = mine.client;
-                who = mine.who;
+                join = mine.join;
                 intents = done.view ∙ ap (λ (i : Intents). intents_from i gave.edits) mine.intents ∙ sym (intents_from-append no_intents life.edits gave.edits);
-                own = done.own;
                 held = holds;
-                opens = kept.opens;
+                calls = λ unvoted. record { who = (mine.calls unvoted).who; own = done.own; opens = kept.opens };
                 counts = counts;
                 within = kept.within;
                 intended = kept.intended;

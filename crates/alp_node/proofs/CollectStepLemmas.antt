@@ -24,18 +24,18 @@ use Rattle.alp_trans.specs.declared.part.Part.{Part}
 use Rattle.alp_journal.specs.declared.act.Act.TheVariants as act
 use Rattle.alp_journal.specs.declared.event.Event.{Event}
 use Rattle.alp_journal.specs.declared.event.Event.TheVariants as event
-use Rattle.alp_journal.specs.Ids.{same_trans}
 use Rattle.alp_coord.specs.Coordinators.{count_of}
 use Rattle.alp_node.specs.Asks.{plan_of, with_plan}
-use Rattle.alp_node.specs.Calls.{given_of, next_file}
+use Rattle.alp_node.specs.Calls.{name_in, given_of, next_file}
 use Rattle.alp_node.specs.Rooms.{IsRoomOf, locks_given}
 use Rattle.alp_node.specs.ServerState.{IsReady}
 use Rattle.alp_node.specs.Steps.{IsStep, IsTurn, counted_in, told_answer, refused_answer}
 use Rattle.alp_node.specs.Totals.{LiveMap}
 use Rattle.alp_node.specs.Turns.{IsKeepable, TellsRun, asked_waiting, HasTurned}
-use Rattle.alp_node.specs.Waits.{call_at, without_calls_of, IsWaitingCall, IsWithinLimits}
+use Rattle.alp_node.specs.Waits.{is_file_on, call_at, without_calls_of, IsFileCall, IsWaitingCall, IsWithinLimits}
 use Rattle.alp_node.specs.declared.answer.Answer.{Answer}
 use Rattle.alp_node.specs.declared.lives.Live.{Live}
+use Rattle.alp_node.specs.declared.lock_counts.LockCounts.{LockCounts}
 use Rattle.alp_node.specs.declared.server_state.ServerState.{ServerState}
 use Rattle.alp_node.specs.declared.sessions.CallOrder.TheVariants as order
 use Rattle.alp_node.specs.declared.sessions.Turn.{Turn}
@@ -57,21 +57,24 @@ use Rattle.alp_node.proofs.WithinLemmas.{MayLock, within_then}
 
 -- ---- it is answered
 
-module _ {V : Type 0} (G : Ghosts V) (k : ServerState V) (turn : Turn) (n : ℕ) (w : WaitingCall) (l : Live) (p : Part) (room : Room) (r : Reply) (v : V) (found : call_at turn.client n k.waits ≡ Some w) (granted : w.is_granted ≡ true) (is : IsTurn k.sessions turn)
-    (up : k.is_down ≡ false) (there : map.get k.lives w.trans ≡ Some l) (part : IsPart p) (left : IsLeft G k.vault v) (on : IsTrue (G.serves v)) (given : Answered (G.tells k.vault) (G.held k.vault).cells l.part p l.who (next_file k) w.call room r)
-    (of : IsRoomOf (G.tells k.vault) (G.held k.vault).cells k w.counts.made room) where
+module _ {V : Type 0} (G : Ghosts V) (k : ServerState V) (turn : Turn) (n : ℕ) (w : WaitingCall) (z : LockCounts) (l : Live) (p : Part) (room : Room) (r : Reply) (v : V) (found : call_at turn.client n k.waits ≡ Some w) (counted : w.counts ≡ Some z) (granted : w.is_granted ≡ true) (is : IsTurn k.sessions turn)
+    (up : k.is_down ≡ false) (there : map.get k.lives w.trans ≡ Some l) (part : IsPart p) (left : IsLeft G k.vault v) (on : IsTrue (G.serves v)) (given : Answered (G.tells k.vault) (G.held k.vault).cells l.part p (name_in l.who) (next_file k) w.call room r)
+    (of : IsRoomOf (G.tells k.vault) (G.held k.vault).cells k z.made room) where
   abbrev after : ServerState V
-  after = collected_left k turn w l p v r
+  after = collected_left k turn w z l p v r
 
   keeps : IsKeepable k.clock r
-  keeps = answered_keeps k.clock (G.tells k.vault) (G.held k.vault).cells l.part p l.who (next_file k) w.call room r given
+  keeps = answered_keeps k.clock (G.tells k.vault) (G.held k.vault).cells l.part p (name_in l.who) (next_file k) w.call room r given
 
   module _ (m : ℕ) (h : IsReady m (G.serves k.vault) k) where
     its : IsWaitingCall k.server k.epoch k.given (count_of k.coordinator) k.sizes k.lives w
     its = call_is k turn.client n w m (G.serves k.vault) h found
 
-    limits : IsWithinLimits k.server k.epoch k.given k.sizes w l
-    limits = its.limits l there
+    file : IsFileCall k.server k.epoch k.given (count_of k.coordinator) k.sizes k.lives w z
+    file = its.file z counted
+
+    limits : IsWithinLimits k.server k.epoch k.given k.sizes w z l
+    limits = file.limits l there
 
     -- the call goes, and the session counts on
     abbrev first : ServerState V
@@ -84,7 +87,7 @@ module _ {V : Type 0} (G : Ghosts V) (k : ServerState V) (turn : Turn) (n : ℕ)
 
     -- it has the lock of a file that was made
     abbrev plan : Waiter
-    plan = plan_of k.locks w.trans (made_asks k turn w l p v r)
+    plan = plan_of k.locks w.trans (made_asks k turn w z l p v r)
 
     abbrev second : ServerState V
     second = record first { given = count_after k.given r; locks = with_plan k.locks plan }
@@ -93,13 +96,13 @@ module _ {V : Type 0} (G : Ghosts V) (k : ServerState V) (turn : Turn) (n : ℕ)
     second_ready =
         granted_ready (m + 1) (G.serves k.vault) first plan (count_after k.given r) (count_grows k.given r)
         (let was : k.given ≤ m = h.given in let one : count_after k.given r ≤ k.given + 1 = count_same k.given r in omega (arith, was, one)) refl
-        (free_given m (G.serves k.vault) k w.trans w.call [] r h (none_blocks k turn w l p v))
+        (free_given m (G.serves k.vault) k w.trans w.call [] r h (none_blocks k turn w z l p v))
         (idle_in k.server k.epoch k.given k.lives k.waits w.trans k.locks.waiting (none_asks k turn.client n w m (G.serves k.vault) h found granted) h.waits.queued)
         (λ id high. given_below k.server k.epoch k.given id w.call [] r tt high) first_ready
 
     -- and its part is another
-    like : AllByRecursion (λ (u : WaitingCall). same_trans u.trans w.trans ≡ true → IsLikePart l (record l { part = p; locks = locks_given l.locks w.counts (Ok (given_of r [])) })) (without_calls_of turn.client w.trans k.waits)
-    like = each-more (λ (u : WaitingCall). same_trans u.trans w.trans ≡ false) (λ (u : WaitingCall). same_trans u.trans w.trans ≡ true → IsLikePart l (record l { part = p; locks = locks_given l.locks w.counts (Ok (given_of r [])) }))
+    like : AllByRecursion (λ (u : WaitingCall). is_file_on w.trans u ≡ true → IsLikePart l (record l { part = p; locks = locks_given l.locks z (Ok (given_of r [])) })) (without_calls_of turn.client w.trans k.waits)
+    like = each-more (λ (u : WaitingCall). is_file_on w.trans u ≡ false) (λ (u : WaitingCall). is_file_on w.trans u ≡ true → IsLikePart l (record l { part = p; locks = locks_given l.locks z (Ok (given_of r [])) }))
         (λ u away e. let wrong : false ≡ true = sym away ∙ e in cc) (without_calls_of turn.client w.trans k.waits) (left_off k turn.client n w m (G.serves k.vault) h found)
 
     only : GivesOnly (next_file k) r
@@ -107,22 +110,22 @@ module _ {V : Type 0} (G : Ghosts V) (k : ServerState V) (turn : Turn) (n : ℕ)
 
     after_ready : IsReady (m + 1) (G.serves v) after
     after_ready =
-        let may : MayLock k.sizes (record l { locks = 0 }) w.counts = record { few = limits.locks; log = limits.log; more = omega arith; asked = limits.fewer } in
-        subst (λ (x : Table). IsReady (m + 1) (G.serves v) (record after { locks = x })) (sym (table_is k turn w l p v r))
-        (part_ready (m + 1) (G.serves k.vault) (G.serves v) second w.trans l p (locks_given l.locks w.counts (Ok (given_of r []))) v (m + 1) on up there
+        let may : MayLock k.sizes (record l { locks = 0 }) z = record { few = limits.locks; log = limits.log; more = omega arith; asked = limits.fewer } in
+        subst (λ (x : Table). IsReady (m + 1) (G.serves v) (record after { locks = x })) (sym (table_is k turn w z l p v r))
+        (part_ready (m + 1) (G.serves k.vault) (G.serves v) second w.trans l p (locks_given l.locks z (Ok (given_of r []))) v (m + 1) on up there
         (let was : l.part.last ≤ m = h.opens w.trans l there in omega (arith, given.last)) (le_refl (m + 1))
         (opens_then k.server k.epoch k.given h.raised w.call r (shape_given k.server k.epoch k.given (length l.part.opens.items) w.call limits.shape) only l.part.opens.items p.opens.items given.opens (h.opened w.trans l there))
-        (within_then (G.tells k.vault) (G.held k.vault).cells (next_file k) k.sizes (record l { locks = 0 }) p w.call w.counts room [] (Ok (given_of r [])) part may of.area of.held (record { is = refl; given = given }))
+        (within_then (G.tells k.vault) (G.held k.vault).cells (next_file k) k.sizes (record l { locks = 0 }) p w.call z room [] (Ok (given_of r [])) part may of.area of.held (record { is = refl; given = given }))
         like second_ready)
 
   pub collect_done : (x : Answer) (steps : ℕ) → IsReady steps (G.serves k.vault) k → G.faults v ≡ G.faults k.vault → x ≡ told_answer (Some r) [] → IsStep G k after (event.Call turn.client k.epoch turn.number (call.Collect n)) (Ok x)
   collect_done x steps ready faults so =
-      let now : IsWaitingCall k.server k.epoch k.given (count_of k.coordinator) k.sizes k.lives w = its steps ready in
+      let now : IsFileCall k.server k.epoch k.given (count_of k.coordinator) k.sizes k.lives w z = file steps ready in
       left_step G k after refl refl refl left (event.Call turn.client k.epoch turn.number (call.Collect n)) x up
-      (λ told a h. collect_stepped a (G.faults k.vault) (G.faults v) (G.held k.vault) k turn n w l p room r v steps (G.serves k.vault) x (G.held v) ready h up left.contents is found granted there
-      (answered_told (G.tells k.vault) (G.held k.vault).cells l p (next_file k) w.call room r told given) (room_told (G.tells k.vault) (G.held k.vault).cells k w.counts.made room told of) so)
+      (λ told a h. collect_stepped a (G.faults k.vault) (G.faults v) (G.held k.vault) k turn n w z l p room r v steps (G.serves k.vault) x (G.held v) ready h up left.contents is found counted granted there
+      (answered_told (G.tells k.vault) (G.held k.vault).cells l p (next_file k) w.call room r told given) (room_told (G.tells k.vault) (G.held k.vault).cells k z.made room told of) so)
       (reply_given k.server (G.faults k.vault) (G.faults v) (G.allowance v) k.is_down r [] x so
-      (counts_none k.server (G.faults k.vault) (G.faults v) k.is_down (Some r) (answered_quiet k.server (G.tells k.vault) (G.held k.vault).cells l.part p l.who (next_file k) w.call room r given) faults up) up tt)
+      (counts_none k.server (G.faults k.vault) (G.faults v) k.is_down (Some r) (answered_quiet k.server (G.tells k.vault) (G.held k.vault).cells l.part p (name_in l.who) (next_file k) w.call room r given) faults up) up tt)
       (λ m h. after_ready m h)
       (λ on_then. subst (λ (y : Answer). HasTurned (Some order.Next) k after (event.Call turn.client k.epoch turn.number (call.Collect n)) y.kept) (sym so)
       (counts_on k after turn is (call.Collect n) r keeps.inside (le_refl k.clock) keeps.times

@@ -42,19 +42,19 @@ use Rattle.alp_journal.proofs.RefusedCalls.{counted_as}
 use Rattle.alp_journal.proofs.CollectCalls.{uncollected, CollectOwes, with_collected, collect_refused_leads, collected_leads}
 use Rattle.alp_coord.specs.Coordinators.{count_of}
 use Rattle.alp_node.specs.Asks.{is_of_given, asks_made, asks_given, makes_file, is_made, plan_if, plan_of, with_plan, with_made as with_made_lock}
-use Rattle.alp_node.specs.Calls.{IsServedCall, given_of, next_file}
+use Rattle.alp_node.specs.Calls.{name_in, IsServedCall, given_of, next_file}
 use Rattle.alp_node.specs.Rooms.{IsRoomOf, locks_given}
 use Rattle.alp_node.specs.Totals.{totals_of}
-use Rattle.alp_node.specs.ServerState.{IsAs, IsReady, IsAlike, IsLife, IsAskedAs}
+use Rattle.alp_node.specs.ServerState.{IsAs, IsReady, IsAlike, IsCaller, IsLife, IsAskedAs}
 use Rattle.alp_node.specs.Steps.{Stepped, IsTurn, counted_in, told_answer}
-use Rattle.alp_node.specs.Waits.{waiting, is_of, call_at, without_calls_of, IsWaitingCall, IsWithinLimits}
+use Rattle.alp_node.specs.Waits.{waiting, is_of, call_at, without_calls_of, IsNamed, IsFileCall, IsWaitingCall, IsWithinLimits}
 use Rattle.alp_node.specs.declared.answer.Answer.{Answer as Handed}
 use Rattle.alp_node.specs.declared.lives.Live.{Live}
 use Rattle.alp_node.specs.declared.lock_counts.LockCounts.{LockCounts}
 use Rattle.alp_node.specs.declared.server_state.ServerState.{ServerState}
 use Rattle.alp_node.specs.declared.sessions.Turn.{Turn}
 use Rattle.alp_node.specs.declared.waits.WaitingCall.{WaitingCall}
-use Rattle.alp_node.proofs.BesideLemmas.{AreNamed}
+use Rattle.alp_node.proofs.BesideLemmas.{AreNamed, counted_named}
 use Rattle.alp_node.proofs.CallLemmas.{right_as, part_still, done_as}
 use Rattle.alp_node.proofs.CollectLemmas.{call_is, left_off, none_asks, found_here, all_named, its_asked, server_left, left_as}
 use Rattle.alp_node.proofs.ConflictLemmas.{held_elsewhere, none_risen}
@@ -65,6 +65,7 @@ use Rattle.alp_node.proofs.KeptLemmas.{session_of, IsLive, live_there, stands_ti
 use Rattle.alp_node.proofs.LockLemmas.{taken_own, taken_other, taken_agrees, taken_beside, taken_waiting}
 use Rattle.alp_node.proofs.LockCountLemmas.{held_then, none_more, count_made}
 use Rattle.alp_node.proofs.MadeLemmas.{makes_only}
+use Rattle.alp_node.proofs.OneServer.{lone_caller}
 use Rattle.alp_node.proofs.RoomLemmas.{refusal_same, allowed_room}
 use Rattle.alp_node.proofs.ShapeLemmas.{shape_given, count_none_done}
 use Rattle.alp_node.proofs.TotalLemmas.{AreRoomed}
@@ -124,7 +125,7 @@ kept_count : (locks : ℕ) (n : LockCounts) (g : Reply) (rs : List Resource) →
 kept_count locks n (reply.Created f number) rs asked made = sym (made f refl)
 kept_count locks n g rs asked made = sym asked
 
-module _ {V : Type 0} (k : ServerState V) (turn : Turn) (w : WaitingCall) (l : Live) (p : Part) (v : V) where
+module _ {V : Type 0} (k : ServerState V) (turn : Turn) (w : WaitingCall) (z : LockCounts) (l : Live) (p : Part) (v : V) where
   -- the lock of a file that it makes
   abbrev pub made_plan : Option Waiter
   made_plan = plan_if (makes_file w.call) (plan_of k.locks w.trans (asks_made (next_file k) []))
@@ -141,7 +142,7 @@ module _ {V : Type 0} (k : ServerState V) (turn : Turn) (w : WaitingCall) (l : L
     sessions = counted_in k.sessions turn g;
     waits = without_calls_of turn.client w.trans k.waits;
     given = count_after k.given g;
-    lives = map.insert k.lives w.trans (record l { part = p; locks = locks_given l.locks w.counts (Ok (given_of g [])) });
+    lives = map.insert k.lives w.trans (record l { part = p; locks = locks_given l.locks z (Ok (given_of g [])) });
     locks = table_then g;
     vault = v;
   }
@@ -166,13 +167,16 @@ module _ {V : Type 0} (k : ServerState V) (turn : Turn) (w : WaitingCall) (l : L
 
 -- ---- its entry
 
-module _ {V : Type 0} (a : Account) (before now : ℕ) (held : Contents) (k : ServerState V) (turn : Turn) (n : ℕ) (w : WaitingCall) (l : Live) (p : Part) (room : Room) (r : Reply) (v : V) where
+module _ {V : Type 0} (a : Account) (before now : ℕ) (held : Contents) (k : ServerState V) (turn : Turn) (n : ℕ) (w : WaitingCall) (z : LockCounts) (l : Live) (p : Part) (room : Room) (r : Reply) (v : V) where
   abbrev left : Reply → ServerState V
-  left = collected_left k turn w l p v
+  left = collected_left k turn w z l p v
 
-  module _ (m : ℕ) (on : Bool) (ready : IsReady m on k) (found : call_at turn.client n k.waits ≡ Some w) (granted : w.is_granted ≡ true) (life : Life) (h : IsAs a held k) (up : k.is_down ≡ false) (is : IsTurn k.sessions turn)
+  module _ (m : ℕ) (on : Bool) (ready : IsReady m on k) (found : call_at turn.client n k.waits ≡ Some w) (counted : w.counts ≡ Some z) (granted : w.is_granted ≡ true) (life : Life) (h : IsAs a held k) (up : k.is_down ≡ false) (is : IsTurn k.sessions turn)
       (there : map.get k.lives w.trans ≡ Some l) (live : a.holder.lives w.trans ≡ Some life) (mine : IsLife a.holder.cells k.locks.held (a.locked w.trans) w.trans l life)
-      (given : Answered true held.cells l.part p l.who (next_file k) w.call room r) (of : IsRoomOf true held.cells k w.counts.made room) where
+      (given : Answered true held.cells l.part p (name_in l.who) (next_file k) w.call room r) (of : IsRoomOf true held.cells k z.made room) where
+    abbrev caller : IsCaller l life
+    caller = lone_caller a held k h a.holder.cells k.locks.held (a.locked w.trans) w.trans l life live mine
+
     abbrev g : Reply
     g = given.given
 
@@ -188,27 +192,33 @@ module _ {V : Type 0} (a : Account) (before now : ℕ) (held : Contents) (k : Se
     its : IsWaitingCall k.server k.epoch k.given (count_of k.coordinator) k.sizes k.lives w
     its = call_is k turn.client n w m on ready found
 
-    limits : IsWithinLimits k.server k.epoch k.given k.sizes w l
-    limits = its.limits l there
+    file : IsFileCall k.server k.epoch k.given (count_of k.coordinator) k.sizes k.lives w z
+    file = its.file z counted
 
-    asked : IsAskedAs a.holder a.locked w life
-    asked = its_asked a held k turn.client n w m on ready found h life live
+    limits : IsWithinLimits k.server k.epoch k.given k.sizes w z l
+    limits = file.limits l there
+
+    named : file_trans w.call ≡ Some w.trans
+    named = counted_named w z counted its.named
+
+    asked : IsAskedAs a.holder a.locked w z life
+    asked = its_asked a held k turn.client n w m on ready found h z life counted live
 
     covered : HoldsEach life.held (needs_of (view_in a.holder life) life.own w.call)
     covered = asked.covered granted
 
     -- it counts as many locks as it has
-    asked_is : w.counts.asked ≡ length (a.locked w.trans)
+    asked_is : z.asked ≡ length (a.locked w.trans)
     asked_is = asked.asked ∙ ap (λ (rs : List Resource). length rs) (none_more life.held (request_in a.holder w.call (Some life)) (a.locked w.trans) mine.known (asked_held life.held mine.intended (needs_of (view_in a.holder life) life.own w.call) covered))
 
     call_right : IsRight a.holder.cells l.part p given.after refused g did
-    call_right = right_as a held k w.trans l p w.call g life (a.locked w.trans) given.after refused h up mine (given.right refl [] refl)
+    call_right = right_as a held k w.trans l p w.call g life (a.locked w.trans) given.after refused h up mine caller (given.right refl [] refl)
 
     counts_after : AreCountsOf a.holder.cells (life.edits ++ did.edits) given.after
     counts_after = call_right.counts life.edits mine.intents mine.counts
 
     call_counted : refused ≡ count_refusal (state_of a) w.trans life w.call did
-    call_counted = refusal_same a held k h up w.counts.made room of w.trans life w.call did l.part.counts given.after mine.counts counts_after (asked.made ∙ ap (λ (x : ℕ). x + more_locks w.call) asked.asked)
+    call_counted = refusal_same a held k h up z.made room of w.trans life w.call did l.part.counts given.after mine.counts counts_after (asked.made ∙ ap (λ (x : ℕ). x + more_locks w.call) asked.asked)
 
     of_file : is_of_given k.server k.epoch k.given w.call ≡ true
     of_file = shape_given k.server k.epoch k.given (length l.part.opens.items) w.call limits.shape
@@ -229,8 +239,8 @@ module _ {V : Type 0} (a : Account) (before now : ℕ) (held : Contents) (k : Se
     -- ---- the counts refuse it
 
     module _ (f : Refusal) (full : refused ≡ Some f) where
-      counted : IsCountRefusal f
-      counted = refused_is room l.part.counts given.after f full
+      refuses : IsCountRefusal f
+      refuses = refused_is room l.part.counts given.after f full
 
       as_refused : r ≡ reply.Refused f
       as_refused = given.said ∙ ap (unless_counts g) full
@@ -241,14 +251,14 @@ module _ {V : Type 0} (a : Account) (before now : ℕ) (held : Contents) (k : Se
       refused_as : (then : Contents) → then ≡ held → IsAs (record (counted_as a turn.client turn.number told (reply.Refused f)) { waits = uncollected a turn.client turn.number told n }) then (left (reply.Refused f))
       refused_as then same =
           let k_left : ServerState V = server_left a held k turn.client n w m on ready found h in
-          counts_as state_left then (record k_left { lives = map.insert k.lives w.trans (record l { part = p; locks = w.counts.asked }); vault = v }) turn (reply.Refused f)
-          (part_still state_left held k_left w.trans l p w.counts.asked v then left_is same there stands (asked_is ∙ sym mine.count)) is up
+          counts_as state_left then (record k_left { lives = map.insert k.lives w.trans (record l { part = p; locks = z.asked }); vault = v }) turn (reply.Refused f)
+          (part_still state_left held k_left w.trans l p z.asked v then left_is same there stands (asked_is ∙ sym mine.count)) is up
 
       refused_stepped : (x : Handed) (then : Contents) → then ≡ held → x ≡ told_answer (Some r) [] → Stepped a before now then (left r) (event.Call turn.client k.epoch turn.number (call.Collect n)) x
       refused_stepped x then same so =
           let leads : Leads false a (call_entry a turn.client turn.number told (call.Collect n) (reply.Refused f) []) (record (counted_as a turn.client turn.number told (reply.Refused f)) { waits = uncollected a turn.client turn.number told n }) =
-          collect_refused_leads a turn.client turn.number told n (waiting w) w.trans life false f h.quiet (h.down ∙ up) (turn_session a held k turn h is) is.number (found_here a held k turn.client n w m on ready found h) its.named granted live
-          counted.now (count_none_done a w.trans w.call f counted) (inr (subst (IsThreads (state_of a) w.trans life w.call) as_refused threads)) in
+          collect_refused_leads a turn.client turn.number told n (waiting w) w.trans life false f h.quiet (h.down ∙ up) (turn_session a held k turn h is) is.number (found_here a held k turn.client n w m on ready found h) named granted live
+          refuses.now (count_none_done a w.trans w.call f refuses) (inr (subst (IsThreads (state_of a) w.trans life w.call) as_refused threads)) in
           subst (λ (y : Reply). Stepped a before now then (left y) (event.Call turn.client k.epoch turn.number (call.Collect n)) x) (sym as_refused)
           (stepped_so a before now held then k (left (reply.Refused f)) turn.client turn.number told (call.Collect n) false (reply.Refused f) []
           (record (counted_as a turn.client turn.number told (reply.Refused f)) { waits = uncollected a turn.client turn.number told n }) x (so ∙ ap (λ (y : Reply). told_answer (Some y) []) as_refused) h leads (refused_as then same) (λ e. cc)
@@ -267,11 +277,11 @@ module _ {V : Type 0} (a : Account) (before now : ℕ) (held : Contents) (k : Se
       counts_are = subst (StandsAfter l.part p given.after) passes given.stands
 
       served : IsServedCall w.call
-      served = subst (λ (o : Option TransId). IsSome o) (sym its.named) refl
+      served = subst (λ (o : Option TransId). IsSome o) (sym named) refl
 
       -- what is kept is the lock of a new file
       abbrev plan : Waiter
-      plan = plan_of k.locks w.trans (made_asks k turn w l p v g)
+      plan = plan_of k.locks w.trans (made_asks k turn w z l p v g)
 
       abbrev table : Table
       table = with_plan k.locks plan
@@ -279,7 +289,7 @@ module _ {V : Type 0} (a : Account) (before now : ℕ) (held : Contents) (k : Se
       only_creates : makes_file w.call ≡ false → id_in g ≡ None
       only_creates none = makes_only a.holder.server [] (view_in a.holder life) life.own life.who w.call g served none call_right.reply
 
-      keeps : made_asks k turn w l p v g ≡ needs_made (id_in g)
+      keeps : made_asks k turn w z l p v g ≡ needs_made (id_in g)
       keeps = kept_beside (next_file k) w.call [] g only_creates given.ids
 
       then_holds : (q : Resource) → with_made life.held (id_in g) q ≡ holding table.held w.trans q
@@ -297,7 +307,7 @@ module _ {V : Type 0} (a : Account) (before now : ℕ) (held : Contents) (k : Se
       agrees : (u : TransId) (o : Life) → a.holder.lives u ≡ Some o → same_trans u w.trans ≡ false → DoAgree (with_made life.held (id_in g)) o.held
       agrees u o at away =
           same_agree (with_made life.held (id_in g)) o.held (holding table.held w.trans) (holding table.held u) then_holds (λ q. others_held u o at q ∙ sym (taken_other k.locks plan refl u q away))
-          (taken_agrees k.locks plan refl ready.sound (free_given m on k w.trans w.call [] g ready (none_blocks k turn w l p v)) idle u away)
+          (taken_agrees k.locks plan refl ready.sound (free_given m on k w.trans w.call [] g ready (none_blocks k turn w z l p v)) idle u away)
 
       owes : CollectOwes a turn.client turn.number told n (waiting w) w.trans life g false
       owes = record {
@@ -308,8 +318,8 @@ module _ {V : Type 0} (a : Account) (before now : ℕ) (held : Contents) (k : Se
         found = found_here a held k turn.client n w m on ready found h;
         granted = granted;
         live = live;
-        named = its.named;
-        formed = its.formed;
+        named = named;
+        formed = file.formed;
         kind = given.kind.0;
         passes = given.own;
         given = of_given a held k w.call g h of_file;
@@ -331,27 +341,27 @@ module _ {V : Type 0} (a : Account) (before now : ℕ) (held : Contents) (k : Se
       creates true e f at = refl
       creates false e f at = (let wrong : None ≡ Some f = sym (only_creates e) ∙ at in cc)
 
-      made_count : (f : FileId) → id_in g ≡ Some f → length (with_resources (needs_made (Some f)) (a.locked w.trans)) ≡ w.counts.made
+      made_count : (f : FileId) → id_in g ≡ Some f → length (with_resources (needs_made (Some f)) (a.locked w.trans)) ≡ z.made
       made_count f e =
           let one : more_locks w.call ≡ 1 = makes_more w.call (creates (makes_file w.call) refl f e) in
           let more : length (with_resources (needs_made (Some f)) (a.locked w.trans)) ≡ length (a.locked w.trans) + 1 = count_made life.held f (a.locked w.trans) mine.known (new_free f e) in
-          let made : w.counts.made ≡ w.counts.asked + more_locks w.call = asked.made in
+          let made : z.made ≡ z.asked + more_locks w.call = asked.made in
           omega (arith, more, made, asked_is, one)
 
       left_named : AreNamed (without_calls_of turn.client w.trans k.waits)
-      left_named = each-filter (λ (u : WaitingCall). file_trans u.call ≡ Some u.trans) (λ (u : WaitingCall). not (is_of turn.client w.trans u)) k.waits (all_named a held k turn.client n w m on ready found h)
+      left_named = each-filter IsNamed (λ (u : WaitingCall). not (is_of turn.client w.trans u)) k.waits (all_named a held k turn.client n w m on ready found h)
 
       performed_as : (then : Contents) → then ≡ held → IsAs (with_collected a turn.client turn.number told n (waiting w) w.trans life g) then (left g)
       performed_as then same =
-          subst (λ (x : Table). IsAs (with_collected a turn.client turn.number told n (waiting w) w.trans life g) then (record (left g) { locks = x })) (sym (table_is k turn w l p v g))
-          (done_as state_left held (server_left a held k turn.client n w m on ready found h) turn w.trans l p w.call g (locks_given l.locks w.counts (Ok (given_of g []))) table v life life.held (a.locked w.trans) then left_is same is up there live mine given.ids did_so
+          subst (λ (x : Table). IsAs (with_collected a turn.client turn.number told n (waiting w) w.trans life g) then (record (left g) { locks = x })) (sym (table_is k turn w z l p v g))
+          (done_as state_left held (server_left a held k turn.client n w m on ready found h) turn w.trans l p w.call g (locks_given l.locks z (Ok (given_of g []))) table v life life.held (a.locked w.trans) then left_is same is up there live mine given.ids did_so
           then_holds (λ u q away. taken_other k.locks plan refl u q away)
-          (under_call a.holder.server [] life.held (view_in a.holder life) life.own life.who w.call g life.edits (edits_sized a.holder.cells life.edits h.sized mine.sized) its.formed covered
-          (record { opens = mine.opens; within = mine.within; intended = mine.intended; sized = mine.sized }))
+          (under_call a.holder.server [] life.held (view_in a.holder life) life.own life.who w.call g life.edits (edits_sized a.holder.cells life.edits h.sized mine.sized) file.formed covered
+          (record { opens = caller.opens; within = mine.within; intended = mine.intended; sized = mine.sized }))
           (subst (AreCountsOf a.holder.cells (life.edits ++ did.edits)) (sym counts_are) counts_after)
-          (kept_count l.locks w.counts g (a.locked w.trans) (sym asked_is) made_count)
+          (kept_count l.locks z g (a.locked w.trans) (sym asked_is) made_count)
           (held_then life.held (needs_made (id_in g)) (a.locked w.trans) mine.known)
-          (subst (AreRoomed k.sizes a.holder.cells (totals_of k.lives) l.part.counts) (sym counts_are) (allowed_room a held k h up w.counts.made room of w.trans l given.after there passes))
+          (subst (AreRoomed k.sizes a.holder.cells (totals_of k.lives) l.part.counts) (sym counts_are) (allowed_room a held k h up z.made room of w.trans l given.after there passes))
           left_named (left_off k turn.client n w m on ready found) (taken_waiting k.locks plan) (λ u away. taken_beside k.locks plan u away) leads.quiet)
 
       performed_stepped : (x : Handed) (then : Contents) → then ≡ held → x ≡ told_answer (Some r) [] → Stepped a before now then (left r) (event.Call turn.client k.epoch turn.number (call.Collect n)) x
@@ -362,13 +372,13 @@ module _ {V : Type 0} (a : Account) (before now : ℕ) (held : Contents) (k : Se
 
   -- ---- either
 
-  pub collect_stepped : (m : ℕ) (on : Bool) (x : Handed) (then : Contents) → IsReady m on k → IsAs a held k → k.is_down ≡ false → then ≡ held → IsTurn k.sessions turn → call_at turn.client n k.waits ≡ Some w → w.is_granted ≡ true → map.get k.lives w.trans ≡ Some l
-      → Answered true held.cells l.part p l.who (next_file k) w.call room r → IsRoomOf true held.cells k w.counts.made room → x ≡ told_answer (Some r) []
+  pub collect_stepped : (m : ℕ) (on : Bool) (x : Handed) (then : Contents) → IsReady m on k → IsAs a held k → k.is_down ≡ false → then ≡ held → IsTurn k.sessions turn → call_at turn.client n k.waits ≡ Some w → w.counts ≡ Some z → w.is_granted ≡ true → map.get k.lives w.trans ≡ Some l
+      → Answered true held.cells l.part p (name_in l.who) (next_file k) w.call room r → IsRoomOf true held.cells k z.made room → x ≡ told_answer (Some r) []
       → Stepped a before now then (left r) (event.Call turn.client k.epoch turn.number (call.Collect n)) x
-  collect_stepped m on x then ready h up same is found granted there given of so =
+  collect_stepped m on x then ready h up same is found counted granted there given of so =
       go (live_there a.holder.cells k.locks.held (a.locked w.trans) w.trans (map.get k.lives w.trans) (a.holder.lives w.trans) l there (h.lives w.trans)) (refused_for room l.part.counts given.after) refl
     where
       go : (y : IsLive a.holder.cells k.locks.held (a.locked w.trans) w.trans l (a.holder.lives w.trans)) → (o : Option Refusal) → refused_for room l.part.counts given.after ≡ o
           → Stepped a before now then (left r) (event.Call turn.client k.epoch turn.number (call.Collect n)) x
-      go y None e = performed_stepped m on ready found granted y.life h up is there y.is y.alike given of e x then same so
-      go y (Some f) e = refused_stepped m on ready found granted y.life h up is there y.is y.alike given of f e x then same so
+      go y None e = performed_stepped m on ready found counted granted y.life h up is there y.is y.alike given of e x then same so
+      go y (Some f) e = refused_stepped m on ready found counted granted y.life h up is there y.is y.alike given of f e x then same so

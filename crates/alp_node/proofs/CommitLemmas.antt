@@ -54,10 +54,10 @@ use Rattle.alp_journal.proofs.CommitCalls.{with_commit, with_commit_given, commi
 use Rattle.alp_journal.proofs.HaltedCalls.{with_halt, commit_halt_leads, file_halt_leads}
 use Rattle.alp_turns.specs.Laws.{trans_in}
 use Rattle.alp_turns.specs.Queues.{queue_of}
+use Rattle.alp_node.specs.Dead.{cause_in}
 use Rattle.alp_coord.specs.declared.coordinator.Coordinator.{Coordinator}
 use Rattle.alp_coord.specs.Coordinators.{IsAlong, Comes, count_of, fate_in}
 use Rattle.alp_coord.specs.Likeness.{IsFateOf}
-use Rattle.alp_node.specs.Dead.{is_dead}
 use Rattle.alp_node.specs.Durable.{clock_notes, stored_by, said_by, Leaves, Besides, IsWritten}
 use Rattle.alp_node.specs.Eases.{new_blocks, eased}
 use Rattle.alp_node.specs.Releases.{granted_if, granted_one, granted_all, granted_behind, let_go}
@@ -88,8 +88,8 @@ use Rattle.alp_node.proofs.NoteLemmas.{put_again}
 use Rattle.alp_node.proofs.OneServer.{none_ready_here, lone_runs}
 use Rattle.alp_node.proofs.SeatLemmas.{leaves_as}
 use Rattle.alp_node.proofs.StandingLemmas.{part_of, part_is}
+use Rattle.alp_node.proofs.WaitLemmas.{named_all}
 use Rattle.alp_node.proofs.TransactionLemmas.{run_along, known_decided}
-use Rattle.alp_node.proofs.WaitLemmas.{named_all, none_waiting}
 use Rattle.alp_node.proofs.UnderLemmas.{edits_sized}
 
 -- ---- who has no call that waits
@@ -98,8 +98,7 @@ use Rattle.alp_node.proofs.UnderLemmas.{edits_sized}
 pub waits_none : {V : Type 0} (a : Account) (held : Contents) (k : ServerState V) (client : ℕ) (t : TransId) (l : Live) (n : ℕ) (serves : Bool) → IsAs a held k → IsReady n serves k → map.get k.lives t ≡ Some l → l.client ≡ client → has_waiting client t k.waits ≡ false
     → waiting_of (state_of a).desk client t ≡ None
 waits_none a held k client t l n serves h ready live own idle =
-    idle_told a client t k.waits h.waits (named_all k.server k.epoch k.given (count_of k.coordinator) k.sizes k.lives k.waits ready.waits.calls)
-    (none_waiting k.server k.epoch k.given (count_of k.coordinator) k.sizes k.lives client t l k.waits live own idle ready.waits.calls)
+    idle_told a client t k.waits h.waits (named_all k.server k.epoch k.given (count_of k.coordinator) k.sizes k.lives k.waits ready.waits.calls) idle
 
 -- ---- this server's own vote
 
@@ -446,7 +445,7 @@ halted_as a m held then k v ds is quiet h =
 
 -- a read is stopped, in a call of a part at work
 module _ {V : Type 0} (a : Account) (before now : ℕ) (held then : Contents) (k : ServerState V) (turn : Turn) (t : TransId) (v : V) where
-  pub file_halt_stepped : (c : Call) (x : Answer) → IsAs a held k → IsTurn k.sessions turn → k.is_down ≡ false → file_trans c ≡ Some t → standing_of turn.client (map.get k.lives t) (is_dead turn.client t k.dead) ≡ standing.Own → waiting_of (state_of a).desk turn.client t ≡ None
+  pub file_halt_stepped : (c : Call) (x : Answer) → IsAs a held k → IsTurn k.sessions turn → k.is_down ≡ false → file_trans c ≡ Some t → standing_of turn.client (map.get k.lives t) (cause_in k.dead turn.client t) ≡ standing.Work → waiting_of (state_of a).desk turn.client t ≡ None
       → x ≡ refused_answer refusal.Down (act.Stopped ∷ [])
       → Stepped a before now then (record k { is_down = true; vault = v }) (event.Call turn.client k.epoch turn.number c) x
   file_halt_stepped c x h is up named own idle so =

@@ -21,7 +21,8 @@ use Rattle.alp_node.specs.Totals.{LiveMap, totals_of, HaveRoom}
 use Rattle.alp_node.specs.Transactions.{owner_of}
 use Rattle.alp_node.specs.declared.lives.Live.{Live}
 use Rattle.alp_node.specs.declared.waits.WaitingCall.{WaitingCall}
-use Rattle.alp_node.proofs.WaitLemmas.{IsLikePart, like_itself, waiting_parts}
+use Rattle.alp_node.specs.Dead.{cause_in}
+use Rattle.alp_node.proofs.WaitLemmas.{IsLikePart, IsLikeThen, like_itself, waiting_parts}
 use Rattle.alp_node.proofs.KeysOnce.{AreOnce}
 use Rattle.alp_node.proofs.KeptLemmas.{same_live}
 use Rattle.alp_node.proofs.MapLemmas.{get_put, put_length}
@@ -154,6 +155,9 @@ eased_ready n serves k blocks ts h = record {
   own = own_alike k.coordinator k.lives (eased blocks k.lives ts) (λ t. eased_owner blocks k.lives ts t) h.own;
   opens = λ t l is. each_eased blocks (λ x. x.part.last ≤ n) (λ x so. so) k.lives ts t (h.opens t) l is;
   opened = λ t l is. each_eased blocks (λ x. list_all (λ o. is_given k.server k.epoch k.given o.file) x.part.opens.items ≡ true) (λ x so. so) k.lives ts t (h.opened t) l is;
+  callers = λ t l is. each_eased blocks (λ x. is_some x.who ≡ true) (λ x so. so) k.lives ts t (h.callers t) l is;
+  alive = λ t l is. each_eased blocks (λ x. cause_in k.dead x.client t ≡ None) (λ x so. so) k.lives ts t (h.alive t) l is;
+  causes = h.causes;
   places = h.places;
   calls = h.calls;
   replies = h.replies;
@@ -171,6 +175,6 @@ eased_ready n serves k blocks ts h = record {
   times = h.times;
 }
   where
-    eased_like : (ws : List WaitingCall) → AllByRecursion (λ (w : WaitingCall). (l : Live) → map.get (eased blocks k.lives ts) w.trans ≡ Some l → (x : Live) × (map.get k.lives w.trans ≡ Some x) × IsLikePart x l) ws
+    eased_like : (ws : List WaitingCall) → AllByRecursion (IsLikeThen k.lives (eased blocks k.lives ts)) ws
     eased_like [] = tt
-    eased_like (w ∷ ws) = (λ l is. each_eased blocks (λ y. (x : Live) × (map.get k.lives w.trans ≡ Some x) × IsLikePart x y) (λ y so. (so.0, so.1, record { client = so.2.client; opens = so.2.opens; cells = so.2.cells })) k.lives ts w.trans (λ y there. (y, there, like_itself y)) l is, eased_like ws)
+    eased_like (w ∷ ws) = (λ z counted l is. each_eased blocks (λ y. (x : Live) × (map.get k.lives w.trans ≡ Some x) × IsLikePart x y) (λ y so. (so.0, so.1, record { client = so.2.client; opens = so.2.opens; cells = so.2.cells })) k.lives ts w.trans (λ y there. (y, there, like_itself y)) l is, eased_like ws)

@@ -1,8 +1,8 @@
 -- greetings and begins, as the server keeps them
-use Rattle.std.specs.Prelude.{cond, Bool, true, false, ◌==◌, ◌&&◌, ◌||◌, not, max, filter, Option, None, Some, is_some, IsSome, nat_le}
+use Rattle.std.specs.Prelude.{cond, Bool, true, false, ◌==◌, ◌&&◌, ◌||◌, not, max, filter, Option, None, Some, is_some, is_none, IsSome, nat_le}
 use Rattle.std.specs.List.{AllByRecursion}
 use Rattle.std.specs.FinMap as map
-use Rattle.std.proofs.Common.{◌≡◌, ℕ, ◌+◌, ◌<◌, ◌≤◌, List, [], ◌∷◌, length, refl, sym, ◌∙◌, ap, subst, arith}
+use Rattle.std.proofs.Common.{◌≡◌, ℕ, ◌+◌, ◌<◌, ◌≤◌, List, [], ◌∷◌, length, refl, sym, ◌∙◌, ap, subst, arith, eq-eqb}
 use Rattle.std.proofs.lemmas.Bool.{leb-false, eqb-true}
 use Rattle.alp_base.specs.declared.ids.JoinNo.{JoinNo}
 use Rattle.alp_base.specs.declared.ids.Stamp.{Stamp}
@@ -24,7 +24,6 @@ use Rattle.alp_files.specs.declared.refusal.Refusal.{Refusal}
 use Rattle.alp_files.specs.declared.refusal.Refusal.TheVariants as refusal
 use Rattle.alp_files.specs.declared.refusal.What.TheVariants as what
 use Rattle.alp_files.specs.declared.refusal.Cause.{Cause}
-use Rattle.alp_files.specs.declared.refusal.Cause.TheVariants as cause
 use Rattle.alp_locks.specs.Tables.{Holders, Table, held_of, holding}
 use Rattle.alp_locks.proofs.SoundLemmas.{each-more, each-filter}
 use Rattle.alp_turns.specs.Queues.{request_for, request_at, queue_of}
@@ -42,34 +41,36 @@ use Rattle.alp_journal.specs.Counts.{lock_set}
 use Rattle.alp_journal.specs.Moves.{next_trans}
 use Rattle.alp_journal.specs.Answers.{too_many, is_counted, count_of_transactions, if_over}
 use Rattle.alp_journal.specs.Account.{Account, state_of, IsQuiet, IsPartOf, IsOfPart, Leads}
-use Rattle.alp_journal.proofs.IdLemmas.{all-filter}
+use Rattle.alp_journal.proofs.IdLemmas.{all-filter, same_trans-true}
 use Rattle.alp_journal.proofs.StandLemmas.{live_undecided}
 use Rattle.alp_journal.proofs.WaitLemmas.{all-stay}
 use Rattle.alp_journal.proofs.BeginCalls.{hello_entry, with_hello, hello_leads, with_begun, begin_leads, is_buried, unburied, is_decided, undecided, with_buried_as, buried_quiet, with_buried, begin_refused_leads}
 use Rattle.alp_journal.proofs.CollectCalls.{none_dead}
+use Rattle.alp_node.specs.Dead.{cause_in, without_client}
 use Rattle.alp_coord.specs.declared.coordinator.Coordinator.{Coordinator}
 use Rattle.alp_coord.specs.Coordinators.{IsOf, Comes, server_of, epoch_of, count_of, next_id, fate_in, counted_of}
 use Rattle.alp_coord.specs.Likeness.{IsFateOf}
-use Rattle.alp_node.specs.Dead.{dead_in, without_client}
 use Rattle.alp_node.specs.Sessions.{session_at, with_session}
 use Rattle.alp_node.specs.ServerState.{IsAs, IsAlike, IsWaitingAs, PutNoneBeyond}
 use Rattle.alp_node.specs.Steps.{Stepped, told_answer, refused_answer, entry_of}
 use Rattle.alp_node.specs.declared.answer.Answer.{Answer}
-use Rattle.alp_node.specs.declared.dead.DeadPart.{DeadPart}
 use Rattle.alp_node.specs.declared.lives.Live.{Live}
-use Rattle.alp_node.specs.Waits.{waiting, waiting_calls, stays, live_calls}
+use Rattle.alp_node.specs.Waits.{waiting, waiting_calls, is_file_on, outlives, without_dead, has_part, stays, live_calls, IsCallBy, IsNamed}
 use Rattle.alp_node.specs.declared.server_state.ServerState.{ServerState}
 use Rattle.alp_node.specs.declared.waits.WaitingCall.{WaitingCall}
-use Rattle.alp_node.proofs.BesideLemmas.{AreNamed, AreOthers, others_told, part_named, filter_told, queue_beside, asked_beside}
+use Rattle.alp_node.specs.Totals.{LiveMap}
+use Rattle.alp_node.specs.declared.lock_counts.LockCounts.{LockCounts}
+use Rattle.alp_node.proofs.BesideLemmas.{AreNamed, AreFileCalls, AreOthers, counted_named, others_told, part_named, filter_told, queue_beside, asked_beside}
 use Rattle.alp_journal.specs.Desk.{Session, Waiting, file_trans, part_trans, is_of, is_on}
 use Rattle.alp_node.proofs.TotalLemmas.{added_room}
 use Rattle.alp_calls.proofs.CountLaws.{counts_begin}
-use Rattle.alp_node.proofs.DeadLemmas.{none_left, others_left}
+use Rattle.alp_node.proofs.DeadLemmas.{dead_buried}
 use Rattle.alp_node.proofs.DecisionLemmas.{plain_moved, begun_plain}
 use Rattle.alp_node.proofs.KeptLemmas.{sessions_as, stands_timely, alike_set, each_set, none_held, stepped_so}
 use Rattle.alp_node.proofs.MapLemmas.{places_set, get_put}
 use Rattle.alp_node.proofs.OneServer.{none_join_counts, told_undecided}
 use Rattle.alp_node.proofs.TransactionLemmas.{next_told, known_begun, count_told}
+use Rattle.alp_node.proofs.WaitLemmas.{counts_there}
 
 -- ---- a greeting
 
@@ -158,57 +159,44 @@ few_of c none = go (nat_le 64 (counted_of c)) refl none
 -- ---- calls of dead parts go
 
 module _ {V : Type 0} (a : Account) (held : Contents) (k : ServerState V) (client : ℕ) (h : IsAs a held k) where
-  -- what the journal says of the part of each call
+  -- what the journal says of the part of each file call
   abbrev IsPartHere : WaitingCall → Type 0
-  IsPartHere v = (file_trans v.call ≡ Some v.trans) × IsPartOf v.client (a.holder.lives v.trans) (a.dead v.client v.trans)
+  IsPartHere v = IsNamed v × ((n : LockCounts) → v.counts ≡ Some n → IsPartOf v.client (a.holder.lives v.trans) (a.dead v.client v.trans))
 
   parts_here : AreNamed k.waits → AllByRecursion IsPartHere k.waits
   parts_here named = each k.waits named (subst (AllByRecursion (λ (v : Waiting). IsOfPart a.holder.lives a.dead v (file_trans v.call))) h.waits h.quiet.settled.tells.parts)
     where
       each : (ws : List WaitingCall) → AreNamed ws → AllByRecursion (λ (v : Waiting). IsOfPart a.holder.lives a.dead v (file_trans v.call)) (waiting_calls ws) → AllByRecursion IsPartHere ws
       each [] n p = tt
-      each (v ∷ vs) n p = ((n.0, subst (IsOfPart a.holder.lives a.dead (waiting v)) n.0 p.0), each vs n.1 p.1)
-
-  live_alike : (t : TransId) → is_some (a.holder.lives t) ≡ is_some (map.get k.lives t)
-  live_alike t = kept_live a.holder.cells k.locks.held (a.locked t) t (map.get k.lives t) (a.holder.lives t) (h.lives t)
-
-  -- a dead part is not live, and the client's part that is not live is dead
-  dead_or_live : (v : WaitingCall) → IsPartHere v → v.client ≡ client → not (is_some (a.dead client v.trans)) ≡ is_some (map.get k.lives v.trans)
-  dead_or_live v here own = go (a.holder.lives v.trans) refl here.1 ∙ live_alike v.trans
-    where
-      dead_some : (x : Option Cause) → IsSome x → not (is_some x) ≡ false
-      dead_some None e = (let wrong : false ≡ true = e in cc)
-      dead_some (Some c) e = refl
-
-      go : (x : Option Life) → a.holder.lives v.trans ≡ x → IsPartOf v.client x (a.dead v.client v.trans) → not (is_some (a.dead client v.trans)) ≡ is_some x
-      go (Some life) e p = ap (λ (y : Option Cause). not (is_some y)) (none_dead a v.trans life h.quiet.settled e client (sym p ∙ own))
-      go None e p = ap (λ (n : ℕ). not (is_some (a.dead n v.trans))) (sym own) ∙ dead_some (a.dead v.client v.trans) p
+      each (v ∷ vs) n p = ((n.0, (λ z counted. subst (IsOfPart a.holder.lives a.dead (waiting v)) (counted_named v z counted n.0) p.0)), each vs n.1 p.1)
 
   -- the same calls go
-  goes_alike : (v : WaitingCall) → IsPartHere v → not (is_buried a client (waiting v)) ≡ stays client k.lives v
-  goes_alike v here = go (v.client == client) refl
+  goes_alike : (v : WaitingCall) → IsNamed v → not (is_buried a client (waiting v)) ≡ outlives client k.dead v
+  goes_alike v named =
+      ap (λ (x : Option TransId). not (v.client == client && is_on (λ t. is_some (a.dead client t)) x)) (part_named v named)
+      ∙ ap (λ (x : Option Cause). not (v.client == client && is_some x)) (h.dead client v.trans)
+      ∙ go (v.client == client) (cause_in k.dead client v.trans)
     where
-      go : (b : Bool) → (v.client == client) ≡ b → not (b && is_on (λ t. is_some (a.dead client t)) (part_trans v.call)) ≡ (not b || is_some (map.get k.lives v.trans))
-      go false e = refl
-      go true e = ap (λ (x : Option TransId). not (is_on (λ t. is_some (a.dead client t)) x)) (part_named v.call v.trans here.0) ∙ dead_or_live v here (eqb-true v.client client e)
+      go : (b : Bool) (x : Option Cause) → not (b && is_some x) ≡ (not b || is_none x)
+      go false x = refl
+      go true None = refl
+      go true (Some c) = refl
 
-  pub waits_left : AreNamed k.waits → unburied a client ≡ waiting_calls (live_calls client k.lives k.waits)
+  pub waits_left : AreNamed k.waits → unburied a client ≡ waiting_calls (without_dead client k.dead k.waits)
   waits_left named =
       ap (filter (λ v. not (is_buried a client v))) h.waits
-      ∙ filter_told (λ v. not (is_buried a client v)) (stays client k.lives) k.waits (each-more IsPartHere (λ v. not (is_buried a client (waiting v)) ≡ stays client k.lives v) goes_alike k.waits (parts_here named))
+      ∙ filter_told (λ v. not (is_buried a client v)) (outlives client k.dead) k.waits (each-more IsNamed (λ v. not (is_buried a client (waiting v)) ≡ outlives client k.dead v) goes_alike k.waits named)
 
   -- and they ask for nothing
   goes_idle : (v : WaitingCall) → IsPartHere v → GoesIdle a.holder k.locks.held (is_buried a client) (waiting v)
-  goes_idle v here gone =
-      ap (request_at a.holder k.locks.held (waiting v)) here.0
-      ∙ ap (request_for a.holder k.locks.held (waiting v) v.trans) (none (a.holder.lives v.trans) refl)
+  goes_idle v here gone = by v.counts refl here.0
     where
       right : (b c : Bool) → (b && c) ≡ true → c ≡ true
       right true c e = e
       right false c e = let wrong : false ≡ true = e in cc
 
       is_dead_there : is_some (a.dead client v.trans) ≡ true
-      is_dead_there = sym (ap (is_on (λ t. is_some (a.dead client t))) (part_named v.call v.trans here.0)) ∙ right (v.client == client) (is_on (λ t. is_some (a.dead client t)) (part_trans v.call)) gone
+      is_dead_there = sym (ap (is_on (λ t. is_some (a.dead client t))) (part_named v here.0)) ∙ right (v.client == client) (is_on (λ t. is_some (a.dead client t)) (part_trans v.call)) gone
 
       left : (b c : Bool) → (b && c) ≡ true → b ≡ true
       left true c e = refl
@@ -217,12 +205,18 @@ module _ {V : Type 0} (a : Account) (held : Contents) (k : ServerState V) (clien
       own : v.client ≡ client
       own = eqb-true v.client client (left (v.client == client) (is_on (λ t. is_some (a.dead client t)) (part_trans v.call)) gone)
 
-      none : (x : Option Life) → a.holder.lives v.trans ≡ x → x ≡ None
-      none None e = refl
-      none (Some life) e =
-          let its : v.client ≡ life.client = subst (λ (y : Option Life). IsPartOf v.client y (a.dead v.client v.trans)) e here.1 in
+      none : IsPartOf v.client (a.holder.lives v.trans) (a.dead v.client v.trans) → (x : Option Life) → a.holder.lives v.trans ≡ x → x ≡ None
+      none part None e = refl
+      none part (Some life) e =
+          let its : v.client ≡ life.client = subst (λ (y : Option Life). IsPartOf v.client y (a.dead v.client v.trans)) e part in
           let wrong : false ≡ true = sym (ap (λ (y : Option Cause). is_some y) (none_dead a v.trans life h.quiet.settled e client (sym its ∙ own))) ∙ is_dead_there in
           cc
+
+      by : (x : Option LockCounts) → v.counts ≡ x → IsCallBy v.call v.trans x → request_at a.holder k.locks.held (waiting v) (file_trans v.call) ≡ []
+      by None e named = ap (request_at a.holder k.locks.held (waiting v)) named.0
+      by (Some n) e named =
+          ap (request_at a.holder k.locks.held (waiting v)) named
+          ∙ ap (request_for a.holder k.locks.held (waiting v) v.trans) (none (here.1 n e) (a.holder.lives v.trans) refl)
 
   pub queue_left : AreNamed k.waits → queue_of a.holder k.locks.held (unburied a client) ≡ queue_of a.holder k.locks.held a.waits
   queue_left named = queue_without a.holder k.locks.held (is_buried a client) a.waits (subst (AllByRecursion (GoesIdle a.holder k.locks.held (is_buried a client))) (sym h.waits) (each k.waits (parts_here named)))
@@ -231,11 +225,12 @@ module _ {V : Type 0} (a : Account) (held : Contents) (k : ServerState V) (clien
       each [] p = tt
       each (v ∷ vs) p = (goes_idle v p.0, each vs p.1)
 
-  -- and no call is of a transaction that was decided
-  decided_none : (v : WaitingCall) → IsPartHere v → is_decided a client (waiting v) ≡ false
-  decided_none v here =
-      ap (λ (x : Option TransId). v.client == client && is_on (λ t. is_some (decision_in (a.fates t))) x) (part_named v.call v.trans here.0)
-      ∙ ap (λ (x : Option (Stamp × List JoinNo)). v.client == client && is_some x) (go (a.holder.lives v.trans) refl here.1) ∙ neither (v.client == client)
+  -- and no file call is of a transaction that was decided
+  decided_none : (v : WaitingCall) → IsPartHere v → is_some v.counts ≡ true → is_decided a client (waiting v) ≡ false
+  decided_none v here some =
+      let n = counts_there v.counts some in
+      ap (λ (x : Option TransId). v.client == client && is_on (λ t. is_some (decision_in (a.fates t))) x) (part_named v here.0)
+      ∙ ap (λ (x : Option (Stamp × List JoinNo)). v.client == client && is_some x) (go (a.holder.lives v.trans) refl (here.1 n.0 n.1)) ∙ neither (v.client == client)
     where
       neither : (b : Bool) → (b && false) ≡ false
       neither true = refl
@@ -245,27 +240,59 @@ module _ {V : Type 0} (a : Account) (held : Contents) (k : ServerState V) (clien
       go (Some life) e p = live_undecided a h.quiet.settled.stands v.trans life e
       go None e p = told_undecided a held k h v.client v.trans p
 
-  pub undecided_is : AreNamed k.waits → undecided a client ≡ unburied a client
-  undecided_is named =
+  pub undecided_is : AreNamed k.waits → AreFileCalls k.waits → undecided a client ≡ unburied a client
+  undecided_is named files =
       all-stay (is_decided a client) (unburied a client)
-      (all-filter (λ (v : Waiting). is_decided a client v ≡ false) (λ v. not (is_buried a client v)) a.waits (subst (AllByRecursion (λ (v : Waiting). is_decided a client v ≡ false)) (sym h.waits) (each k.waits (parts_here named))))
+      (all-filter (λ (v : Waiting). is_decided a client v ≡ false) (λ v. not (is_buried a client v)) a.waits (subst (AllByRecursion (λ (v : Waiting). is_decided a client v ≡ false)) (sym h.waits) (each k.waits (parts_here named) files)))
     where
-      each : (ws : List WaitingCall) → AllByRecursion IsPartHere ws → AllByRecursion (λ (v : Waiting). is_decided a client v ≡ false) (waiting_calls ws)
-      each [] p = tt
-      each (v ∷ vs) p = (decided_none v p.0, each vs p.1)
+      each : (ws : List WaitingCall) → AllByRecursion IsPartHere ws → AreFileCalls ws → AllByRecursion (λ (v : Waiting). is_decided a client v ≡ false) (waiting_calls ws)
+      each [] p f = tt
+      each (v ∷ vs) p f = (decided_none v p.0 f.0, each vs p.1 f.1)
 
--- nobody's dead part of the client is left
-dead_buried : (client : ℕ) (ds : List DeadPart) (d : ℕ) (u : TransId) → cond {A = Option Cause} (d == client) None (dead_in ds d u) ≡ dead_in (without_client client ds) d u
-dead_buried client ds d u = go (d == client) refl
-  where
-    go : (b : Bool) → (d == client) ≡ b → cond {A = Option Cause} b None (dead_in ds d u) ≡ dead_in (without_client client ds) d u
-    go true e = ap (λ (b : Bool). cond {A = Option Cause} b (Some cause.TimedOut) None) (sym (none_left ds d client u (eqb-true d client e)))
-    go false e = ap (λ (b : Bool). cond {A = Option Cause} b (Some cause.TimedOut) None) (sym (others_left ds d client u e))
+  -- a file call of the client that is of no dead part is of a live one
+  live_stays : (lives : LiveMap) → ((t : TransId) (l : Live) → map.get k.lives t ≡ Some l → map.get lives t ≡ Some l) → (v : WaitingCall) → IsPartHere v → is_some v.counts ≡ true → outlives client k.dead v ≡ true → stays client lives v ≡ true
+  live_stays lives kept v here some out = by (v.client == client) refl out
+    where
+      its_part : (life : Life) (o : Option Live) (x : Option Life) → x ≡ Some life → IsAlike a.holder.cells k.locks.held (a.locked v.trans) v.trans o x → (l : Live) × (o ≡ Some l) × (l.client ≡ life.client)
+      its_part life None None is alike = let wrong : None ≡ Some life = is in cc
+      its_part life (Some l) (Some y) is alike = (l, refl, sym alike.client ∙ ap (λ (z : Life). z.client) (same-some y life is))
+      its_part life None (Some y) is alike = absurd alike
+      its_part life (Some l) None is alike = absurd alike
+
+      told : (x : Option Cause) → is_none x ≡ true → IsSome x → ⊥
+      told None e s = let wrong : false ≡ true = s in cc
+      told (Some c) e s = let wrong : false ≡ true = e in cc
+
+      its : (l : Live) → map.get k.lives v.trans ≡ Some l → l.client ≡ client → has_part client (map.get lives v.trans) ≡ true
+      its l there own = ap (has_part client) (kept v.trans l there) ∙ eq-eqb l.client client own
+
+      live : (x : Option Life) → a.holder.lives v.trans ≡ x → IsPartOf v.client x (a.dead v.client v.trans) → v.client ≡ client → is_none (cause_in k.dead client v.trans) ≡ true → has_part client (map.get lives v.trans) ≡ true
+      live (Some life) at p own none =
+          let part : (l : Live) × (map.get k.lives v.trans ≡ Some l) × (l.client ≡ life.client) = its_part life (map.get k.lives v.trans) (a.holder.lives v.trans) at (h.lives v.trans) in
+          its part.0 part.1 (part.2 ∙ (sym p ∙ own))
+      live None at p own none = absurd (told (cause_in k.dead client v.trans) none (subst (λ (x : Option Cause). IsSome x) (ap (λ (n : ℕ). a.dead n v.trans) own ∙ h.dead client v.trans) p))
+
+      by : (b : Bool) → (v.client == client) ≡ b → (not b || is_none (cause_in k.dead client v.trans)) ≡ true → (not b || has_part client (map.get lives v.trans)) ≡ true
+      by false e none = refl
+      by true e none = let n = counts_there v.counts some in live (a.holder.lives v.trans) refl (here.1 n.0 n.1) (eqb-true v.client client e) none
+
+  -- so no other call goes
+  pub others_stay : (lives : LiveMap) → ((t : TransId) (l : Live) → map.get k.lives t ≡ Some l → map.get lives t ≡ Some l) → AreNamed k.waits → AreFileCalls k.waits → live_calls client lives (without_dead client k.dead k.waits) ≡ without_dead client k.dead k.waits
+  others_stay lives kept named files = each k.waits (parts_here named) files
+    where
+      each : (ws : List WaitingCall) → AllByRecursion IsPartHere ws → AreFileCalls ws → live_calls client lives (without_dead client k.dead ws) ≡ without_dead client k.dead ws
+      each [] p f = refl
+      each (v ∷ vs) p f = go (outlives client k.dead v) refl (each vs p.1 f.1)
+        where
+          go : (b : Bool) → outlives client k.dead v ≡ b → live_calls client lives (without_dead client k.dead vs) ≡ without_dead client k.dead vs
+              → live_calls client lives (cond {A = List WaitingCall} b (v ∷ without_dead client k.dead vs) (without_dead client k.dead vs)) ≡ cond {A = List WaitingCall} b (v ∷ without_dead client k.dead vs) (without_dead client k.dead vs)
+          go false e rest = rest
+          go true e rest = (λ i. cond {A = List WaitingCall} (live_stays lives kept v p.0 f.0 e i) (v ∷ rest i) (rest i))
 
 module _ {V : Type 0} (a : Account) (held : Contents) (k : ServerState V) (client number : ℕ) (w : Session) (r : Reply) where
   -- the client's dead parts go as it is answered
   abbrev pub buried_kept : ServerState V
-  buried_kept = record k { sessions = with_session k.sessions client (record w { last = number; reply = r }); dead = without_client client k.dead; waits = live_calls client k.lives k.waits }
+  buried_kept = record k { sessions = with_session k.sessions client (record w { last = number; reply = r }); dead = without_client client k.dead; waits = without_dead client k.dead k.waits }
 
   pub buried_as : IsAs a held k → client ≤ 16 → k.is_down ≡ false → AreNamed k.waits → IsQuiet (with_buried_as a client number w r) → IsAs (with_buried_as a client number w r) held buried_kept
   buried_as h le up named quiet = record {
@@ -291,29 +318,34 @@ module _ {V : Type 0} (a : Account) (held : Contents) (k : ServerState V) (clien
     earlier = h.earlier;
     waits = waits_left a held k client h named;
     queue = h.queue ∙ sym (queue_left a held k client h named);
-    asked = each-filter (IsWaitingAs a.holder a.locked) (stays client k.lives) k.waits h.asked;
+    asked = each-filter (IsWaitingAs a.holder a.locked) (outlives client k.dead) k.waits h.asked;
     quiet = quiet;
     down = sym up;
   }
 
 module _ {V : Type 0} (a : Account) (held : Contents) (k : ServerState V) (client number : ℕ) (w : Session) (seen : Stamp) where
+  -- and the calls of the client that are of no live part
+  abbrev pub cleared_kept : Reply → ServerState V
+  cleared_kept r = record k { sessions = with_session k.sessions client (record w { last = number; reply = r }); dead = without_client client k.dead; waits = live_calls client k.lives (without_dead client k.dead k.waits) }
+
   -- as many count as may be: the begin is refused, and the client's dead parts go
-  pub begin_refused_stepped : (before now : ℕ) (x : Answer) → IsAs a held k → client ≤ 16 → k.is_down ≡ false → session_at k.sessions client ≡ Some w → number ≡ w.last + 1 → many_of k.coordinator ≡ Some (refusal.TooMany what.Transactions 64) → AreNamed k.waits
+  pub begin_refused_stepped : (before now : ℕ) (x : Answer) → IsAs a held k → client ≤ 16 → k.is_down ≡ false → session_at k.sessions client ≡ Some w → number ≡ w.last + 1 → many_of k.coordinator ≡ Some (refusal.TooMany what.Transactions 64) → AreNamed k.waits → AreFileCalls k.waits
       → x ≡ refused_answer (refusal.TooMany what.Transactions 64) []
-      → Stepped a before now held (buried_kept a held k client number w (reply.Refused (refusal.TooMany what.Transactions 64))) (event.Call client k.epoch number (call.Begin seen)) x
-  begin_refused_stepped before now x h le up there turn many named is =
+      → Stepped a before now held (cleared_kept (reply.Refused (refusal.TooMany what.Transactions 64))) (event.Call client k.epoch number (call.Begin seen)) x
+  begin_refused_stepped before now x h le up there turn many named files is =
       let f : Refusal = refusal.TooMany what.Transactions 64 in
       let leads = begin_refused_leads a client number w seen f h.quiet (h.down ∙ up) (h.sessions client ∙ there) turn (many_told a held k h ∙ many) in
-      stepped_so a before now held held k (buried_kept a held k client number w (reply.Refused f)) client number w (call.Begin seen) false (reply.Refused f) [] (with_buried a client number w f) x is h leads
-      (subst (λ (ws : List Waiting). IsAs (record (with_buried_as a client number w (reply.Refused f)) { waits = ws }) held (buried_kept a held k client number w (reply.Refused f))) (sym (undecided_is a held k client h named))
-      (buried_as a held k client number w (reply.Refused f) h le up named (buried_quiet a client number w (reply.Refused f) h.quiet (h.sessions client ∙ there) turn))) (λ e. cc) (omega (arith, h.clock))
+      stepped_so a before now held held k (cleared_kept (reply.Refused f)) client number w (call.Begin seen) false (reply.Refused f) [] (with_buried a client number w f) x is h leads
+      (subst (λ (ws : List Waiting). IsAs (record (with_buried_as a client number w (reply.Refused f)) { waits = ws }) held (cleared_kept (reply.Refused f))) (sym (undecided_is a held k client h named files))
+      (subst (λ (vs : List WaitingCall). IsAs (with_buried_as a client number w (reply.Refused f)) held (record (buried_kept a held k client number w (reply.Refused f)) { waits = vs })) (sym (others_stay a held k client h k.lives (λ t l at. at) named files))
+      (buried_as a held k client number w (reply.Refused f) h le up named (buried_quiet a client number w (reply.Refused f) h.quiet (h.sessions client ∙ there) turn)))) (λ e. cc) (omega (arith, h.clock))
 
 module _ {V : Type 0} (a : Account) (held : Contents) (k : ServerState V) (client number : ℕ) (w : Session) (seen : Stamp) (p : Part) (c : Coordinator) where
   abbrev pub begun_trans : TransId
   begun_trans = next_id k.coordinator
 
   abbrev pub begun_live : Live
-  begun_live = record { client = client; who = w.who; part = p; locks = 0 }
+  begun_live = record { client = client; who = Some w.who; part = p; locks = 0; join = None }
 
   abbrev pub with_begun_kept : Table → ServerState V
   with_begun_kept locks = record k {
@@ -322,7 +354,7 @@ module _ {V : Type 0} (a : Account) (held : Contents) (k : ServerState V) (clien
     coordinator = c;
     dead = without_client client k.dead;
     lives = map.insert k.lives begun_trans begun_live;
-    waits = live_calls client (map.insert k.lives begun_trans begun_live) k.waits;
+    waits = live_calls client (map.insert k.lives begun_trans begun_live) (without_dead client k.dead k.waits);
     locks = locks;
   }
 
@@ -336,11 +368,10 @@ module _ {V : Type 0} (a : Account) (held : Contents) (k : ServerState V) (clien
       (alike_set a.holder.cells k.locks.held locks a.locked begun_trans (Some begun_live) (Some (new_life None client w.who)) [] (map.get k.lives) a.holder.lives h.lives (λ t r away. same t r)
       (record {
         client = refl;
-        who = refl;
+        join = refl;
         intents = none;
-        own = opens;
         held = λ r. sym (same begun_trans r ∙ none_held a.holder.cells k.locks.held (a.locked begun_trans) begun_trans (map.get k.lives begun_trans) (a.holder.lives begun_trans) new (h.lives begun_trans) r);
-        opens = tt;
+        calls = λ unvoted. record { who = refl; own = opens; opens = tt };
         counts = subst (AreCountsOf a.holder.cells []) (sym idle) (counts_begin a.holder.cells);
         within = tt;
         intended = λ q f m in_file is. (let wrong : None ≡ Some m = is in cc);
@@ -349,20 +380,20 @@ module _ {V : Type 0} (a : Account) (held : Contents) (k : ServerState V) (clien
         known = λ r. refl;
       }) u)
 
-  -- of other transactions just the same are live
-  stays_alike : (ws : List WaitingCall) → AreOthers begun_trans ws → live_calls client k.lives ws ≡ live_calls client (map.insert k.lives begun_trans begun_live) ws
-  stays_alike [] away = refl
-  stays_alike (v ∷ vs) away = (λ i. cond {A = List WaitingCall} (not (v.client == client) || is_some (same v away.0 i)) (v ∷ stays_alike vs away.1 i) (stays_alike vs away.1 i))
+  -- who was live is so still
+  lives_on : map.get k.lives begun_trans ≡ None → (t : TransId) (l : Live) → map.get k.lives t ≡ Some l → map.get (map.insert k.lives begun_trans begun_live) t ≡ Some l
+  lives_on new t l there = get_put k.lives begun_trans begun_live t ∙ go (same_trans t begun_trans) refl
     where
-      same : (x : WaitingCall) → same_trans x.trans begun_trans ≡ false → map.get k.lives x.trans ≡ map.get (map.insert k.lives begun_trans begun_live) x.trans
-      same x apart = sym (get_put k.lives begun_trans begun_live x.trans ∙ ap (λ (b : Bool). cond {A = Option Live} b (Some begun_live) (map.get k.lives x.trans)) apart)
+      go : (b : Bool) → same_trans t begun_trans ≡ b → cond {A = Option Live} b (Some begun_live) (map.get k.lives t) ≡ Some l
+      go false e = there
+      go true e = let wrong : None ≡ Some l = sym new ∙ sym (ap (map.get k.lives) (same_trans-true t begun_trans e)) ∙ there in cc
 
   pub begin_stepped : (before now : ℕ) (x : Answer) (locks : Table) → IsAs a held k → client ≤ 16 → k.is_down ≡ false → session_at k.sessions client ≡ Some w → number ≡ w.last + 1 → 0 < k.epoch → many_of k.coordinator ≡ None → map.get k.lives begun_trans ≡ None
       → ((u : TransId) (r : Resource) → holding locks.held u r ≡ holding k.locks.held u r) → own_of p ≡ no_opens → p.intents ≡ no_intents → p.counts ≡ no_counts
-      → IsOf (server_of k.coordinator) (epoch_of k.coordinator) (count_of k.coordinator + 1) c → Comes (Begins begun_trans client w.who seen.ts) k.coordinator c → AreNamed k.waits → AreOthers begun_trans k.waits → locks.waiting ≡ k.locks.waiting → ((u : TransId) → held_of locks.held u ≡ held_of k.locks.held u)
+      → IsOf (server_of k.coordinator) (epoch_of k.coordinator) (count_of k.coordinator + 1) c → Comes (Begins begun_trans client w.who seen.ts) k.coordinator c → AreNamed k.waits → AreFileCalls k.waits → AreOthers begun_trans k.waits → locks.waiting ≡ k.locks.waiting → ((u : TransId) → held_of locks.held u ≡ held_of k.locks.held u)
       → x ≡ told_answer (Some (reply.Begun begun_trans)) (act.Drawn begun_trans ∷ [])
       → Stepped a before now held (with_begun_kept locks) (event.Call client k.epoch number (call.Begin seen)) x
-  begin_stepped before now x locks h le up there turn raised few new same opens none idle one comes named away waiting beside is =
+  begin_stepped before now x locks h le up there turn raised few new same opens none idle one comes named files away waiting beside is =
       let next : next_trans (state_of a) ≡ begun_trans = trans_same h in
       let leads = begin_leads a client number w seen (subst (λ (n : ℕ). 0 < n) (sym h.epoch) raised) h.quiet (h.down ∙ up) (h.sessions client ∙ there) turn (many_told a held k h ∙ few) in
       let m : Account = with_begun a client number w seen in
@@ -400,16 +431,18 @@ module _ {V : Type 0} (a : Account) (held : Contents) (k : ServerState V) (clien
         made = h.made;
         born = h.born;
         earlier = h.earlier;
-        waits = undecided_is a held k client h named ∙ waits_left a held k client h named ∙ ap waiting_calls (stays_alike k.waits away);
+        waits = undecided_is a held k client h named files ∙ waits_left a held k client h named ∙ ap waiting_calls (sym (others_stay a held k client h (map.insert k.lives begun_trans begun_live) (lives_on new) named files));
         queue = waiting ∙ h.queue ∙ sym (queue_left a held k client h named)
             ∙ sym (queue_beside a.holder m.holder k.locks.held locks.held (next_trans (state_of a)) refl (λ u apart. ap (λ (b : Bool). cond {A = Option Life} b (Some (new_life None client w.who)) (a.holder.lives u)) apart) (λ u apart. beside u) (unburied a client)
             (each-filter (λ (v : Waiting). is_of (next_trans (state_of a)) (file_trans v.call) ≡ false) (λ v. not (is_buried a client v)) a.waits
             (subst (AllByRecursion (λ (v : Waiting). is_of (next_trans (state_of a)) (file_trans v.call) ≡ false)) (sym h.waits) (others_told (next_trans (state_of a)) k.waits named away_next))))
-            ∙ ap (λ (ws : List Waiting). queue_of m.holder locks.held ws) (sym (undecided_is a held k client h named));
+            ∙ ap (λ (ws : List Waiting). queue_of m.holder locks.held ws) (sym (undecided_is a held k client h named files));
         asked = asked_beside a.holder m.holder k.locks.held locks.held (next_trans (state_of a)) refl (λ u apart. ap (λ (b : Bool). cond {A = Option Life} b (Some (new_life None client w.who)) (a.holder.lives u)) apart) (λ u apart. beside u)
-            a.locked (lock_set a.locked (next_trans (state_of a)) []) (λ u apart. ap (λ (b : Bool). cond {A = List Resource} b [] (a.locked u)) apart) (live_calls client (map.insert k.lives begun_trans begun_live) k.waits)
-            (each-filter (λ (v : WaitingCall). same_trans v.trans (next_trans (state_of a)) ≡ false) (stays client (map.insert k.lives begun_trans begun_live)) k.waits away_next)
-            (each-filter (IsWaitingAs a.holder a.locked) (stays client (map.insert k.lives begun_trans begun_live)) k.waits h.asked);
+            a.locked (lock_set a.locked (next_trans (state_of a)) []) (λ u apart. ap (λ (b : Bool). cond {A = List Resource} b [] (a.locked u)) apart) (live_calls client (map.insert k.lives begun_trans begun_live) (without_dead client k.dead k.waits))
+            (each-filter (λ (v : WaitingCall). is_file_on (next_trans (state_of a)) v ≡ false) (stays client (map.insert k.lives begun_trans begun_live)) (without_dead client k.dead k.waits)
+            (each-filter (λ (v : WaitingCall). is_file_on (next_trans (state_of a)) v ≡ false) (outlives client k.dead) k.waits away_next))
+            (each-filter (IsWaitingAs a.holder a.locked) (stays client (map.insert k.lives begun_trans begun_live)) (without_dead client k.dead k.waits)
+            (each-filter (IsWaitingAs a.holder a.locked) (outlives client k.dead) k.waits h.asked));
         quiet = leads.quiet;
         down = sym up;
       } in

@@ -31,9 +31,9 @@ use Rattle.alp_journal.proofs.CallLemmas.{call_entry}
 use Rattle.alp_journal.proofs.OwnEnds.{with_end, with_end_given, abort_leads, against_leads}
 use Rattle.alp_journal.proofs.TimeoutLemmas.{timeout_entry, with_timeout, with_timeout_given, late_aborts, timeout_leads}
 use Rattle.alp_journal.proofs.WaitLemmas.{without-given}
+use Rattle.alp_node.specs.Dead.{cause_in, without_part}
 use Rattle.alp_coord.specs.declared.coordinator.Coordinator.{Coordinator}
 use Rattle.alp_coord.specs.Coordinators.{IsAlong, Comes}
-use Rattle.alp_node.specs.Dead.{dead_in, without_part}
 use Rattle.alp_node.specs.Releases.{granted_if, granted_one, granted_all, granted_behind, let_go}
 use Rattle.alp_node.specs.ServerState.{IsAs, IsReady}
 use Rattle.alp_node.specs.Steps.{Stepped, IsTimely, IsTurn, entry_of, counted_in, ended, told_answer, refused_answer}
@@ -156,30 +156,30 @@ module _ {V : Type 0} (a : Account) (before now : ℕ) (held : Contents) (k : Se
     abbrev late_dead : ℕ → TransId → Option Cause
     late_dead d u = cond {A = Option Cause} (d == life.client && same_trans u t) (Some cause.TimedOut) (a.dead d u)
 
-    late_state : state_told a held k t m on h ready g late_fates a.sessions late_dead (state_then a held k t m on h ready g).waits k.sessions (k.dead ++ (record { client = l.client; trans = t }) ∷ []) (server_then a held k t m on h ready g).waits z
+    late_state : state_told a held k t m on h ready g late_fates a.sessions late_dead (state_then a held k t m on h ready g).waits k.sessions (k.dead ++ (record { client = l.client; trans = t; cause = cause.TimedOut }) ∷ []) (server_then a held k t m on h ready g).waits z
         ≡ with_timeout_given a t life (granted_behind k t)
     late_state = ap (with_granted (with_timeout a t life)) (sym (ap (granted_calls a.waits) g.woken ∙ g.calls))
 
     late_as : life.client ≡ l.client → k.is_down ≡ false → IsQuiet (with_timeout_given a t life (granted_behind k t))
-        → IsAs (with_timeout_given a t life (granted_behind k t)) held (record (let_go k t) { dead = k.dead ++ (record { client = l.client; trans = t }) ∷ []; coordinator = z })
+        → IsAs (with_timeout_given a t life (granted_behind k t)) held (record (let_go k t) { dead = k.dead ++ (record { client = l.client; trans = t; cause = cause.TimedOut }) ∷ []; coordinator = z })
     late_as its up quiet =
-        subst (λ (x : ServerState V). IsAs (with_timeout_given a t life (granted_behind k t)) held x) (sym (ap (λ (x : ServerState V). record x { dead = k.dead ++ (record { client = l.client; trans = t }) ∷ []; coordinator = z }) (let_go_is a held k t m on h ready g)))
-        (subst (λ (x : Account). IsAs x held (server_told a held k t m on h ready g late_fates a.sessions late_dead (state_then a held k t m on h ready g).waits k.sessions (k.dead ++ (record { client = l.client; trans = t }) ∷ []) (server_then a held k t m on h ready g).waits z)) late_state
-        (gone_as a held k t m on h ready g late_fates a.sessions late_dead (state_then a held k t m on h ready g).waits k.sessions (k.dead ++ (record { client = l.client; trans = t }) ∷ []) (server_then a held k t m on h ready g).waits z up
+        subst (λ (x : ServerState V). IsAs (with_timeout_given a t life (granted_behind k t)) held x) (sym (ap (λ (x : ServerState V). record x { dead = k.dead ++ (record { client = l.client; trans = t; cause = cause.TimedOut }) ∷ []; coordinator = z }) (let_go_is a held k t m on h ready g)))
+        (subst (λ (x : Account). IsAs x held (server_told a held k t m on h ready g late_fates a.sessions late_dead (state_then a held k t m on h ready g).waits k.sessions (k.dead ++ (record { client = l.client; trans = t; cause = cause.TimedOut }) ∷ []) (server_then a held k t m on h ready g).waits z)) late_state
+        (gone_as a held k t m on h ready g late_fates a.sessions late_dead (state_then a held k t m on h ready g).waits k.sessions (k.dead ++ (record { client = l.client; trans = t; cause = cause.TimedOut }) ∷ []) (server_then a held k t m on h ready g).waits z up
         (ended_by a.holder.server a.ids.epoch a.ids.transactions a.fates t cause.TimedOut k.coordinator z along ends h.coordinator)
         (plain_moved a.fates t (fate.ended cause.TimedOut) (ended_plain cause.TimedOut) h.plain) h.places h.sessions
         (λ d u. ap (cond {A = Option Cause} (d == life.client && same_trans u t) (Some cause.TimedOut)) (h.dead d u)
-        ∙ ap (λ (n : ℕ). cond {A = Option Cause} (d == n && same_trans u t) (Some cause.TimedOut) (dead_in k.dead d u)) its ∙ dead_then k.dead l.client t d u)
+        ∙ ap (λ (n : ℕ). cond {A = Option Cause} (d == n && same_trans u t) (Some cause.TimedOut) (cause_in k.dead d u)) its ∙ dead_then k.dead l.client t cause.TimedOut d u)
         g.all.waits g.all.asked g.queue (subst IsQuiet (sym late_state) quiet)))
 
   pub timeout_stepped : (l : Live) (x : Answer) (z : Coordinator) → IsAlong k.coordinator z → ((client : ℕ) → Comes (Ends t client cause.TimedOut) k.coordinator z) → k.is_down ≡ false → map.get k.lives t ≡ Some l → x ≡ told_answer None (act.Released t ∷ grant_acts (granted_behind k t))
-      → Stepped a before now held (record (let_go k t) { dead = k.dead ++ (record { client = l.client; trans = t }) ∷ []; coordinator = z }) (event.Timeout t) x
+      → Stepped a before now held (record (let_go k t) { dead = k.dead ++ (record { client = l.client; trans = t; cause = cause.TimedOut }) ∷ []; coordinator = z }) (event.Timeout t) x
   timeout_stepped l x z along ends up live so = go (gone a held k t m on h ready)
     where
       y : IsLive a.holder.cells k.locks.held (a.locked t) t l (a.holder.lives t)
       y = live_there a.holder.cells k.locks.held (a.locked t) t (map.get k.lives t) (a.holder.lives t) l live (h.lives t)
 
-      go : Gone a held k t → Stepped a before now held (record (let_go k t) { dead = k.dead ++ (record { client = l.client; trans = t }) ∷ []; coordinator = z }) (event.Timeout t) x
+      go : Gone a held k t → Stepped a before now held (record (let_go k t) { dead = k.dead ++ (record { client = l.client; trans = t; cause = cause.TimedOut }) ∷ []; coordinator = z }) (event.Timeout t) x
       go g =
           let sent = timeout_leads a t y.life h.quiet (h.down ∙ up) y.is (no_join a h.lone h.quiet.settled.stands t y.life y.is) (granted_behind k t)
           (subst (λ (ts : List TransId). IsWalk (with_timeout a t y.life).holder (in_turn (with_timeout a t y.life).holder a.waits) ts) (sym g.woken) g.walk) in

@@ -19,7 +19,7 @@ use Rattle.alp_journal.specs.declared.event.Event.TheVariants as event
 use Rattle.alp_journal.specs.Along.{Where}
 use Rattle.alp_journal.specs.Ids.{same_trans}
 use Rattle.alp_journal.specs.Coordinator.{Undrawn}
-use Rattle.alp_journal.specs.Desk.{Session, file_trans, is_of_part, waiting_of, without}
+use Rattle.alp_journal.specs.Desk.{Session, is_of_part, waiting_of, without}
 use Rattle.alp_journal.specs.Messages.{Mail, on_tick}
 use Rattle.alp_journal.specs.Answers.{Part, NoPart, AtEnd, part_at, at_part, First, IsFinishAnswer, finish_reply}
 use Rattle.alp_journal.specs.Account.{Account, state_of, IsQuiet, Leads}
@@ -28,9 +28,9 @@ use Rattle.alp_journal.proofs.TickLemmas.{tick_leads, force_leads}
 use Rattle.alp_journal.proofs.TimeoutLemmas.{as_it_was, idle_leads}
 use Rattle.alp_journal.proofs.QuietLemmas.{quiet_told, quiet_up, quiet_forgotten}
 use Rattle.alp_turns.proofs.MoveLemmas.{GoesIdle, queue_without}
-use Rattle.alp_coord.specs.Coordinators.{count_of}
-use Rattle.alp_node.specs.Dead.{is_dead, without_part}
+use Rattle.alp_node.specs.Dead.{cause_in, without_part}
 use Rattle.alp_node.specs.ServerState.{IsAs, IsReady, IsWaitingAs}
+use Rattle.alp_coord.specs.Coordinators.{count_of}
 use Rattle.alp_node.specs.Steps.{Stepped, IsTimely, IsTurn, entry_of, counted_in, told_answer, refused_answer}
 use Rattle.alp_node.specs.Waits.{is_of, without_calls_of}
 use Rattle.alp_node.specs.declared.waits.WaitingCall.{WaitingCall}
@@ -38,6 +38,7 @@ use Rattle.alp_node.proofs.GoneLemmas.{named_each, calls_gone, each_left, idle_c
 use Rattle.alp_node.specs.declared.answer.Answer.{Answer}
 use Rattle.alp_node.specs.declared.server_state.ServerState.{ServerState}
 use Rattle.alp_node.specs.declared.sessions.Turn.{Turn}
+use Rattle.alp_node.proofs.BesideLemmas.{AreNamed}
 use Rattle.alp_node.proofs.DeadLemmas.{part_left}
 use Rattle.alp_node.proofs.KeptLemmas.{sessions_as, session_of, session_then, stands_timely, none_live, stepped_so}
 use Rattle.alp_node.specs.Served.{IsIdleEvent}
@@ -93,7 +94,7 @@ module _ {V : Type 0} (a : Account) (held : Contents) (k : ServerState V) where
 
 module _ {V : Type 0} (a : Account) (before now : ℕ) (held : Contents) (k : ServerState V) (turn : Turn) (t : TransId) (commit : Bool) where
   -- what is answered where the server has no part of it
-  no_part_answer : IsAs a held k → standing_of turn.client (map.get k.lives t) (is_dead turn.client t k.dead) ≡ standing.Unknown → IsFinishAnswer false (state_of a) turn.client t commit (reply.Refused refusal.UnknownTrans)
+  no_part_answer : IsAs a held k → standing_of turn.client (map.get k.lives t) (cause_in k.dead turn.client t) ≡ standing.Unknown → IsFinishAnswer false (state_of a) turn.client t commit (reply.Refused refusal.UnknownTrans)
   no_part_answer h unknown = go (t.server == a.holder.server)
     where
       part : part_at (state_of a) turn.client t ≡ NoPart
@@ -122,11 +123,11 @@ module _ {V : Type 0} (a : Account) (before now : ℕ) (held : Contents) (k : Se
       (unknown_finish_leads a turn.client turn.number w t commit h.quiet (h.down ∙ up) (turn_session a held k turn h is) is.number none.deeds none.mail why)
       (counts_as a held k turn (reply.Refused refusal.UnknownTrans) h is up) (λ e. cc) (stands_timely a.holder.clock 0 k.clock h.clock)
 
-  pub unknown_stepped : (x : Answer) → IsAs a held k → IsTurn k.sessions turn → k.is_down ≡ false → standing_of turn.client (map.get k.lives t) (is_dead turn.client t k.dead) ≡ standing.Unknown
+  pub unknown_stepped : (x : Answer) → IsAs a held k → IsTurn k.sessions turn → k.is_down ≡ false → standing_of turn.client (map.get k.lives t) (cause_in k.dead turn.client t) ≡ standing.Unknown
       → x ≡ refused_answer refusal.UnknownTrans []
       → Stepped a before now held (record k { sessions = counted_in k.sessions turn (reply.Refused refusal.UnknownTrans) }) (event.Call turn.client k.epoch turn.number (call.Finish t commit)) x
   unknown_stepped x h is up unknown so =
-      unknown_so x h is up (finish_none a held k turn.client t commit (reply.Refused refusal.UnknownTrans) h (λ own. let wrong : standing.Unknown ≡ standing.Own = sym unknown ∙ own in cc)) (no_part_answer h unknown) so
+      unknown_so x h is up (finish_none a held k turn.client t commit (reply.Refused refusal.UnknownTrans) h (λ own. let wrong : standing.Unknown ≡ standing.Work = sym unknown ∙ own in cc)) (no_part_answer h unknown) so
 
   pub elsewhere_stepped : (x : Answer) → IsAs a held k → IsTurn k.sessions turn → k.is_down ≡ false → (t.server ≡ k.server → ⊥)
       → x ≡ refused_answer refusal.UnknownTrans []
@@ -136,25 +137,25 @@ module _ {V : Type 0} (a : Account) (before now : ℕ) (held : Contents) (k : Se
       unknown_so x h is up (subst (EndsNone turn.client t commit (state_of a).desk (reply.Refused refusal.UnknownTrans)) (sym (undrawn_elsewhere a held k turn.client t h far)) (none_running turn.client t commit (state_of a).desk (reply.Refused refusal.UnknownTrans) Undrawn tt))
       (elsewhere_answer far) so
 
-  -- it timed out, and its client is told
-  pub dead_stepped : (m : ℕ) (on : Bool) (x : Answer) → IsAs a held k → IsReady m on k → IsTurn k.sessions turn → k.is_down ≡ false → t.server ≡ k.server → standing_of turn.client (map.get k.lives t) (is_dead turn.client t k.dead) ≡ standing.Dead
-      → x ≡ refused_answer (refusal.Aborted cause.TimedOut) []
-      → Stepped a before now held (record k { sessions = counted_in k.sessions turn (reply.Refused (refusal.Aborted cause.TimedOut)); dead = without_part turn.client t k.dead; waits = without_calls_of turn.client t k.waits }) (event.Call turn.client k.epoch turn.number (call.Finish t commit)) x
-  dead_stepped m on x h ready is up here dead so =
+  -- it ended, and its client is told why
+  pub dead_stepped : (m : ℕ) (on : Bool) (c : Cause) (x : Answer) → IsAs a held k → IsReady m on k → IsTurn k.sessions turn → k.is_down ≡ false → t.server ≡ k.server → standing_of turn.client (map.get k.lives t) (cause_in k.dead turn.client t) ≡ standing.Ended c
+      → x ≡ refused_answer (refusal.Aborted c) []
+      → Stepped a before now held (record k { sessions = counted_in k.sessions turn (reply.Refused (refusal.Aborted c)); dead = without_part turn.client t k.dead; waits = without_calls_of turn.client t k.waits }) (event.Call turn.client k.epoch turn.number (call.Finish t commit)) x
+  dead_stepped m on c x h ready is up here dead so =
       let w : Session = session_of turn is in
-      let named : AllByRecursion (λ (v : WaitingCall). file_trans v.call ≡ Some v.trans) k.waits = named_each k.server k.epoch k.given (count_of k.coordinator) k.sizes k.lives k.waits ready.waits.calls in
-      let gone : a.holder.lives t ≡ None = none_live a.holder.cells k.locks.held (a.locked t) t (map.get k.lives t) (a.holder.lives t) (dead_gone turn.client (map.get k.lives t) (is_dead turn.client t k.dead) dead) (h.lives t) in
-      let r : Reply = reply.Refused (refusal.Aborted cause.TimedOut) in
-      let none : EndsNone turn.client t commit (state_of a).desk r (a.fates t) = finish_none a held k turn.client t commit r h (λ own. let wrong : standing.Dead ≡ standing.Own = sym dead ∙ own in cc) in
-      let part : part_at (state_of a) turn.client t ≡ AtEnd cause.TimedOut = part_is a held k turn.client t h ∙ ap part_of dead in
+      let named : AreNamed k.waits = named_each k.server k.epoch k.given (count_of k.coordinator) k.sizes k.lives k.waits ready.waits.calls in
+      let gone : a.holder.lives t ≡ None = none_live a.holder.cells k.locks.held (a.locked t) t (map.get k.lives t) (a.holder.lives t) (dead_gone turn.client (map.get k.lives t) (cause_in k.dead turn.client t) c dead) (h.lives t) in
+      let r : Reply = reply.Refused (refusal.Aborted c) in
+      let none : EndsNone turn.client t commit (state_of a).desk r (a.fates t) = finish_none a held k turn.client t commit r h (λ own. let wrong : standing.Ended c ≡ standing.Work = sym dead ∙ own in cc) in
+      let part : part_at (state_of a) turn.client t ≡ AtEnd c = part_is a held k turn.client t h ∙ ap part_of dead in
       let why : IsFinishAnswer false (state_of a) turn.client t commit r = subst (λ (b : Bool). Where b (First (at_part (commit && is_some (waiting_of (state_of a).desk turn.client t)) (part_at (state_of a) turn.client t)) r
       (r ≡ cond {A = Reply} commit (finish_reply false (state_of a) t (a.fates t)) (reply.Refused (refusal.Aborted cause.Asked))))
       (r ≡ reply.Refused refusal.UnknownTrans)) (sym (eq-eqb t.server a.holder.server (here ∙ sym h.server)))
       (subst (λ (p : Part). First (at_part (commit && is_some (waiting_of (state_of a).desk turn.client t)) p) r (r ≡ cond {A = Reply} commit (finish_reply false (state_of a) t (a.fates t)) (reply.Refused (refusal.Aborted cause.Asked)))) (sym part) refl) in
       let now_as : IsAs (counted_as a turn.client turn.number w r) held (record k { sessions = counted_in k.sessions turn r }) = counts_as a held k turn r h is up in
-      stepped_so a before now held held k (record k { sessions = counted_in k.sessions turn (reply.Refused (refusal.Aborted cause.TimedOut)); dead = without_part turn.client t k.dead; waits = without_calls_of turn.client t k.waits }) turn.client turn.number w (call.Finish t commit) false r []
+      stepped_so a before now held held k (record k { sessions = counted_in k.sessions turn (reply.Refused (refusal.Aborted c)); dead = without_part turn.client t k.dead; waits = without_calls_of turn.client t k.waits }) turn.client turn.number w (call.Finish t commit) false r []
       (without_dead a turn.client turn.number w t (counted_as a turn.client turn.number w r)) x so h
-      (dead_finish_leads a turn.client turn.number w t commit cause.TimedOut h.quiet (h.down ∙ up) (turn_session a held k turn h is) is.number none.deeds none.mail why)
+      (dead_finish_leads a turn.client turn.number w t commit c h.quiet (h.down ∙ up) (turn_session a held k turn h is) is.number none.deeds none.mail why)
       (record {
         server = h.server;
         sizes = h.sizes;

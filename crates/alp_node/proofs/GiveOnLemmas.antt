@@ -1,11 +1,13 @@
 -- what a server keeps where locks that were let go are given on: each grant is as the journal tells it
-use Rattle.std.specs.Prelude.{cond, Bool, true, false, Option, None, Some, find, map as list_map}
+use Rattle.std.specs.Prelude.{cond, Bool, true, false, Option, None, Some, is_some, find, map as list_map}
 use Rattle.std.specs.List.{AllByRecursion}
 use Rattle.std.specs.FinMap as map
 use Rattle.std.proofs.Common.{◌≡◌, List, [], ◌∷◌, length, refl, sym, ◌∙◌, ap, subst}
 use Rattle.alp_base.specs.declared.ids.TransId.{TransId}
 use Rattle.alp_base.specs.declared.key.Resource.{Resource}
 use Rattle.alp_base.specs.declared.faults.Sizes.{Sizes}
+use Rattle.alp_base.proofs.NameLemmas.{and_right}
+use Rattle.alp_files.specs.Act.{Own, no_opens}
 use Rattle.alp_files.specs.Apart.{IsWithin as AreWithin, OpensRead}
 use Rattle.alp_files.specs.Cells.{Cells}
 use Rattle.alp_files.specs.Edits.{Edit}
@@ -16,38 +18,39 @@ use Rattle.alp_files.specs.declared.call.Call.{Call}
 use Rattle.alp_files.proofs.CoverLemmas.{joined-more, granted-holds, granted-intended}
 use Rattle.alp_locks.specs.Tables.{Holders}
 use Rattle.alp_trans.specs.Counting.{AreCountsOf}
-use Rattle.alp_trans.specs.Parts.{own_of}
 use Rattle.alp_trans.specs.declared.part.Part.{Part}
 use Rattle.alp_journal.specs.Account.{Account, with_granted}
 use Rattle.alp_journal.specs.Counts.{lock_set, request_in, with_resources}
-use Rattle.alp_journal.specs.Desk.{Waiting, file_trans, grant_in, is_of as is_of_trans}
+use Rattle.alp_journal.specs.Desk.{Waiting, grant_in}
 use Rattle.alp_journal.specs.Holder.{Holder, Life, grants, held_for, view_in}
 use Rattle.alp_journal.specs.Ids.{same_trans}
-use Rattle.alp_journal.proofs.IdLemmas.{same_trans-itself, same_trans-true}
+use Rattle.alp_journal.proofs.IdLemmas.{same_trans-true}
 use Rattle.alp_turns.specs.Queues.{AreHeldAlike}
 use Rattle.alp_turns.proofs.AskedLemmas.{asked_again}
 use Rattle.alp_node.specs.Covers.{AreHeld, AreSizedEdits}
 use Rattle.alp_node.specs.Releases.{lock_if, granted_if, granted_one, granted_all}
-use Rattle.alp_node.specs.ServerState.{IsAlike, IsAskedAs, IsWaitingAs}
+use Rattle.alp_node.specs.ServerState.{IsCaller, IsAlike, IsAskedAs, IsWaitingAs}
 use Rattle.alp_node.specs.Totals.{HaveRoom, totals_of}
-use Rattle.alp_node.specs.Waits.{waiting, waiting_calls, locks_in, grant_one, grant_of}
+use Rattle.alp_node.specs.Waits.{waiting, waiting_calls, is_file_on, count_asked, locks_in, grant_one, grant_of, IsNamed}
 use Rattle.alp_node.specs.declared.lives.Live.{Live}
+use Rattle.alp_node.specs.declared.lock_counts.LockCounts.{LockCounts}
 use Rattle.alp_node.specs.declared.server_state.ServerState.{ServerState}
 use Rattle.alp_node.specs.declared.waits.WaitingCall.{WaitingCall}
+use Rattle.alp_node.proofs.BesideLemmas.{AreNamed, file_away, file_named}
 use Rattle.alp_node.proofs.CallLemmas.{IsUnder}
 use Rattle.alp_node.proofs.LockCountLemmas.{held_then, none_more}
 use Rattle.alp_node.proofs.MapLemmas.{get_put}
 use Rattle.alp_node.proofs.TotalLemmas.{same_room}
 use Rattle.alp_node.proofs.UnderLemmas.{under_more}
+use Rattle.alp_node.proofs.WaitLemmas.{find_each, file_at}
 
 -- ---- a part as the journal tells it, but for what the table says that it holds
 
 pub record IsLifeApart (cells : Cells) (locked : List Resource) (l : Live) (life : Life) : Type 0 where
   pub client : life.client ≡ l.client
-  pub who : life.who ≡ l.who
+  pub join : life.join ≡ l.join
   pub intents : l.part.intents ≡ intents_of life.edits
-  pub own : own_of l.part ≡ life.own
-  pub opens : OpensRead (Reads life.held) life.own.opens
+  pub calls : life.vote ≡ None → IsCaller l life
   pub counts : AreCountsOf cells life.edits l.part.counts
   pub within : AreWithin (Writes life.held) life.edits
   pub intended : IsIntended life.held
@@ -65,10 +68,9 @@ pub alike_apart : (cells : Cells) (locks : Holders) (locked : List Resource) (t 
 alike_apart cells locks locked t None None h = tt
 alike_apart cells locks locked t (Some l) (Some life) h = record {
   client = h.client;
-  who = h.who;
+  join = h.join;
   intents = h.intents;
-  own = h.own;
-  opens = h.opens;
+  calls = h.calls;
   counts = h.counts;
   within = h.within;
   intended = h.intended;
@@ -84,11 +86,10 @@ pub alike_with_held : (cells : Cells) (h : Holder) (locks : Holders) (locked : L
 alike_with_held cells h locks locked t None None held at a = held.none t at
 alike_with_held cells h locks locked t (Some l) (Some life) held at a = record {
   client = a.client;
-  who = a.who;
+  join = a.join;
   intents = a.intents;
-  own = a.own;
   held = held.live t life at;
-  opens = a.opens;
+  calls = a.calls;
   counts = a.counts;
   within = a.within;
   intended = a.intended;
@@ -106,16 +107,18 @@ alike_with_held cells h locks locked t (Some l) None held at a = absurd a
 pub record AreKept {V : Type 0} (P : TransId → Part → List Edit → Type 0) (cells : Cells) (sizes : Sizes) (room : Cells) (a : Account) (k : ServerState V) : Type 0 where
   pub lives : (t : TransId) → IsAlikeApart cells (a.locked t) (map.get k.lives t) (a.holder.lives t)
   pub waits : a.waits ≡ waiting_calls k.waits
-  pub named : AllByRecursion (λ (w : WaitingCall). file_trans w.call ≡ Some w.trans) k.waits
+  pub named : AreNamed k.waits
   pub asked : AllByRecursion (IsWaitingAs a.holder a.locked) k.waits
   pub fits : HaveRoom sizes room (totals_of k.lives)
   pub parts : (t : TransId) (l : Live) (life : Life) → map.get k.lives t ≡ Some l → a.holder.lives t ≡ Some life → P t l.part life.edits
 
--- a grant is of the one call on its transaction that the server keeps, and its part lives
+-- a grant is of the one file call on its transaction that the server keeps, and its part lives
 pub record HasCall {V : Type 0} (k : ServerState V) (g : TransId × Call) : Type 0 where
   pub waiting_call : WaitingCall
-  pub found : find (λ (w : WaitingCall). same_trans w.trans g.0) k.waits ≡ Some waiting_call
-  pub only : AllByRecursion (λ (w : WaitingCall). same_trans w.trans g.0 ≡ true → w.call ≡ g.1) k.waits
+  pub counts : LockCounts
+  pub counted : waiting_call.counts ≡ Some counts
+  pub found : find (is_file_on g.0) k.waits ≡ Some waiting_call
+  pub only : AllByRecursion (λ (w : WaitingCall). is_file_on g.0 w ≡ true → w.call ≡ g.1) k.waits
   pub live : Live
   pub there : map.get k.lives g.0 ≡ Some live
 
@@ -133,45 +136,33 @@ each_both : (P Q S : WaitingCall → Type 0) → ((w : WaitingCall) → P w → 
 each_both P Q S both [] a b = tt
 each_both P Q S both (w ∷ ws) a b = (both w a.0 b.0, each_both P Q S both ws a.1 b.1)
 
-found_holds : (P : WaitingCall → Type 0) (t : TransId) (ws : List WaitingCall) (w : WaitingCall) → find (λ (v : WaitingCall). same_trans v.trans t) ws ≡ Some w → AllByRecursion P ws → P w × (w.trans ≡ t)
-found_holds P t [] w is all = cc
-found_holds P t (v ∷ vs) w is all = go (same_trans v.trans t) refl is (found_holds P t vs w)
-  where
-    same : (x y : WaitingCall) → Some x ≡ Some y → x ≡ y
-    same x y e = cc
-
-    go : (b : Bool) → same_trans v.trans t ≡ b → cond {A = Option WaitingCall} b (Some v) (find (λ (x : WaitingCall). same_trans x.trans t) vs) ≡ Some w
-        → (find (λ (x : WaitingCall). same_trans x.trans t) vs ≡ Some w → AllByRecursion P vs → P w × (w.trans ≡ t)) → P w × (w.trans ≡ t)
-    go true e at rest = (subst P (same v w at) all.0, ap (λ (x : WaitingCall). x.trans) (sym (same v w at)) ∙ same_trans-true v.trans t e)
-    go false e at rest = rest at all.1
-
 -- the mark of a grant leaves who is found
-found_marked : (t u : TransId) (ws : List WaitingCall) (w : WaitingCall) → find (λ (v : WaitingCall). same_trans v.trans u) ws ≡ Some w → find (λ (v : WaitingCall). same_trans v.trans u) (grant_of t ws) ≡ Some (grant_one t w)
+found_marked : (t u : TransId) (ws : List WaitingCall) (w : WaitingCall) → find (is_file_on u) ws ≡ Some w → find (is_file_on u) (grant_of t ws) ≡ Some (grant_one t w)
 found_marked t u [] w is = cc
-found_marked t u (v ∷ vs) w is = (λ i. cond {A = Option WaitingCall} (trans_kept (same_trans v.trans t) i) (Some (grant_one t v)) (find (λ (x : WaitingCall). same_trans x.trans u) (grant_of t vs))) ∙ go (same_trans v.trans u) is (found_marked t u vs w)
+found_marked t u (v ∷ vs) w is = (λ i. cond {A = Option WaitingCall} (still_on (is_file_on t v) i) (Some (grant_one t v)) (find (is_file_on u) (grant_of t vs))) ∙ go (is_file_on u v) is (found_marked t u vs w)
   where
-    trans_kept : (b : Bool) → same_trans (cond {A = WaitingCall} b (record v { is_granted = true }) v).trans u ≡ same_trans v.trans u
-    trans_kept true = refl
-    trans_kept false = refl
+    still_on : (b : Bool) → is_file_on u (cond {A = WaitingCall} b (record v { is_granted = true }) v) ≡ is_file_on u v
+    still_on true = refl
+    still_on false = refl
 
     same : (x y : WaitingCall) → Some x ≡ Some y → x ≡ y
     same x y e = cc
 
-    go : (b : Bool) → cond {A = Option WaitingCall} b (Some v) (find (λ (x : WaitingCall). same_trans x.trans u) vs) ≡ Some w
-        → (find (λ (x : WaitingCall). same_trans x.trans u) vs ≡ Some w → find (λ (x : WaitingCall). same_trans x.trans u) (grant_of t vs) ≡ Some (grant_one t w))
-        → cond {A = Option WaitingCall} b (Some (grant_one t v)) (find (λ (x : WaitingCall). same_trans x.trans u) (grant_of t vs)) ≡ Some (grant_one t w)
+    go : (b : Bool) → cond {A = Option WaitingCall} b (Some v) (find (is_file_on u) vs) ≡ Some w
+        → (find (is_file_on u) vs ≡ Some w → find (is_file_on u) (grant_of t vs) ≡ Some (grant_one t w))
+        → cond {A = Option WaitingCall} b (Some (grant_one t v)) (find (is_file_on u) (grant_of t vs)) ≡ Some (grant_one t w)
     go true e rest = ap (λ (x : WaitingCall). Some (grant_one t x)) (same v w e)
     go false e rest = rest e
 
-call_kept : (t : TransId) (w : WaitingCall) → (grant_one t w).call ≡ w.call
-call_kept t w = go (same_trans w.trans t)
+counts_kept : (t : TransId) (w : WaitingCall) → (grant_one t w).counts ≡ w.counts
+counts_kept t w = go (is_file_on t w)
   where
-    go : (b : Bool) → (cond {A = WaitingCall} b (record w { is_granted = true }) w).call ≡ w.call
+    go : (b : Bool) → (cond {A = WaitingCall} b (record w { is_granted = true }) w).counts ≡ w.counts
     go true = refl
     go false = refl
 
 -- the marks are the journal's
-marked_alike : (t : TransId) (ws : List WaitingCall) → AllByRecursion (λ (w : WaitingCall). file_trans w.call ≡ Some w.trans) ws → list_map (grant_in t) (waiting_calls ws) ≡ waiting_calls (grant_of t ws)
+marked_alike : (t : TransId) (ws : List WaitingCall) → AreNamed ws → list_map (grant_in t) (waiting_calls ws) ≡ waiting_calls (grant_of t ws)
 marked_alike t [] all = refl
 marked_alike t (w ∷ ws) all = (λ i. one i ∷ marked_alike t ws all.1 i)
   where
@@ -180,7 +171,7 @@ marked_alike t (w ∷ ws) all = (λ i. one i ∷ marked_alike t ws all.1 i)
     go false = refl
 
     one : grant_in t (waiting w) ≡ waiting (grant_one t w)
-    one = ap (λ (x : Option TransId). cond {A = Waiting} (is_of_trans t x) (record (waiting w) { is_granted = true }) (waiting w)) all.0 ∙ go (same_trans w.trans t)
+    one = ap (λ (b : Bool). cond {A = Waiting} b (record (waiting w) { is_granted = true }) (waiting w)) (file_named t w all.0) ∙ go (is_file_on t w)
 
 module _ {V : Type 0} (P : TransId → Part → List Edit → Type 0) (cells : Cells) (sizes : Sizes) (room : Cells) (a : Account) (k : ServerState V) (t : TransId) (c : Call) where
   -- the journal behind the grant
@@ -223,43 +214,47 @@ module _ {V : Type 0} (P : TransId → Part → List Edit → Type 0) (cells : C
     abbrev w : WaitingCall
     w = x.waiting_call
 
-    its : IsWaitingAs a.holder a.locked w × (w.trans ≡ t)
-    its = found_holds (IsWaitingAs a.holder a.locked) t k.waits w x.found h.asked
+    its : IsWaitingAs a.holder a.locked w × (is_file_on t w ≡ true)
+    its = find_each (IsWaitingAs a.holder a.locked) (is_file_on t) k.waits w x.found h.asked
 
-    asked_of : IsAskedAs a.holder a.locked w life
-    asked_of = its.0 life (ap a.holder.lives its.1 ∙ lives_here.is)
+    its_at : w.trans ≡ t
+    its_at = file_at t w its.1
+
+    asked_of : IsAskedAs a.holder a.locked w x.counts life
+    asked_of = its.0 x.counts life x.counted (ap a.holder.lives its_at ∙ lives_here.is)
 
     call_is : w.call ≡ c
-    call_is = (found_holds (λ (v : WaitingCall). same_trans v.trans t ≡ true → v.call ≡ c) t k.waits w x.found x.only).0 (ap (λ (u : TransId). same_trans u t) its.1 ∙ same_trans-itself t)
+    call_is = (find_each (λ (v : WaitingCall). is_file_on t v ≡ true → v.call ≡ c) (is_file_on t) k.waits w x.found x.only).0 its.1
 
     -- so many are locked then
-    count_then : w.counts.asked ≡ length (with_resources asks (a.locked t))
-    count_then = asked_of.asked ∙ (λ i. length (with_resources (request_in a.holder (call_is i) (Some life)) (a.locked (its.1 i))))
+    count_then : x.counts.asked ≡ length (with_resources asks (a.locked t))
+    count_then = asked_of.asked ∙ (λ i. length (with_resources (request_in a.holder (call_is i) (Some life)) (a.locked (its_at i))))
 
     abbrev pub live_then : Live
-    live_then = record (x.live) { locks = w.counts.asked }
+    live_then = record (x.live) { locks = x.counts.asked }
 
     pub granted_is : granted_one k t ≡ record k { waits = grant_of t k.waits; lives = map.insert k.lives t live_then }
-    granted_is = ap (λ (o : Option WaitingCall). granted_if k t (locks_in o)) x.found ∙ ap (λ (o : Option Live). record k { waits = grant_of t k.waits; lives = lock_if k.lives t w.counts.asked o }) x.there
+    granted_is =
+        ap (λ (o : Option WaitingCall). granted_if k t (locks_in o)) x.found ∙ ap (λ (z : Option LockCounts). granted_if k t (count_asked z)) x.counted
+        ∙ ap (λ (o : Option Live). record k { waits = grant_of t k.waits; lives = lock_if k.lives t x.counts.asked o }) x.there
 
-    under : IsUnder (held_for a.holder life c) life.own life.edits
-    under =
+    under : (own : Own) → OpensRead (Reads life.held) own.opens → IsUnder (held_for a.holder life c) own life.edits
+    under own opens =
         let l : IsLifeApart cells (a.locked t) x.live life = lives_here.apart in
-        under_more life.held (held_for a.holder life c) (joined-more life.held asks) (granted-intended life.held (needs_of (view_in a.holder life) life.own c) l.intended) life.own life.edits
-        (record { opens = l.opens; within = l.within; intended = l.intended; sized = l.sized })
+        under_more life.held (held_for a.holder life c) (joined-more life.held asks) (granted-intended life.held (needs_of (view_in a.holder life) life.own c) l.intended) own life.edits
+        (record { opens = opens; within = l.within; intended = l.intended; sized = l.sized })
 
     apart_then : IsLifeApart cells (with_resources asks (a.locked t)) live_then life_then
     apart_then =
         let l : IsLifeApart cells (a.locked t) x.live life = lives_here.apart in
         record {
           client = l.client;
-          who = l.who;
+          join = l.join;
           intents = l.intents;
-          own = l.own;
-          opens = IsUnder.opens under;
+          calls = λ none. (let o : IsCaller x.live life = l.calls none in record { who = o.who; own = o.own; opens = IsUnder.opens (under life.own o.opens) });
           counts = l.counts;
-          within = IsUnder.within under;
-          intended = IsUnder.intended under;
+          within = IsUnder.within (under no_opens tt);
+          intended = IsUnder.intended (under no_opens tt);
           sized = l.sized;
           count = count_then;
           known = held_then life.held asks (a.locked t) l.known;
@@ -281,8 +276,8 @@ module _ {V : Type 0} (P : TransId → Part → List Edit → Type 0) (cells : C
         go false = h.lives u
 
     -- what a call asks behind the grant
-    asked_then : (v : WaitingCall) → (same_trans v.trans t ≡ true → v.call ≡ c) → IsWaitingAs a.holder a.locked v → IsWaitingAs (state_with (Some life)).holder (state_with (Some life)).locked (grant_one t v)
-    asked_then v only before = go (same_trans v.trans t) refl
+    asked_then : (v : WaitingCall) → (is_file_on t v ≡ true → v.call ≡ c) → IsWaitingAs a.holder a.locked v → IsWaitingAs (state_with (Some life)).holder (state_with (Some life)).locked (grant_one t v)
+    asked_then v only before = go (is_file_on t v) refl
       where
         none_again : (l : Life) → l ≡ life_then → (d : Call) → d ≡ c → with_resources (request_in (state_with (Some life)).holder d (Some l)) (with_resources asks (a.locked t)) ≡ with_resources asks (a.locked t)
         none_again l is d same =
@@ -290,9 +285,9 @@ module _ {V : Type 0} (P : TransId → Part → List Edit → Type 0) (cells : C
             ∙ none_more (held_for a.holder life c) (request_in (state_with (Some life)).holder c (Some life_then)) (with_resources asks (a.locked t)) (held_then life.held asks (a.locked t) lives_here.apart.known)
             (asked_again life.held (needs_of (view_in a.holder life) life.own c))
 
-        mine : (l : Life) → l ≡ life_then → v.trans ≡ t → v.call ≡ c → IsAskedAs a.holder a.locked v life → same_trans v.trans t ≡ true → IsAskedAs (state_with (Some life)).holder (state_with (Some life)).locked (record v { is_granted = true }) l
-        mine l is at same asked e = record {
-          asked = asked.asked ∙ (λ i. length (with_resources (request_in a.holder (same i) (Some life)) (a.locked (at i))))
+        mine : (n : LockCounts) (l : Life) → l ≡ life_then → v.trans ≡ t → v.call ≡ c → IsAskedAs a.holder a.locked v n life → same_trans v.trans t ≡ true → IsAskedAs (state_with (Some life)).holder (state_with (Some life)).locked (record v { is_granted = true }) n l
+        mine n l is its_trans same asked e = record {
+          asked = asked.asked ∙ (λ i. length (with_resources (request_in a.holder (same i) (Some life)) (a.locked (its_trans i))))
               ∙ ap (λ (rs : List Resource). length rs) (sym (none_again l is v.call same))
               ∙ sym (ap (λ (b : Bool). length (with_resources (request_in (state_with (Some life)).holder v.call (Some l)) (cond {A = List Resource} b (with_resources asks (a.locked t)) (a.locked v.trans)))) e);
           made = asked.made;
@@ -300,27 +295,29 @@ module _ {V : Type 0} (P : TransId → Part → List Edit → Type 0) (cells : C
               (subst (λ (z : Life). HoldsEach z.held (needs_of (view_in (state_with (Some life)).holder z) z.own c)) (sym is) (granted-holds life.held (needs_of (view_in a.holder life) life.own c)));
         }
 
-        go : (b : Bool) → same_trans v.trans t ≡ b → IsWaitingAs (state_with (Some life)).holder (state_with (Some life)).locked (cond {A = WaitingCall} b (record v { is_granted = true }) v)
-        go true e l is =
-            let at : v.trans ≡ t = same_trans-true v.trans t e in
-            let now : Some life_then ≡ Some l = ap (λ (b : Bool). cond {A = Option Life} b (Some life_then) (a.holder.lives v.trans)) (sym e) ∙ is in
-            mine l (sym (same_life life_then l now)) at (only e) (before life (ap a.holder.lives at ∙ lives_here.is)) e
-        go false e l is =
-            let b : IsAskedAs a.holder a.locked v l = before l (ap (λ (y : Bool). cond {A = Option Life} y (Some life_then) (a.holder.lives v.trans)) (sym e) ∙ is) in
+        go : (b : Bool) → is_file_on t v ≡ b → IsWaitingAs (state_with (Some life)).holder (state_with (Some life)).locked (cond {A = WaitingCall} b (record v { is_granted = true }) v)
+        go true e n l counted is =
+            let of : same_trans v.trans t ≡ true = and_right (is_some v.counts) (same_trans v.trans t) e in
+            let its_trans : v.trans ≡ t = file_at t v e in
+            let now : Some life_then ≡ Some l = ap (λ (b : Bool). cond {A = Option Life} b (Some life_then) (a.holder.lives v.trans)) (sym of) ∙ is in
+            mine n l (sym (same_life life_then l now)) its_trans (only e) (before n life counted (ap a.holder.lives its_trans ∙ lives_here.is)) of
+        go false e n l counted is =
+            let off : same_trans v.trans t ≡ false = file_away v n t counted e in
+            let b : IsAskedAs a.holder a.locked v n l = before n l counted (ap (λ (y : Bool). cond {A = Option Life} y (Some life_then) (a.holder.lives v.trans)) (sym off) ∙ is) in
             record {
-              asked = b.asked ∙ sym (ap (λ (y : Bool). length (with_resources (request_in a.holder v.call (Some l)) (cond {A = List Resource} y (with_resources asks (a.locked t)) (a.locked v.trans)))) e);
+              asked = b.asked ∙ sym (ap (λ (y : Bool). length (with_resources (request_in a.holder v.call (Some l)) (cond {A = List Resource} y (with_resources asks (a.locked t)) (a.locked v.trans)))) off);
               made = b.made;
               covered = b.covered;
             }
 
-    asked_each : (vs : List WaitingCall) → AllByRecursion (λ (v : WaitingCall). same_trans v.trans t ≡ true → v.call ≡ c) vs → AllByRecursion (IsWaitingAs a.holder a.locked) vs → AllByRecursion (IsWaitingAs (state_with (Some life)).holder (state_with (Some life)).locked) (grant_of t vs)
+    asked_each : (vs : List WaitingCall) → AllByRecursion (λ (v : WaitingCall). is_file_on t v ≡ true → v.call ≡ c) vs → AllByRecursion (IsWaitingAs a.holder a.locked) vs → AllByRecursion (IsWaitingAs (state_with (Some life)).holder (state_with (Some life)).locked) (grant_of t vs)
     asked_each [] only all = tt
     asked_each (v ∷ vs) only all = (asked_then v only.0 all.0, asked_each vs only.1 all.1)
 
-    named_kept : (v : WaitingCall) → file_trans v.call ≡ Some v.trans → file_trans (grant_one t v).call ≡ Some (grant_one t v).trans
-    named_kept v of = go (same_trans v.trans t)
+    named_kept : (v : WaitingCall) → IsNamed v → IsNamed (grant_one t v)
+    named_kept v of = go (is_file_on t v)
       where
-        go : (b : Bool) → file_trans (cond {A = WaitingCall} b (record v { is_granted = true }) v).call ≡ Some (cond {A = WaitingCall} b (record v { is_granted = true }) v).trans
+        go : (b : Bool) → IsNamed (cond {A = WaitingCall} b (record v { is_granted = true }) v)
         go true = of
         go false = of
 
@@ -337,7 +334,7 @@ module _ {V : Type 0} (P : TransId → Part → List Edit → Type 0) (cells : C
     kept_with = record {
       lives = lives_then;
       waits = ap (list_map (grant_in t)) h.waits ∙ marked_alike t k.waits h.named;
-      named = each_marked (λ (v : WaitingCall). file_trans v.call ≡ Some v.trans) (λ (v : WaitingCall). file_trans v.call ≡ Some v.trans) t named_kept k.waits h.named;
+      named = each_marked IsNamed IsNamed t named_kept k.waits h.named;
       asked = asked_each k.waits x.only h.asked;
       fits = same_room sizes room k.lives t x.live live_then x.there refl h.fits;
       parts = parts_then;
@@ -352,16 +349,18 @@ module _ {V : Type 0} (P : TransId → Part → List Edit → Type 0) (cells : C
     pub call_there : (g : TransId × Call) → HasCall k g → HasCall (granted_one k t) g
     call_there g y = subst (λ (z : ServerState V). HasCall z g) (sym granted_is) (record {
       waiting_call = grant_one t y.waiting_call;
+      counts = y.counts;
+      counted = counts_kept t y.waiting_call ∙ y.counted;
       found = found_marked t g.0 k.waits y.waiting_call y.found;
-      only = each_marked (λ (v : WaitingCall). same_trans v.trans g.0 ≡ true → v.call ≡ g.1) (λ (v : WaitingCall). same_trans v.trans g.0 ≡ true → v.call ≡ g.1) t only_kept k.waits y.only;
+      only = each_marked (λ (v : WaitingCall). is_file_on g.0 v ≡ true → v.call ≡ g.1) (λ (v : WaitingCall). is_file_on g.0 v ≡ true → v.call ≡ g.1) t only_kept k.waits y.only;
       live = IsThere.live there_then;
       there = IsThere.is there_then;
     })
       where
-        only_kept : (v : WaitingCall) → (same_trans v.trans g.0 ≡ true → v.call ≡ g.1) → same_trans (grant_one t v).trans g.0 ≡ true → (grant_one t v).call ≡ g.1
-        only_kept v only = go (same_trans v.trans t)
+        only_kept : (v : WaitingCall) → (is_file_on g.0 v ≡ true → v.call ≡ g.1) → is_file_on g.0 (grant_one t v) ≡ true → (grant_one t v).call ≡ g.1
+        only_kept v only = go (is_file_on t v)
           where
-            go : (b : Bool) → same_trans (cond {A = WaitingCall} b (record v { is_granted = true }) v).trans g.0 ≡ true → (cond {A = WaitingCall} b (record v { is_granted = true }) v).call ≡ g.1
+            go : (b : Bool) → is_file_on g.0 (cond {A = WaitingCall} b (record v { is_granted = true }) v) ≡ true → (cond {A = WaitingCall} b (record v { is_granted = true }) v).call ≡ g.1
             go true e = only e
             go false e = only e
 

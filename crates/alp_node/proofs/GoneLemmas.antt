@@ -1,5 +1,5 @@
 -- a part goes, and its locks are given on: what the server keeps behind it
-use Rattle.std.specs.Prelude.{cond, Bool, true, false, not, ◌&&◌, ◌==◌, Option, None, Some, IsSome, find, filter}
+use Rattle.std.specs.Prelude.{cond, Bool, true, false, not, ◌&&◌, ◌==◌, Option, None, Some, IsSome, is_some, find, filter}
 use Rattle.std.specs.List.{AllByRecursion}
 use Rattle.std.specs.Ordering.{eq_by_cmp}
 use Rattle.std.specs.FinMap as map
@@ -16,7 +16,6 @@ use Rattle.alp_files.specs.History.{Decided}
 use Rattle.alp_files.specs.Holdings.{agree_held}
 use Rattle.alp_files.specs.Locks.{HoldsEach, needs_of, request_of}
 use Rattle.alp_files.specs.declared.call.Call.{Call}
-use Rattle.alp_files.specs.declared.call.Call.TheVariants as call
 use Rattle.alp_files.specs.declared.refusal.Cause.{Cause}
 use Rattle.alp_files.proofs.HoldingLemmas.{agree-turned}
 use Rattle.alp_locks.specs.Releases.{released, walked}
@@ -30,7 +29,7 @@ use Rattle.alp_journal.specs.Account.{Account, AreApart, AreTwo, IsQuiet, with_g
 use Rattle.alp_journal.specs.Answered.{in_turn, IsWalk}
 use Rattle.alp_journal.specs.Counts.{lock_set, request_in, with_resources}
 use Rattle.alp_journal.specs.Coordinator.{Fate}
-use Rattle.alp_journal.specs.Desk.{Session, Waiting, file_trans, part_trans, is_of as is_of_trans, is_of_part, without}
+use Rattle.alp_journal.specs.Desk.{Session, Waiting, file_trans, is_of_part, without}
 use Rattle.alp_journal.specs.Holder.{Holder, Life, with_life, view_in, grants, held_for}
 use Rattle.alp_journal.specs.Ids.{same_trans}
 use Rattle.alp_journal.specs.Moves.{call_of}
@@ -40,29 +39,32 @@ use Rattle.alp_turns.specs.Queues.{AreHeldAlike, AreCallsApart, IsOnOther, reque
 use Rattle.alp_turns.proofs.MoveLemmas.{GoesIdle, IsGone, StandsStill, queue_gone, queue_without}
 use Rattle.alp_turns.proofs.QueueLemmas.{gives_on}
 use Rattle.alp_turns.proofs.RequestLemmas.{tied_same}
+use Rattle.alp_node.specs.Decisions.{IsPlain}
+use Rattle.alp_node.specs.Dead.{cause_in}
 use Rattle.alp_coord.specs.declared.coordinator.Coordinator.{Coordinator}
 use Rattle.alp_coord.specs.Coordinators.{count_of}
-use Rattle.alp_node.specs.Decisions.{IsPlain}
-use Rattle.alp_node.specs.Dead.{dead_in}
 use Rattle.alp_node.specs.Releases.{granted_if, granted_one, granted_all, granted_behind, let_go}
 use Rattle.alp_node.specs.Sessions.{session_at}
 use Rattle.alp_node.specs.ServerState.{IsAs, IsReady, IsLife, IsAlike, IsAskedAs, IsWaitingAs, PutNoneBeyond}
 use Rattle.alp_node.specs.Totals.{LiveMap, HaveRoom, totals_of}
+use Rattle.alp_node.specs.Waits.{waiting, waiting_calls, is_of, is_file_on, locks_of, without_calls_of, IsCallBy, IsWaitingCall, IsOfOther, AreApart as AreCallsOnce}
 use Rattle.alp_node.specs.Transactions.{IsCoordinatorBy}
-use Rattle.alp_node.specs.Waits.{waiting, waiting_calls, is_of, locks_of, without_calls_of, IsWaitingCall, IsOfOther, AreApart as AreCallsOnce}
 use Rattle.alp_node.specs.declared.lives.Live.{Live}
+use Rattle.alp_node.specs.declared.lock_counts.LockCounts.{LockCounts}
 use Rattle.alp_node.specs.declared.server_state.ServerState.{ServerState}
 use Rattle.alp_node.specs.declared.dead.DeadPart.{DeadPart}
 use Rattle.alp_node.specs.declared.sessions.Sessions.{Sessions}
 use Rattle.alp_node.specs.declared.waits.WaitingCall.{WaitingCall}
+use Rattle.alp_node.proofs.BesideLemmas.{AreNamed, file_named, part_alike}
 use Rattle.alp_node.proofs.GiveOnLemmas.{IsAlikeApart, alike_apart, alike_with_held, AreKept, HasCall, all_granted}
 use Rattle.alp_node.proofs.MapLemmas.{get_gone}
 use Rattle.alp_node.proofs.TotalLemmas.{gone_room}
+use Rattle.alp_node.proofs.WaitLemmas.{counts_there, file_counts, file_at}
 
 -- ---- the call of a grant is one that the server keeps
 
 pub named_each : (server epoch given drawn : ℕ) (sizes : Sizes) (lives : LiveMap) (ws : List WaitingCall) → AllByRecursion (IsWaitingCall server epoch given drawn sizes lives) ws
-    → AllByRecursion (λ (w : WaitingCall). file_trans w.call ≡ Some w.trans) ws
+    → AreNamed ws
 named_each server epoch given drawn sizes lives [] all = tt
 named_each server epoch given drawn sizes lives (w ∷ ws) all = (all.0.named, named_each server epoch given drawn sizes lives ws all.1)
 
@@ -72,29 +74,34 @@ gone_of k t = record k { lives = map.remove k.lives t; locks = record (released 
 
 record IsFound (t : TransId) (c : Call) (ws : List WaitingCall) : Type 0 where
   its : WaitingCall
-  found : find (λ (w : WaitingCall). same_trans w.trans t) ws ≡ Some its
+  counts : LockCounts
+  counted : its.counts ≡ Some counts
+  found : find (is_file_on t) ws ≡ Some its
   call : its.call ≡ c
-  only : AllByRecursion (λ (w : WaitingCall). same_trans w.trans t ≡ true → w.call ≡ c) ws
+  only : AllByRecursion (λ (w : WaitingCall). is_file_on t w ≡ true → w.call ≡ c) ws
 
-others_only : (t : TransId) (c : Call) (w : WaitingCall) (ws : List WaitingCall) → same_trans w.trans t ≡ true → AllByRecursion (IsOfOther w) ws → AllByRecursion (λ (v : WaitingCall). same_trans v.trans t ≡ true → v.call ≡ c) ws
+others_only : (t : TransId) (c : Call) (w : WaitingCall) (ws : List WaitingCall) → is_file_on t w ≡ true → AllByRecursion (IsOfOther w) ws → AllByRecursion (λ (v : WaitingCall). is_file_on t v ≡ true → v.call ≡ c) ws
 others_only t c w [] at all = tt
 others_only t c w (v ∷ vs) at all = (
-  λ e. let wrong : true ≡ false = sym (ap (same_trans v.trans) (same_trans-true w.trans t at) ∙ e) ∙ all.0 in cc,
+  λ e. let both : (is_some w.counts && is_file_on w.trans v) ≡ is_file_on t v = (λ i. file_counts t w at i && is_file_on (file_at t w at i) v) in
+      let wrong : true ≡ false = sym (both ∙ e) ∙ all.0.files in cc,
   others_only t c w vs at all.1,
 )
 
-found_call : (t : TransId) (c : Call) (ws : List WaitingCall) → AllByRecursion (λ (w : WaitingCall). file_trans w.call ≡ Some w.trans) ws → AreCallsOnce ws → call_on (waiting_calls ws) t ≡ Some c → IsFound t c ws
+found_call : (t : TransId) (c : Call) (ws : List WaitingCall) → AreNamed ws → AreCallsOnce ws → call_on (waiting_calls ws) t ≡ Some c → IsFound t c ws
 found_call t c [] named once is = cc
-found_call t c (w ∷ ws) named once is = go (same_trans w.trans t) refl (sym (ap (λ (x : Option TransId). call_of (cond {A = Option Waiting} (is_of_trans t x) (Some (waiting w)) (find (is_on_trans t) (waiting_calls ws)))) named.0) ∙ is) (found_call t c ws named.1 once.1)
+found_call t c (w ∷ ws) named once is = go (is_file_on t w) refl (sym (ap (λ (b : Bool). call_of (cond {A = Option Waiting} b (Some (waiting w)) (find (is_on_trans t) (waiting_calls ws)))) (file_named t w named.0)) ∙ is) (found_call t c ws named.1 once.1)
   where
     some_call : (x y : Call) → Some x ≡ Some y → x ≡ y
     some_call x y e = cc
 
-    go : (b : Bool) → same_trans w.trans t ≡ b → call_of (cond {A = Option Waiting} b (Some (waiting w)) (find (is_on_trans t) (waiting_calls ws))) ≡ Some c
+    go : (b : Bool) → is_file_on t w ≡ b → call_of (cond {A = Option Waiting} b (Some (waiting w)) (find (is_on_trans t) (waiting_calls ws))) ≡ Some c
         → (call_on (waiting_calls ws) t ≡ Some c → IsFound t c ws) → IsFound t c (w ∷ ws)
     go true e at rest = record {
       its = w;
-      found = ap (λ (b : Bool). cond {A = Option WaitingCall} b (Some w) (find (λ (v : WaitingCall). same_trans v.trans t) ws)) e;
+      counts = (counts_there w.counts (file_counts t w e)).0;
+      counted = (counts_there w.counts (file_counts t w e)).1;
+      found = ap (λ (b : Bool). cond {A = Option WaitingCall} b (Some w) (find (is_file_on t) ws)) e;
       call = some_call w.call c at;
       only = ((λ f. some_call w.call c at), others_only t c w ws e once.0);
     }
@@ -103,7 +110,9 @@ found_call t c (w ∷ ws) named once is = go (same_trans w.trans t) refl (sym (a
         more : IsFound t c ws → IsFound t c (w ∷ ws)
         more f = record {
           its = f.its;
-          found = ap (λ (b : Bool). cond {A = Option WaitingCall} b (Some w) (find (λ (v : WaitingCall). same_trans v.trans t) ws)) e ∙ f.found;
+          counts = f.counts;
+          counted = f.counted;
+          found = ap (λ (b : Bool). cond {A = Option WaitingCall} b (Some w) (find (is_file_on t) ws)) e ∙ f.found;
           call = f.call;
           only = ((λ x. let wrong : true ≡ false = sym x ∙ e in cc), f.only);
         }
@@ -166,16 +175,11 @@ still_gone t (g ∷ gs) h none = still_gone t gs (grants h g.0 g.1 (h.lives g.0)
 
 -- ---- the calls of the part go
 
-pub part_of_file : (c : Call) (t : TransId) → file_trans c ≡ Some t → part_trans c ≡ Some t
-part_of_file (call.Join u) t is = cc
-part_of_file (call.Finish u commit) t is = cc
-part_of_file c t is = is
-
-pub calls_gone : (client : ℕ) (t : TransId) (ws : List WaitingCall) → AllByRecursion (λ (w : WaitingCall). file_trans w.call ≡ Some w.trans) ws → without (is_of_part client t) (waiting_calls ws) ≡ waiting_calls (without_calls_of client t ws)
+pub calls_gone : (client : ℕ) (t : TransId) (ws : List WaitingCall) → AreNamed ws → without (is_of_part client t) (waiting_calls ws) ≡ waiting_calls (without_calls_of client t ws)
 calls_gone client t [] named = refl
 calls_gone client t (w ∷ ws) named =
-    ap (λ (x : Option TransId). cond {A = List Waiting} (not (w.client == client && is_of_trans t x)) (waiting w ∷ without (is_of_part client t) (waiting_calls ws)) (without (is_of_part client t) (waiting_calls ws))) (part_of_file w.call w.trans named.0)
-    ∙ go (w.client == client && same_trans w.trans t) (calls_gone client t ws named.1)
+    ap (λ (b : Bool). cond {A = List Waiting} (not b) (waiting w ∷ without (is_of_part client t) (waiting_calls ws)) (without (is_of_part client t) (waiting_calls ws))) (part_alike client t w named.0)
+    ∙ go (is_of client t w) (calls_gone client t ws named.1)
   where
     go : (b : Bool) → without (is_of_part client t) (waiting_calls ws) ≡ waiting_calls (without_calls_of client t ws)
         → cond {A = List Waiting} (not b) (waiting w ∷ without (is_of_part client t) (waiting_calls ws)) (without (is_of_part client t) (waiting_calls ws)) ≡ waiting_calls (cond {A = List WaitingCall} (not b) (w ∷ without_calls_of client t ws) (without_calls_of client t ws))
@@ -191,7 +195,7 @@ each_left P p (w ∷ ws) all = go (p w) (each_left P p ws all.1)
     go false rest = rest
 
 -- what they ask for is nothing any more
-pub idle_calls : (h : Holder) (parts : Holders) (client : ℕ) (t : TransId) → h.lives t ≡ None → (ws : List WaitingCall) → AllByRecursion (λ (w : WaitingCall). file_trans w.call ≡ Some w.trans) ws → AllByRecursion (GoesIdle h parts (is_of_part client t)) (waiting_calls ws)
+pub idle_calls : (h : Holder) (parts : Holders) (client : ℕ) (t : TransId) → h.lives t ≡ None → (ws : List WaitingCall) → AreNamed ws → AllByRecursion (GoesIdle h parts (is_of_part client t)) (waiting_calls ws)
 idle_calls h parts client t none [] named = tt
 idle_calls h parts client t none (w ∷ ws) named = (one, idle_calls h parts client t none ws named.1)
   where
@@ -199,10 +203,12 @@ idle_calls h parts client t none (w ∷ ws) named = (one, idle_calls h parts cli
     second true b e = e
     second false b e = cc
 
+    by : same_trans w.trans t ≡ true → (x : Option LockCounts) → IsCallBy w.call w.trans x → request_at h parts (waiting w) (file_trans w.call) ≡ []
+    by same None k = ap (request_at h parts (waiting w)) k.0
+    by same (Some n) k = ap (request_at h parts (waiting w)) k ∙ ap (request_for h parts (waiting w) w.trans) (ap h.lives (same_trans-true w.trans t same) ∙ none)
+
     one : is_of_part client t (waiting w) ≡ true → request_at h parts (waiting w) (file_trans w.call) ≡ []
-    one e =
-        let same : same_trans w.trans t ≡ true = sym (ap (is_of_trans t) (part_of_file w.call w.trans named.0)) ∙ second (w.client == client) (is_of_trans t (part_trans w.call)) e in
-        ap (request_at h parts (waiting w)) named.0 ∙ ap (request_for h parts (waiting w) w.trans) (ap h.lives (same_trans-true w.trans t same) ∙ none)
+    one e = by (second (w.client == client) (same_trans w.trans t) (sym (part_alike client t w named.0) ∙ e)) w.counts named.0
 
 -- ---- the part goes
 
@@ -295,12 +301,12 @@ module _ {V : Type 0} (a : Account) (held : Contents) (k : ServerState V) (t : T
 
     kept_asked : (ws : List WaitingCall) → AllByRecursion (IsWaitingAs a.holder a.locked) ws → AllByRecursion (IsWaitingAs state_gone.holder state_gone.locked) ws
     kept_asked [] all = tt
-    kept_asked (w ∷ ws) all = ((λ l is. go l (same_trans w.trans t) refl is), kept_asked ws all.1)
+    kept_asked (w ∷ ws) all = ((λ n l counted is. go n l counted (same_trans w.trans t) refl is), kept_asked ws all.1)
       where
-        go : (l : Life) (b : Bool) → same_trans w.trans t ≡ b → cond {A = Option Life} b None (a.holder.lives w.trans) ≡ Some l → IsAskedAs state_gone.holder state_gone.locked w l
-        go l true e is = let wrong : None ≡ Some l = is in cc
-        go l false e is =
-            let was : IsAskedAs a.holder a.locked w l = all.0 l is in
+        go : (n : LockCounts) (l : Life) → w.counts ≡ Some n → (b : Bool) → same_trans w.trans t ≡ b → cond {A = Option Life} b None (a.holder.lives w.trans) ≡ Some l → IsAskedAs state_gone.holder state_gone.locked w n l
+        go n l counted true e is = let wrong : None ≡ Some l = is in cc
+        go n l counted false e is =
+            let was : IsAskedAs a.holder a.locked w n l = all.0 n l counted is in
             let same : needs_of (view_in holder_gone l) l.own w.call ≡ needs_of (view_in a.holder l) l.own w.call = stand w.trans l w.call is e in
             record {
               asked = was.asked ∙ (λ i. length (with_resources (request_of l.held (sym same i)) (a.locked w.trans)))
@@ -337,7 +343,7 @@ module _ {V : Type 0} (a : Account) (held : Contents) (k : ServerState V) (t : T
         go f None None at some alike = cc
         go f None (Some l) at some alike = absurd alike
         go f (Some z) None at some alike = absurd alike
-        go f (Some z) (Some l) at some alike = record { waiting_call = f.its; found = f.found; only = f.only; live = z; there = at }
+        go f (Some z) (Some l) at some alike = record { waiting_call = f.its; counts = f.counts; counted = f.counted; found = f.found; only = f.only; live = z; there = at }
 
     calls_there : (gs : List (TransId × Call)) → AllByRecursion (λ (g : TransId × Call). call_on a.waits g.0 ≡ Some g.1) gs → AllByRecursion (λ (u : TransId). IsSome (holder_gone.lives u)) (trans_in gs) → AllByRecursion (HasCall (gone_of k t)) gs
     calls_there [] called living = tt
@@ -399,7 +405,7 @@ module _ {V : Type 0} (a : Account) (held : Contents) (k : ServerState V) (t : T
         server_told = record k { lives = server_then.lives; locks = record (released k.locks t) { woken = [] }; sessions = kept_sessions; dead = kept_dead; waits = kept_waits; coordinator = c }
 
         pub gone_as : k.is_down ≡ false → IsCoordinatorBy a.holder.server a.ids.epoch a.ids.transactions fates c → ((u : TransId) → IsPlain (fates u))
-            → length kept_sessions.places ≡ 17 → ((client : ℕ) → sessions client ≡ session_at kept_sessions client) → ((client : ℕ) (u : TransId) → dead client u ≡ dead_in kept_dead client u)
+            → length kept_sessions.places ≡ 17 → ((client : ℕ) → sessions client ≡ session_at kept_sessions client) → ((client : ℕ) (u : TransId) → dead client u ≡ cause_in kept_dead client u)
             → waits ≡ waiting_calls kept_waits → AllByRecursion (IsWaitingAs state_then.holder state_then.locked) kept_waits → (released k.locks t).waiting ≡ queue_of state_then.holder (released k.locks t).held waits
             → IsQuiet state_told → IsAs state_told held server_told
         gone_as up coordinated plain places same_sessions same_dead same_waits asked queue quiet = subst (λ (x : Holder). IsAs (record state_told { holder = x }) held server_told) (sym rest) (record {

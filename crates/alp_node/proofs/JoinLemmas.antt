@@ -6,6 +6,7 @@ use Rattle.alp_base.specs.declared.ids.TransId.{TransId}
 use Rattle.alp_base.specs.declared.key.Resource.{Resource}
 use Rattle.alp_files.specs.Cells.{Cells}
 use Rattle.alp_files.specs.declared.call.Call.TheVariants as call
+use Rattle.alp_files.specs.declared.refusal.Cause.{Cause}
 use Rattle.alp_files.specs.declared.reply.Reply.{Reply}
 use Rattle.alp_files.specs.declared.reply.Reply.TheVariants as reply
 use Rattle.alp_files.specs.declared.refusal.Refusal.TheVariants as refusal
@@ -21,7 +22,7 @@ use Rattle.alp_journal.specs.Account.{Account, state_of}
 use Rattle.alp_journal.proofs.BeginCalls.{with_buried_as}
 use Rattle.alp_journal.proofs.RefusedCalls.{counted_as}
 use Rattle.alp_journal.proofs.KnownJoins.{HasNoLife, join_unknown_leads, join_busy_leads, join_leads}
-use Rattle.alp_node.specs.Dead.{is_dead}
+use Rattle.alp_node.specs.Dead.{cause_in}
 use Rattle.alp_node.specs.Halts.{says_shut}
 use Rattle.alp_node.specs.Releases.{buried}
 use Rattle.alp_node.specs.ServerState.{IsAs, IsAlike}
@@ -39,16 +40,16 @@ use Rattle.alp_node.proofs.EndLemmas.{buried_kept, buried_as}
 use Rattle.alp_node.proofs.FinishLemmas.{turn_session, counts_as}
 use Rattle.alp_node.proofs.KeptLemmas.{session_of, stands_timely, IsLive, live_there, stepped_so}
 use Rattle.alp_node.proofs.OneServer.{life_works}
-use Rattle.alp_node.proofs.ReadyLemmas.{refused_ready}
+use Rattle.alp_node.proofs.ReadyLemmas.{buried_told_ready}
 use Rattle.alp_node.proofs.StepLemmas.{plain_step}
 use Rattle.alp_node.proofs.TurnLemmas.{counts_on}
 
 -- whose part lives is not kept from it
-own_lives : (cells : Cells) (locks : Holders) (rs : List Resource) (client : ℕ) (t : TransId) (o : Option Live) (x : Option Life) (b : Bool) → IsAlike cells locks rs t o x → (standing_of client o b ≡ standing.Own → ⊥) → (l : Life) → x ≡ Some l → l.client ≡ client → ⊥
+own_lives : (cells : Cells) (locks : Holders) (rs : List Resource) (client : ℕ) (t : TransId) (o : Option Live) (x : Option Life) (b : Option Cause) → IsAlike cells locks rs t o x → (standing_of client o b ≡ standing.Work → ⊥) → (l : Life) → x ≡ Some l → l.client ≡ client → ⊥
 own_lives cells locks rs client t (Some m) (Some life) b alike none l is own =
     let same : Some life ≡ Some l = is in
     let its : m.client ≡ client = sym alike.client ∙ ap (λ (y : Life). y.client) (one_life life l same) ∙ own in
-    none (ap (λ (y : Bool). cond {A = Standing} y standing.Own standing.Unknown) (eq-eqb m.client client its))
+    none (ap (λ (y : Bool). cond {A = Standing} y standing.Work standing.Unknown) (eq-eqb m.client client its))
   where
     one_life : (y z : Life) → Some y ≡ Some z → y ≡ z
     one_life y z e = cc
@@ -57,12 +58,12 @@ own_lives cells locks rs client t o None b alike none l is own = (let wrong : No
 
 module _ {V : Type 0} (a : Account) (before now : ℕ) (held : Contents) (k : ServerState V) (turn : Turn) (t : TransId) where
   -- the client has no part of it here
-  pub join_unknown_stepped : (x : Answer) → IsAs a held k → IsTurn k.sessions turn → k.is_down ≡ false → (standing_of turn.client (map.get k.lives t) (is_dead turn.client t k.dead) ≡ standing.Own → ⊥) → x ≡ refused_answer refusal.UnknownTrans []
+  pub join_unknown_stepped : (x : Answer) → IsAs a held k → IsTurn k.sessions turn → k.is_down ≡ false → (standing_of turn.client (map.get k.lives t) (cause_in k.dead turn.client t) ≡ standing.Work → ⊥) → x ≡ refused_answer refusal.UnknownTrans []
       → Stepped a before now held (record k { sessions = counted_in k.sessions turn (reply.Refused refusal.UnknownTrans) }) (event.Call turn.client k.epoch turn.number (call.Join t)) x
   join_unknown_stepped x h is up not_own so =
       let w : Session = session_of turn is in
       let r : Reply = reply.Refused refusal.UnknownTrans in
-      let none : HasNoLife a turn.client t = own_lives a.holder.cells k.locks.held (a.locked t) turn.client t (map.get k.lives t) (a.holder.lives t) (is_dead turn.client t k.dead) (h.lives t) not_own in
+      let none : HasNoLife a turn.client t = own_lives a.holder.cells k.locks.held (a.locked t) turn.client t (map.get k.lives t) (a.holder.lives t) (cause_in k.dead turn.client t) (h.lives t) not_own in
       stepped_so a before now held held k (record k { sessions = counted_in k.sessions turn r }) turn.client turn.number w (call.Join t) false r [] (counted_as a turn.client turn.number w r) x so h
       (join_unknown_leads a turn.client turn.number w t h.quiet (h.down ∙ up) (turn_session a held k turn h is) is.number (h.lone t.server) none)
       (counts_as a held k turn r h is up) (λ e. cc) (stands_timely a.holder.clock 0 k.clock h.clock)
@@ -103,5 +104,5 @@ pub buried_step : {V : Type 0} (G : Ghosts V) (k new : ServerState V) (turn : Tu
 buried_step G k new turn t x r kept is up calm keeps pages so steps =
     let after : ServerState _ = record (buried k turn.client) { sessions = counted_in k.sessions turn r } in
     subst (λ (y : ServerState _). IsStep G k y (event.Call turn.client k.epoch turn.number (call.Join t)) (Ok x)) (sym kept)
-    (plain_step G k after turn (call.Join t) x r [] refl refl refl refl up up calm so refl (λ before now allowance. tt) (λ n h. refused_ready n (G.serves k.vault) k turn r is keeps h) steps
+    (plain_step G k after turn (call.Join t) x r [] refl refl refl refl up up calm so refl (λ before now allowance. tt) (λ n h. buried_told_ready n (G.serves k.vault) k turn r is keeps h) steps
     (counts_on k after turn is (call.Join t) r keeps.inside (le_refl k.clock) keeps.times pages refl))

@@ -38,7 +38,7 @@ use Rattle.alp_node.proofs.TransactionLemmas.{kept_by}
 pub alike_under : (cells : Cells) (locks new : Holders) (rs : List Resource) (t : TransId) (l : Option Live) (life : Option Life) → ((r : Resource) → holding new t r ≡ holding locks t r) → IsAlike cells locks rs t l life → IsAlike cells new rs t l life
 alike_under cells locks new rs t None None same h = λ r. same r ∙ h r
 alike_under cells locks new rs t (Some l) (Some life) same h =
-    record { client = h.client; who = h.who; intents = h.intents; own = h.own; held = λ r. h.held r ∙ sym (same r); opens = h.opens; counts = h.counts; within = h.within; intended = h.intended; sized = h.sized; count = h.count; known = h.known }
+    record { client = h.client; join = h.join; intents = h.intents; held = λ r. h.held r ∙ sym (same r); calls = h.calls; counts = h.counts; within = h.within; intended = h.intended; sized = h.sized; count = h.count; known = h.known }
 alike_under cells locks new rs t None (Some life) same h = absurd h
 alike_under cells locks new rs t (Some l) None same h = absurd h
 

@@ -39,10 +39,10 @@ use Rattle.alp_node.specs.Halts.{HaveCauses}
 use Rattle.alp_node.specs.Asks.{asks_of, plan_of, acts_of}
 use Rattle.alp_node.specs.Calls.{IsServedCall}
 use Rattle.alp_node.specs.Covers.{AreHeld}
-use Rattle.alp_node.specs.Dead.{is_dead}
+use Rattle.alp_node.specs.Dead.{cause_in}
 use Rattle.alp_node.specs.Rooms.{IsWithin}
 use Rattle.alp_node.specs.Shapes.{shape_of, fresh_on, counts_then, too_locked, is_wait, may_wait}
-use Rattle.alp_node.specs.ServerState.{IsAs, IsLife}
+use Rattle.alp_node.specs.ServerState.{IsAs, IsCaller, IsLife}
 use Rattle.alp_node.specs.Standings.{standing_of}
 use Rattle.alp_node.specs.Steps.{Stepped, IsTurn, IsOf, counted_in, refused_answer}
 use Rattle.alp_node.specs.declared.answer.Answer.{Answer as Handed}
@@ -56,6 +56,7 @@ use Rattle.alp_node.proofs.ConflictLemmas.{least_holder, none_risen, rises_as}
 use Rattle.alp_node.proofs.CountedLemmas.{IsCountRefusal}
 use Rattle.alp_node.proofs.KeptLemmas.{IsLive, live_there}
 use Rattle.alp_node.proofs.LockCountLemmas.{count_all, held_same}
+use Rattle.alp_node.proofs.OneServer.{lone_caller}
 use Rattle.alp_node.proofs.RoomLemmas.{none_locked}
 use Rattle.alp_node.proofs.ServedLemmas.{first_stepped, refused_stepped, work_why, work_grants}
 use Rattle.alp_node.proofs.ShapeLemmas.{IsShut, shape_cases, count_none_done, too_locked_is}
@@ -109,7 +110,7 @@ none_asked_free locks t holder e =
 
 -- ---- what it asks
 
-module _ {V : Type 0} (a : Account) (held : Contents) (k : ServerState V) (t : TransId) (l : Live) (c : Call) (ns : List Need) (life : Life) (h : IsAs a held k) (up : k.is_down ≡ false) (mine : IsLife a.holder.cells k.locks.held (a.locked t) t l life)
+module _ {V : Type 0} (a : Account) (held : Contents) (k : ServerState V) (t : TransId) (l : Live) (c : Call) (ns : List Need) (life : Life) (h : IsAs a held k) (up : k.is_down ≡ false) (mine : IsLife a.holder.cells k.locks.held (a.locked t) t l life) (caller : IsCaller l life)
     (served : IsServedCall c) (told : ns ≡ asks_of (holding k.locks.held t) (seen held.cells l.part) (own_of l.part) c) where
   -- how many resources it has locked then
   abbrev pub counts : LockCounts
@@ -120,7 +121,7 @@ module _ {V : Type 0} (a : Account) (held : Contents) (k : ServerState V) (t : T
 
   -- what the journal's laws ask is what is asked of the table
   pub lock_request : request_in a.holder c (Some life) ≡ ns
-  lock_request = (λ i. asks_of (λ q. mine.held q i) (sym (sees a held k t (a.locked t) l life h up mine) i) (sym mine.own i) c) ∙ sym told
+  lock_request = (λ i. asks_of (λ q. mine.held q i) (sym (sees a held k t (a.locked t) l life h up mine) i) (sym caller.own i) c) ∙ sym told
 
   -- it asks for nothing, or has a choice
   pub lock_choice : ((x : Choice) × (choice_of c ≡ Some x)) ⊎ (ns ≡ [])
@@ -153,7 +154,7 @@ module _ {V : Type 0} (a : Account) (held : Contents) (k : ServerState V) (t : T
   not_refused shape few = λ i. option_or (shape i) ((told_locks ∙ few) i)
 
   -- one that is refused for its open asks for nothing
-  module _ (raised : 0 < k.epoch) (shut : IsShut a held k h raised t l life mine c) where
+  module _ (raised : 0 < k.epoch) (shut : IsShut a held k h raised t l life caller c) where
     pub shut_none : ns ≡ []
     shut_none = sym lock_request ∙ ap (request_of life.held) shut.none
 
@@ -184,13 +185,14 @@ module _ {V : Type 0} (a : Account) (before now : ℕ) (held : Contents) (k : Se
   locks_stepped f x h raised is up there own idle within served told shape many of so =
       let y : IsLive a.holder.cells k.locks.held (a.locked t) t l (a.holder.lives t) = live_there a.holder.cells k.locks.held (a.locked t) t (map.get k.lives t) (a.holder.lives t) l there (h.lives t) in
       let counted : IsCountRefusal f = too_locked_is k.sizes.area l.part.counts.cells then_counts.made f many in
-      first_stepped a before now held k turn t c f y.life x h is up of (own_standing turn.client (map.get k.lives t) (is_dead turn.client t k.dead) (subst (IsOf turn.client) (sym there) own)) idle y.is
-      (go y.life y.alike (shape_cases a held k h raised t l y.life y.alike c served shape)) counted.now (count_none_done a t c f counted) so
+      let caller : IsCaller l y.life = lone_caller a held k h a.holder.cells k.locks.held (a.locked t) t l y.life y.is y.alike in
+      first_stepped a before now held k turn t c f y.life x h is up of (own_standing turn.client (map.get k.lives t) (cause_in k.dead turn.client t) (subst (IsOf turn.client) (sym there) own)) idle y.is
+      (go y.life y.alike caller (shape_cases a held k h raised t l y.life caller c served shape)) counted.now (count_none_done a t c f counted) so
     where
-      go : (life : Life) (mine : IsLife a.holder.cells k.locks.held (a.locked t) t l life) → (shape_refusal (state_of a) life c ≡ None) ⊎ IsShut a held k h raised t l life mine c
+      go : (life : Life) (mine : IsLife a.holder.cells k.locks.held (a.locked t) t l life) (caller : IsCaller l life) → (shape_refusal (state_of a) life c ≡ None) ⊎ IsShut a held k h raised t l life caller c
           → option_or (shape_refusal (state_of a) life c) (lock_refusal (state_of a) t life c) ≡ Some f
-      go life mine (inl passes) = λ i. option_or (passes i) ((told_locks a held k t l c ns life h up mine served told ∙ many) i)
-      go life mine (inr shut) = (let wrong : None ≡ Some f = sym (shut_few a held k t l c ns life h up mine served told raised shut within) ∙ many in cc)
+      go life mine caller (inl passes) = λ i. option_or (passes i) ((told_locks a held k t l c ns life h up mine caller served told ∙ many) i)
+      go life mine caller (inr shut) = (let wrong : None ≡ Some f = sym (shut_few a held k t l c ns life h up mine caller served told raised shut within) ∙ many in cc)
 
   -- another is in its way
   pub conflict_stepped : (holder : TransId) (x : Handed) → IsAs a held k → 0 < k.epoch → IsTurn k.sessions turn → k.is_down ≡ false → map.get k.lives t ≡ Some l → l.client ≡ turn.client → waiting_of (state_of a).desk turn.client t ≡ None → may_wait c ≡ false → IsServedCall c
@@ -201,21 +203,22 @@ module _ {V : Type 0} (a : Account) (before now : ℕ) (held : Contents) (k : Se
   conflict_stepped holder x h raised is up there own idle never served told shape few of sound named so =
       let y : IsLive a.holder.cells k.locks.held (a.locked t) t l (a.holder.lives t) = live_there a.holder.cells k.locks.held (a.locked t) t (map.get k.lives t) (a.holder.lives t) l there (h.lives t) in
       let r : Reply = reply.Refused (refusal.LockConflict holder) in
-      let mine : standing_of turn.client (map.get k.lives t) (is_dead turn.client t k.dead) ≡ standing.Own = own_standing turn.client (map.get k.lives t) (is_dead turn.client t k.dead) (subst (IsOf turn.client) (sym there) own) in
+      let caller : IsCaller l y.life = lone_caller a held k h a.holder.cells k.locks.held (a.locked t) t l y.life y.is y.alike in
+      let mine : standing_of turn.client (map.get k.lives t) (cause_in k.dead turn.client t) ≡ standing.Work = own_standing turn.client (map.get k.lives t) (cause_in k.dead turn.client t) (subst (IsOf turn.client) (sym there) own) in
       let none : option_or (shape_refusal (state_of a) y.life c) (lock_refusal (state_of a) t y.life c) ≡ None =
-      not_refused a held k t l c ns y.life h up y.alike served told (open_there y.life y.alike (shape_cases a held k h raised t l y.life y.alike c served shape)) few in
+      not_refused a held k t l c ns y.life h up y.alike caller served told (open_there y.life y.alike caller (shape_cases a held k h raised t l y.life caller c served shape)) few in
       refused_stepped a before now held k turn t c false (refusal.LockConflict holder) x h is up (λ e. cc) of refl refl
       (work_why a before now held k turn t c false r y.life h mine idle y.is
       (inr (subst (λ (z : Option Refusal). First z r (IsLocked (state_of a) t y.life c r)) (sym none)
-      (IsLocked.conflict holder (fails (lock_choice a held k t l c ns y.life h up y.alike served told)) (least_holder a held k t l y.life c ns h y.alike (lock_request a held k t l c ns y.life h up y.alike served told) sound.agreeing holder named)))))
+      (IsLocked.conflict holder (fails (lock_choice a held k t l c ns y.life h up y.alike caller served told)) (least_holder a held k t l y.life c ns h y.alike (lock_request a held k t l c ns y.life h up y.alike caller served told) sound.agreeing holder named)))))
       (work_grants a before now held k turn t c false r y.life [] h mine idle y.is (sym (one_or_none (is_some (option_or (shape_refusal (state_of a) y.life c) (lock_refusal (state_of a) t y.life c))) [] refl))) so
     where
       no_need : ns ≡ [] → ⊥
       no_need none = none_asked_free k.locks.held t holder (subst (λ (ms : List Need). blocker k.locks.held t (plan_of k.locks t ms).rises ≡ Some holder) none named)
 
-      open_there : (life : Life) (mine : IsLife a.holder.cells k.locks.held (a.locked t) t l life) → (shape_refusal (state_of a) life c ≡ None) ⊎ IsShut a held k h raised t l life mine c → shape_refusal (state_of a) life c ≡ None
-      open_there life mine (inl passes) = passes
-      open_there life mine (inr shut) = absurd (no_need (shut_none a held k t l c ns life h up mine served told raised shut))
+      open_there : (life : Life) (mine : IsLife a.holder.cells k.locks.held (a.locked t) t l life) (caller : IsCaller l life) → (shape_refusal (state_of a) life c ≡ None) ⊎ IsShut a held k h raised t l life caller c → shape_refusal (state_of a) life c ≡ None
+      open_there life mine caller (inl passes) = passes
+      open_there life mine caller (inr shut) = absurd (no_need (shut_none a held k t l c ns life h up mine caller served told raised shut))
 
       fails : ((x : Choice) × (choice_of c ≡ Some x)) ⊎ (ns ≡ []) → choice_of c ≡ Some choice.Fail
       fails (inl chooses) = chosen c false chooses.0 chooses.1 never

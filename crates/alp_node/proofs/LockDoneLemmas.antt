@@ -51,17 +51,16 @@ use Rattle.alp_journal.specs.Answered.{GrantsFor, asks, grants_by}
 use Rattle.alp_journal.specs.Account.{Account, state_of, IsQuiet, Leads}
 use Rattle.alp_journal.proofs.CallLemmas.{call_entry}
 use Rattle.alp_journal.proofs.FileCalls.{PerformOwes, performed_leads, granted_leads, with_call}
-use Rattle.alp_journal.specs.Moves.{is_stop}
 use Rattle.alp_coord.specs.Coordinators.{count_of}
 use Rattle.alp_node.specs.Asks.{is_of_given, AreGiven, asks_of, asks_given, makes_file, plan_of, with_plan, acts_of}
-use Rattle.alp_node.specs.Calls.{IsServedCall, given_of, next_file}
+use Rattle.alp_node.specs.Calls.{name_in, IsServedCall, given_of, next_file}
 use Rattle.alp_node.specs.Covers.{AreHeld}
 use Rattle.alp_node.specs.Rooms.{IsRoomOf, locks_given}
 use Rattle.alp_node.specs.Shapes.{shape_of, counts_then, too_locked}
 use Rattle.alp_node.specs.Totals.{totals_of}
 use Rattle.alp_node.specs.declared.lock_counts.LockCounts.{LockCounts}
-use Rattle.alp_node.specs.Dead.{is_dead}
-use Rattle.alp_node.specs.ServerState.{IsAs, IsReady, IsAlike, IsLife}
+use Rattle.alp_node.specs.Dead.{cause_in}
+use Rattle.alp_node.specs.ServerState.{IsAs, IsReady, IsAlike, IsCaller, IsLife}
 use Rattle.alp_node.specs.Standings.{standing_of}
 use Rattle.alp_node.specs.Steps.{Stepped, IsTurn, IsOf, counted_in, seen_in, told_answer}
 use Rattle.alp_node.specs.declared.answer.Answer.{Answer as Handed}
@@ -81,10 +80,11 @@ use Rattle.alp_node.proofs.FinishLemmas.{turn_session}
 use Rattle.alp_node.proofs.GrantLemmas.{free_given, kept_beside, asked_below, of_given, next_told, id_given}
 use Rattle.alp_node.proofs.KeptLemmas.{session_of, stands_timely, stepped_so}
 use Rattle.alp_node.proofs.LockLemmas.{itself, taken_own, taken_other, taken_agrees, taken_beside, taken_waiting}
-use Rattle.alp_node.proofs.BesideLemmas.{AreNamed, AreOthers, idle_told}
+use Rattle.alp_node.proofs.BesideLemmas.{AreNamed, HasNoCall, idle_told}
 use Rattle.alp_node.proofs.WaitLemmas.{named_all, asks_none, idle_in}
 use Rattle.alp_node.proofs.LockCallLemmas.{locked_then, lock_request, lock_asks, lock_known, asked_locks, made_locks, not_refused, shut_none, shut_first}
 use Rattle.alp_node.proofs.MadeLemmas.{makes_only}
+use Rattle.alp_node.proofs.OneServer.{lone_caller}
 use Rattle.alp_node.proofs.ServedLemmas.{work_why, work_grants}
 use Rattle.alp_node.proofs.StandingLemmas.{own_standing}
 
@@ -162,9 +162,12 @@ module _ {V : Type 0} (a : Account) (before now : ℕ) (held : Contents) (k : Se
 
   module _ (m : ℕ) (on : Bool) (ready : IsReady m on k) (life : Life) (h : IsAs a held k) (up : k.is_down ≡ false) (is : IsTurn k.sessions turn) (there : map.get k.lives t ≡ Some l) (own : l.client ≡ turn.client) (live : a.holder.lives t ≡ Some life)
       (mine : IsLife a.holder.cells k.locks.held (a.locked t) t l life) (served : IsServedCall c) (files : AreGiven k.server k.epoch k.given ns) (from : ns ≡ asks_of (holding k.locks.held t) (seen held.cells l.part) (own_of l.part) c)
-      (given : Answered true held.cells l.part p l.who (next_file k) c room r) (of : IsRoomOf true held.cells k locks_now.made room)
+      (given : Answered true held.cells l.part p (name_in l.who) (next_file k) c room r) (of : IsRoomOf true held.cells k locks_now.made room)
       (shape : shape_of k.server k.epoch k.given (length l.part.opens.items) c ≡ None) (few : too_locked k.sizes.area l.part.counts.cells locks_now.made ≡ None) (free : blocker k.locks.held t asked.rises ≡ None)
-      (away : AreOthers t k.waits) where
+      (away : HasNoCall turn.client t k.waits) where
+    abbrev caller : IsCaller l life
+    caller = lone_caller a held k h a.holder.cells k.locks.held (a.locked t) t l life live mine
+
     abbrev g : Reply
     g = given.given
 
@@ -175,13 +178,13 @@ module _ {V : Type 0} (a : Account) (before now : ℕ) (held : Contents) (k : Se
     refused = refused_for room l.part.counts given.after
 
     lock_right : IsRight a.holder.cells l.part p given.after refused g did
-    lock_right = right_as a held k t l p c g life (a.locked t) given.after refused h up mine (given.right refl [] refl)
+    lock_right = right_as a held k t l p c g life (a.locked t) given.after refused h up mine caller (given.right refl [] refl)
 
     lock_after : AreCountsOf a.holder.cells (life.edits ++ did.edits) given.after
     lock_after = lock_right.counts life.edits mine.intents mine.counts
 
     lock_counted : refused ≡ count_refusal (state_of a) t life c did
-    lock_counted = refusal_same a held k h up locks_now.made room of t life c did l.part.counts given.after mine.counts lock_after (made_locks a held k t l c ns life h up mine served from)
+    lock_counted = refusal_same a held k h up locks_now.made room of t life c did l.part.counts given.after mine.counts lock_after (made_locks a held k t l c ns life h up mine caller served from)
 
     of_file : is_of_given k.server k.epoch k.given c ≡ true
     of_file = shape_given k.server k.epoch k.given (length l.part.opens.items) c shape
@@ -199,7 +202,7 @@ module _ {V : Type 0} (a : Account) (before now : ℕ) (held : Contents) (k : Se
 
     under_is : (q : Resource) → under q ≡ join_held (holding k.locks.held t q) (held_by ns q)
     under_is q =
-        ap (λ (ms : List Need). join_held (life.held q) (held_by ms q)) (lock_request a held k t l c ns life h up mine served from) ∙ ap (λ (y : Option Mode). join_held y (held_by ns q)) (mine.held q)
+        ap (λ (ms : List Need). join_held (life.held q) (held_by ms q)) (lock_request a held k t l c ns life h up mine caller served from) ∙ ap (λ (y : Option Mode). join_held y (held_by ns q)) (mine.held q)
 
     pub first_held : (q : Resource) → under q ≡ holding (with_plan k.locks asked).held t q
     first_held q = under_is q ∙ sym (taken_own k.locks asked refl q)
@@ -218,10 +221,10 @@ module _ {V : Type 0} (a : Account) (before now : ℕ) (held : Contents) (k : Se
     named = named_all k.server k.epoch k.given (count_of k.coordinator) k.sizes k.lives k.waits ready.waits.calls
 
     idle : waits k.locks.waiting t ≡ false
-    idle = idle_in k.server k.epoch k.given k.lives k.waits t k.locks.waiting (asks_none t k.waits away) ready.waits.queued
+    idle = idle_in k.server k.epoch k.given k.lives k.waits t k.locks.waiting (asks_none t k.waits away.others) ready.waits.queued
 
     idle_so : waiting_of (state_of a).desk turn.client t ≡ None
-    idle_so = idle_told a turn.client t k.waits h.waits named away
+    idle_so = idle_told a turn.client t k.waits h.waits named away.idle
 
     pub lock_free : IsFree a.holder t life c
     lock_free u o at away q =
@@ -241,13 +244,13 @@ module _ {V : Type 0} (a : Account) (before now : ℕ) (held : Contents) (k : Se
     lock_threads = record { given = g; own = given.own; right = lock_right.reply; next_id = next_id; counted = given.said ∙ ap (unless_counts g) lock_counted }
 
     -- it is refused for its open, and for no counts, or neither its shape nor its locks refuse it
-    cases : (shape_refusal (state_of a) life c ≡ None) ⊎ IsShut a held k h ready.raised t l life mine c
-    cases = shape_cases a held k h ready.raised t l life mine c served shape
+    cases : (shape_refusal (state_of a) life c ≡ None) ⊎ IsShut a held k h ready.raised t l life caller c
+    cases = shape_cases a held k h ready.raised t l life caller c served shape
 
     passed : shape_refusal (state_of a) life c ≡ None → option_or (shape_refusal (state_of a) life c) (lock_refusal (state_of a) t life c) ≡ None
-    passed open_there = not_refused a held k t l c ns life h up mine served from open_there few
+    passed open_there = not_refused a held k t l c ns life h up mine caller served from open_there few
 
-    module _ (shut : IsShut a held k h ready.raised t l life mine c) where
+    module _ (shut : IsShut a held k h ready.raised t l life caller c) where
       shut_given : g ≡ reply.Refused shut.refusal
       shut_given = same_reply (sym lock_right.reply ∙ ap (λ (x : Answer). x.reply) (shut.is g))
         where
@@ -269,12 +272,12 @@ module _ {V : Type 0} (a : Account) (before now : ℕ) (held : Contents) (k : Se
     lock_answer : IsFileAnswer (state_of a) t c r (Some life)
     lock_answer = go cases
       where
-        go : (shape_refusal (state_of a) life c ≡ None) ⊎ IsShut a held k h ready.raised t l life mine c → First (option_or (shape_refusal (state_of a) life c) (lock_refusal (state_of a) t life c)) r (IsLocked (state_of a) t life c r)
+        go : (shape_refusal (state_of a) life c ≡ None) ⊎ IsShut a held k h ready.raised t l life caller c → First (option_or (shape_refusal (state_of a) life c) (lock_refusal (state_of a) t life c)) r (IsLocked (state_of a) t life c r)
         go (inl open_there) = subst (λ (x : Option Refusal). First x r (IsLocked (state_of a) t life c r)) (sym (passed open_there)) (IsLocked.performed r lock_free lock_threads)
-        go (inr shut) = subst (λ (x : Option Refusal). First x r (IsLocked (state_of a) t life c r)) (sym (shut_first a held k t l c ns life h up mine served from ready.raised shut)) (shut_reply shut)
+        go (inr shut) = subst (λ (x : Option Refusal). First x r (IsLocked (state_of a) t life c r)) (sym (shut_first a held k t l c ns life h up mine caller served from ready.raised shut)) (shut_reply shut)
 
-    my_standing : standing_of turn.client (map.get k.lives t) (is_dead turn.client t k.dead) ≡ standing.Own
-    my_standing = own_standing turn.client (map.get k.lives t) (is_dead turn.client t k.dead) (subst (IsOf turn.client) (sym there) own)
+    my_standing : standing_of turn.client (map.get k.lives t) (cause_in k.dead turn.client t) ≡ standing.Work
+    my_standing = own_standing turn.client (map.get k.lives t) (cause_in k.dead turn.client t) (subst (IsOf turn.client) (sym there) own)
 
     pub lock_why : IsFileOf false (state_of a) turn.client c r (Some t)
     lock_why = work_why a before now held k turn t c false r life h my_standing idle_so live (inr lock_answer)
@@ -284,7 +287,7 @@ module _ {V : Type 0} (a : Account) (before now : ℕ) (held : Contents) (k : Se
     grants_of (Some f) e = subst (λ (y : Reply). grants_by true t y ≡ t ∷ []) (sym (given.said ∙ ap (unless_counts g) e)) (IsCountRefusal.granted (refused_is room l.part.counts given.after f e) t)
 
     asks_so : asks a.holder life c ≡ not (length asked.rises == 0)
-    asks_so = lock_asks a held k t l c ns life h up mine served from
+    asks_so = lock_asks a held k t l c ns life h up mine caller served from
 
     -- it is granted where something rises
     lock_grants : GrantsFor false (state_of a) turn.client c r (cond {A = List TransId} (length asked.rises == 0) [] (t ∷ [])) (Some t)
@@ -293,12 +296,12 @@ module _ {V : Type 0} (a : Account) (before now : ℕ) (held : Contents) (k : Se
         by_first : Option Refusal → List TransId
         by_first x = cond {A = List TransId} (is_some x) [] (grants_by (asks a.holder life c) t r)
 
-        go : (shape_refusal (state_of a) life c ≡ None) ⊎ IsShut a held k h ready.raised t l life mine c → cond {A = List TransId} (length asked.rises == 0) [] (t ∷ []) ≡ by_first (option_or (shape_refusal (state_of a) life c) (lock_refusal (state_of a) t life c))
+        go : (shape_refusal (state_of a) life c ≡ None) ⊎ IsShut a held k h ready.raised t l life caller c → cond {A = List TransId} (length asked.rises == 0) [] (t ∷ []) ≡ by_first (option_or (shape_refusal (state_of a) life c) (lock_refusal (state_of a) t life c))
         go (inl open_there) = grants_as t r (asks a.holder life c) asked.rises (grants_of refused refl) asks_so ∙ sym (ap by_first (passed open_there))
         go (inr shut) =
-            let nothing : ns ≡ [] = shut_none a held k t l c ns life h up mine served from ready.raised shut in
+            let nothing : ns ≡ [] = shut_none a held k t l c ns life h up mine caller served from ready.raised shut in
             let none : asked.rises ≡ [] = ap (λ (ms : List Need). risen (held_of k.locks.held t) ms) nothing ∙ none_risen (held_of k.locks.held t) [] tt (risen (held_of k.locks.held t) []) refl in
-            ap (λ (ms : List Need). cond {A = List TransId} (length ms == 0) [] (t ∷ [])) none ∙ sym (ap by_first (shut_first a held k t l c ns life h up mine served from ready.raised shut))
+            ap (λ (ms : List Need). cond {A = List TransId} (length ms == 0) [] (t ∷ [])) none ∙ sym (ap by_first (shut_first a held k t l c ns life h up mine caller served from ready.raised shut))
 
     pub grants_none : asked.rises ≡ [] → GrantsFor false (state_of a) turn.client c r [] (Some t)
     grants_none none = subst (λ (ns : List Need). GrantsFor false (state_of a) turn.client c r (cond {A = List TransId} (length ns == 0) [] (t ∷ [])) (Some t)) none lock_grants
@@ -309,20 +312,20 @@ module _ {V : Type 0} (a : Account) (before now : ℕ) (held : Contents) (k : Se
 
     -- what is held already is not granted
     pub under_held : asked.rises ≡ [] → under ≡ life.held
-    under_held none = λ i q. (would_hold a held k t l life c ns h mine (lock_request a held k t l c ns life h up mine served from) q ∙ no-rise (held_of k.locks.held t) ns none q ∙ sym (mine.held q)) i
+    under_held none = λ i q. (would_hold a held k t l life c ns h mine (lock_request a held k t l c ns life h up mine caller served from) q ∙ no-rise (held_of k.locks.held t) ns none q ∙ sym (mine.held q)) i
 
     -- and counts already
-    pub still_locked : under ≡ life.held → locked_then a held k t l c ns life h up mine served from ≡ a.locked t
+    pub still_locked : under ≡ life.held → locked_then a held k t l c ns life h up mine caller served from ≡ a.locked t
     still_locked none =
         let same : (q : Resource) → join_held (holding k.locks.held t q) (held_by ns q) ≡ holding k.locks.held t q = λ q. sym (under_is q) ∙ ap (λ (y : Holding). y q) none ∙ mine.held q in
-        ap (λ (ms : List Need). with_resources ms (a.locked t)) (lock_request a held k t l c ns life h up mine served from)
-        ∙ none_more (holding k.locks.held t) ns (a.locked t) (lock_known a held k t l c ns life h up mine served from) (held_already (holding k.locks.held t) ns same ns (λ q there. there))
+        ap (λ (ms : List Need). with_resources ms (a.locked t)) (lock_request a held k t l c ns life h up mine caller served from)
+        ∙ none_more (holding k.locks.held t) ns (a.locked t) (lock_known a held k t l c ns life h up mine caller served from) (held_already (holding k.locks.held t) ns same ns (λ q there. there))
 
-    pub known_then : AreHeld under (locked_then a held k t l c ns life h up mine served from)
+    pub known_then : AreHeld under (locked_then a held k t l c ns life h up mine caller served from)
     known_then = held_then life.held (request_in a.holder c (Some life)) (a.locked t) mine.known
 
-    pub count_then : length (locked_then a held k t l c ns life h up mine served from) ≡ locks_now.asked
-    count_then = asked_locks a held k t l c ns life h up mine served from
+    pub count_then : length (locked_then a held k t l c ns life h up mine caller served from) ≡ locks_now.asked
+    count_then = asked_locks a held k t l c ns life h up mine caller served from
 
     abbrev pub told : Session
     told = session_of turn is
@@ -361,7 +364,7 @@ module _ {V : Type 0} (a : Account) (before now : ℕ) (held : Contents) (k : Se
       lock_under formed =
           under_call a.holder.server [] under (view_in a.holder life) life.own life.who c g life.edits (edits_sized a.holder.cells life.edits h.sized mine.sized) formed (granted-holds life.held (needs_of (view_in a.holder life) life.own c))
           (under_more life.held under (joined-more life.held (request_in a.holder c (Some life))) (granted-intended life.held (needs_of (view_in a.holder life) life.own c) mine.intended) life.own life.edits
-          (record { opens = mine.opens; within = mine.within; intended = mine.intended; sized = mine.sized }))
+          (record { opens = caller.opens; within = mine.within; intended = mine.intended; sized = mine.sized }))
 
       -- nobody held the new file
       new_free : (f : FileId) → id_in g ≡ Some f → under (Whole f) ≡ None
@@ -390,7 +393,7 @@ module _ {V : Type 0} (a : Account) (before now : ℕ) (held : Contents) (k : Se
           (kept_count l.locks locks_now g rs count (made_count rs count known))
           (subst (λ (y : Holding). AreHeld (with_made y (id_in g)) (with_resources (needs_made (id_in g)) rs)) so (held_then under (needs_made (id_in g)) rs known))
           (subst (AreRoomed k.sizes a.holder.cells (totals_of k.lives) l.part.counts) (sym counts) (allowed_room a held k h up locks_now.made room of t l given.after there passes))
-          named away (taken_waiting k.locks (plan g)) (λ u apart. taken_beside k.locks (plan g) u apart) quiet
+          named away.others (taken_waiting k.locks (plan g)) (λ u apart. taken_beside k.locks (plan g) u apart) quiet
 
       abbrev Steps : Contents → Handed → Type 0
       Steps then x = Stepped a before now then (lock_left g) (event.Call turn.client k.epoch turn.number c) x
@@ -407,7 +410,7 @@ module _ {V : Type 0} (a : Account) (before now : ℕ) (held : Contents) (k : Se
       granted_steps : (x : Handed) (then : Contents) → then ≡ held → file_trans c ≡ Some t → IsFormed c → (n : Need) (more : List Need) → asked.rises ≡ n ∷ more
           → x ≡ told_answer (Some g) (act.Granted t ∷ []) → Steps then x
       granted_steps x then same of_trans formed n more some so =
-          let rs : List Resource = locked_then a held k t l c ns life h up mine served from in
+          let rs : List Resource = locked_then a held k t l c ns life h up mine caller served from in
           let leads : Leads false a (call_entry a turn.client turn.number told c g (act.Granted t ∷ [])) (with_call a turn.client turn.number told t life c g under rs) =
           granted_leads a turn.client turn.number told t life c g false lock_free (lock_owes of_trans formed under refl (t ∷ []) (grants_some n more some)) in
           stepped_so a before now held then k (lock_left g) turn.client turn.number told c false g (act.Granted t ∷ []) (with_call a turn.client turn.number told t life c g under rs) x so h leads

@@ -37,12 +37,12 @@ use Rattle.alp_journal.specs.Account.{Account, state_of, IsQuiet, Leads}
 use Rattle.alp_journal.proofs.CallLemmas.{call_entry}
 use Rattle.alp_coord.specs.Coordinators.{count_of}
 use Rattle.alp_node.specs.Asks.{AreGiven, asks_of, with_plan, acts_of}
-use Rattle.alp_node.specs.Calls.{IsServedCall, next_file}
+use Rattle.alp_node.specs.Calls.{name_in, IsServedCall, next_file}
 use Rattle.alp_node.specs.Covers.{AreHeld}
 use Rattle.alp_node.specs.Rooms.{IsRoomOf}
 use Rattle.alp_node.specs.Shapes.{shape_of, too_locked}
 use Rattle.alp_node.specs.declared.lock_counts.LockCounts.{LockCounts}
-use Rattle.alp_node.specs.ServerState.{IsAs, IsReady, IsAlike, IsLife, PutNoneBeyond}
+use Rattle.alp_node.specs.ServerState.{IsAs, IsReady, IsAlike, IsCaller, IsLife, PutNoneBeyond}
 use Rattle.alp_node.specs.Steps.{Stepped, IsTurn, counted_in, seen_in, told_answer, refused_answer}
 use Rattle.alp_node.specs.declared.answer.Answer.{Answer as Handed}
 use Rattle.alp_node.specs.declared.lives.Live.{Live}
@@ -60,8 +60,8 @@ use Rattle.alp_node.proofs.LockLemmas.{taken_other, taken_beside, taken_waiting}
 use Rattle.alp_node.proofs.LockCallLemmas.{locked_then}
 use Rattle.alp_node.proofs.LockDoneLemmas.{locks_now, asked, lock_left, first_held, lock_free, lock_why, grants_none, grants_some, under_held, still_locked, known_then, count_then, lock_performed}
 use Rattle.alp_journal.proofs.RefusedGrants.{with_locks, refused_granted_leads}
-use Rattle.alp_node.proofs.OneServer.{life_works}
-use Rattle.alp_node.proofs.BesideLemmas.{AreNamed, AreOthers, others_told, idle_told, queue_beside, asked_beside}
+use Rattle.alp_node.proofs.OneServer.{life_works, lone_caller}
+use Rattle.alp_node.proofs.BesideLemmas.{AreNamed, HasNoCall, others_told, idle_told, queue_beside, asked_beside}
 use Rattle.alp_node.proofs.WaitLemmas.{named_all}
 use Rattle.alp_node.proofs.MapLemmas.{get_put}
 use Rattle.alp_files.proofs.FilesLemmas.{same-some}
@@ -89,14 +89,17 @@ module _ {V : Type 0} (a : Account) (before now : ℕ) (held : Contents) (k : Se
   left = lock_left a before now held k turn t l p c ns room r v
 
   module _ (m : ℕ) (on : Bool) (ready : IsReady m on k) (life : Life) (h : IsAs a held k) (up : k.is_down ≡ false) (is : IsTurn k.sessions turn) (there : map.get k.lives t ≡ Some l) (own : l.client ≡ turn.client) (live : a.holder.lives t ≡ Some life)
-      (mine : IsLife a.holder.cells k.locks.held (a.locked t) t l life) (served : IsServedCall c) (files : AreGiven k.server k.epoch k.given ns) (from : ns ≡ asks_of (holding k.locks.held t) (seen held.cells l.part) (own_of l.part) c) (given : Answered true held.cells l.part p l.who (next_file k) c room r) (of : IsRoomOf true held.cells k locks_asked.made room)
-      (shape : shape_of k.server k.epoch k.given (length l.part.opens.items) c ≡ None) (few : too_locked k.sizes.area l.part.counts.cells locks_asked.made ≡ None) (free : blocker k.locks.held t wanted.rises ≡ None) (away : AreOthers t k.waits)
+      (mine : IsLife a.holder.cells k.locks.held (a.locked t) t l life) (served : IsServedCall c) (files : AreGiven k.server k.epoch k.given ns) (from : ns ≡ asks_of (holding k.locks.held t) (seen held.cells l.part) (own_of l.part) c) (given : Answered true held.cells l.part p (name_in l.who) (next_file k) c room r) (of : IsRoomOf true held.cells k locks_asked.made room)
+      (shape : shape_of k.server k.epoch k.given (length l.part.opens.items) c ≡ None) (few : too_locked k.sizes.area l.part.counts.cells locks_asked.made ≡ None) (free : blocker k.locks.held t wanted.rises ≡ None) (away : HasNoCall turn.client t k.waits)
       (f : Refusal) (full : refused_for room l.part.counts given.after ≡ Some f) where
+    abbrev caller : IsCaller l life
+    caller = lone_caller a held k h a.holder.cells k.locks.held (a.locked t) t l life live mine
+
     abbrev would : Holding
     would = held_for a.holder life c
 
     abbrev resources : List Resource
-    resources = locked_then a held k t l c ns life h up mine served from
+    resources = locked_then a held k t l c ns life h up mine caller served from
 
     abbrev w : Session
     w = session_of turn is
@@ -105,7 +108,7 @@ module _ {V : Type 0} (a : Account) (before now : ℕ) (held : Contents) (k : Se
     named = named_all k.server k.epoch k.given (count_of k.coordinator) k.sizes k.lives k.waits ready.waits.calls
 
     others_asked : AllByRecursion (λ (x : Waiting). is_of t (file_trans x.call) ≡ false) a.waits
-    others_asked = subst (AllByRecursion (λ (x : Waiting). is_of t (file_trans x.call) ≡ false)) (sym h.waits) (others_told t k.waits named away)
+    others_asked = subst (AllByRecursion (λ (x : Waiting). is_of t (file_trans x.call) ≡ false)) (sym h.waits) (others_told t k.waits named away.others)
 
     counted : IsCountRefusal f
     counted = refused_is room l.part.counts given.after f full
@@ -133,17 +136,16 @@ module _ {V : Type 0} (a : Account) (before now : ℕ) (held : Contents) (k : Se
     under_as x so =
         subst (λ (y : Holding). IsUnder y life.own life.edits) so
         (under_more life.held would more (granted-intended life.held (needs_of (view_in a.holder life) life.own c) mine.intended) life.own life.edits
-        (record { opens = mine.opens; within = mine.within; intended = mine.intended; sized = mine.sized }))
+        (record { opens = caller.opens; within = mine.within; intended = mine.intended; sized = mine.sized }))
 
     -- the part with the locks
     life_kept : (x : Holding) → would ≡ x → (rs : List Resource) → length rs ≡ locks_asked.asked → AreHeld would rs → IsLife a.holder.cells with_asked.held rs t live_now (record life { held = x })
     life_kept x so rs many all = record {
       client = mine.client;
-      who = mine.who;
+      join = mine.join;
       intents = stands.0 ∙ mine.intents;
-      own = stands.1 ∙ mine.own;
       held = λ q. ap (λ (y : Holding). y q) (sym so) ∙ first_held a before now held k turn t l p c ns room r v m on ready life h up is there own live mine served files from given of shape few free away q;
-      opens = (under_as x so).opens;
+      calls = λ unvoted. record { who = caller.who; own = stands.1 ∙ caller.own; opens = (under_as x so).opens };
       counts = subst (AreCountsOf a.holder.cells life.edits) (sym stands.2) mine.counts;
       within = (under_as x so).within;
       intended = (under_as x so).intended;
@@ -232,7 +234,7 @@ module _ {V : Type 0} (a : Account) (before now : ℕ) (held : Contents) (k : Se
           queue = taken_waiting k.locks wanted ∙ h.queue ∙ sym (queue_beside a.holder (with_locks a turn.client turn.number w t life c f).holder k.locks.held with_asked.held t refl (λ u apart. ap (λ (b : Bool). cond {A = Option Life} b (Some new) (a.holder.lives u)) apart)
               (λ u apart. taken_beside k.locks wanted u apart) a.waits others_asked);
           asked = asked_beside a.holder (with_locks a turn.client turn.number w t life c f).holder k.locks.held with_asked.held t refl (λ u apart. ap (λ (b : Bool). cond {A = Option Life} b (Some new) (a.holder.lives u)) apart) (λ u apart. taken_beside k.locks wanted u apart)
-              a.locked (lock_set a.locked t resources) (λ u apart. ap (λ (b : Bool). cond {A = List Resource} b resources (a.locked u)) apart) k.waits away h.asked;
+              a.locked (lock_set a.locked t resources) (λ u apart. ap (λ (b : Bool). cond {A = List Resource} b resources (a.locked u)) apart) k.waits away.others h.asked;
           quiet = quiet;
           down = s.down;
         })
@@ -241,7 +243,7 @@ module _ {V : Type 0} (a : Account) (before now : ℕ) (held : Contents) (k : Se
         → x ≡ refused_answer f (act.Granted t ∷ []) → Stepped a before now then (left (reply.Refused f)) (event.Call turn.client k.epoch turn.number c) x
     granted_refused x then same of_trans n others some so =
         let leads : Leads false a (call_entry a turn.client turn.number w c (reply.Refused f) (act.Granted t ∷ [])) (with_locks a turn.client turn.number w t life c f) =
-        refused_granted_leads a turn.client turn.number w t life c f false h.quiet (h.down ∙ up) (turn_session a held k turn h is) is.number (life_works a h.lone h.quiet.settled.stands t life turn.client live (mine.client ∙ own)) live (mine.client ∙ own) of_trans (idle_told a turn.client t k.waits h.waits named away) counted.passes counted.now
+        refused_granted_leads a turn.client turn.number w t life c f false h.quiet (h.down ∙ up) (turn_session a held k turn h is) is.number (life_works a h.lone h.quiet.settled.stands t life turn.client live (mine.client ∙ own)) live (mine.client ∙ own) of_trans (idle_told a turn.client t k.waits h.waits named away.idle) counted.passes counted.now
         (lock_free a before now held k turn t l p c ns room r v m on ready life h up is there own live mine served files from given of shape few free away) why
         (subst (λ (y : Reply). GrantsFor false (state_of a) turn.client c y (t ∷ []) (Some t)) as_refused (grants_some a before now held k turn t l p c ns room r v m on ready life h up is there own live mine served files from given of shape few free away n others some)) in
         stepped_so a before now held then k (left (reply.Refused f)) turn.client turn.number w c false (reply.Refused f) (act.Granted t ∷ []) (with_locks a turn.client turn.number w t life c f) x so h leads (granted_as then same leads.quiet) (λ e. cc)
@@ -265,7 +267,7 @@ module _ {V : Type 0} (a : Account) (before now : ℕ) (held : Contents) (k : Se
 
   pub lock_stepped : (m : ℕ) (on : Bool) (x : Handed) (then : Contents) → IsReady m on k → IsAs a held k → k.is_down ≡ false → then ≡ held → IsTurn k.sessions turn → map.get k.lives t ≡ Some l → l.client ≡ turn.client → IsServedCall c → AreGiven k.server k.epoch k.given ns → ns ≡ asks_of (holding k.locks.held t) (seen held.cells l.part) (own_of l.part) c
       → shape_of k.server k.epoch k.given (length l.part.opens.items) c ≡ None → too_locked k.sizes.area l.part.counts.cells locks_asked.made ≡ None → file_trans c ≡ Some t → IsFormed c
-      → Answered true held.cells l.part p l.who (next_file k) c room r → IsRoomOf true held.cells k locks_asked.made room → x ≡ told_answer (Some r) (acts_of t wanted.rises) → blocker k.locks.held t wanted.rises ≡ None → AreOthers t k.waits
+      → Answered true held.cells l.part p (name_in l.who) (next_file k) c room r → IsRoomOf true held.cells k locks_asked.made room → x ≡ told_answer (Some r) (acts_of t wanted.rises) → blocker k.locks.held t wanted.rises ≡ None → HasNoCall turn.client t k.waits
       → Stepped a before now then (left r) (event.Call turn.client k.epoch turn.number c) x
   lock_stepped m on x then ready h up same is there own served files from shape few of_trans formed given of so free away =
       let y : IsLive a.holder.cells k.locks.held (a.locked t) t l (a.holder.lives t) = live_there a.holder.cells k.locks.held (a.locked t) t (map.get k.lives t) (a.holder.lives t) l there (h.lives t) in

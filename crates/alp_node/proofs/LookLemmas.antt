@@ -31,19 +31,22 @@ use Rattle.alp_journal.specs.declared.event.Event.TheVariants as event
 use Rattle.alp_journal.specs.Account.{Account, state_of}
 use Rattle.alp_journal.proofs.IdLemmas.{same_trans-true}
 use Rattle.alp_calls.specs.declared.limits.Room.{Room}
+use Rattle.alp_node.specs.Calls.{name_in}
 use Rattle.alp_coord.specs.Coordinators.{count_of}
 use Rattle.alp_node.specs.Asks.{is_given}
 use Rattle.alp_node.specs.Rooms.{IsRoomOf, IsWithin}
 use Rattle.alp_node.specs.Totals.{LiveMap}
 use Rattle.alp_node.proofs.WithinLemmas.{within_same}
-use Rattle.alp_node.specs.Dead.{is_dead}
+use Rattle.alp_node.specs.Dead.{cause_in}
 use Rattle.alp_node.specs.ServerState.{IsAs, IsReady}
 use Rattle.alp_node.specs.Standings.{standing_of}
 use Rattle.alp_node.specs.Steps.{IsStep, IsRefused, IsDown, IsTurn, IsOf, counted_in, refused_answer}
 use Rattle.alp_node.specs.declared.answer.Answer.{Answer}
 use Rattle.alp_node.specs.declared.lives.Live.{Live}
 use Rattle.alp_node.specs.declared.waits.WaitingCall.{WaitingCall}
-use Rattle.alp_node.proofs.WaitLemmas.{IsLikePart, like_itself, waiting_parts, each_so}
+use Rattle.alp_node.specs.Waits.{is_file_on}
+use Rattle.alp_node.specs.declared.lock_counts.LockCounts.{LockCounts}
+use Rattle.alp_node.proofs.WaitLemmas.{IsLikePart, IsLikeThen, like_itself, waiting_parts, each_so, file_on}
 use Rattle.alp_node.specs.declared.server_state.ServerState.{ServerState}
 use Rattle.alp_node.specs.declared.sessions.Turn.{Turn}
 use Rattle.alp_node.specs.declared.served.Standing.TheVariants as standing
@@ -66,8 +69,8 @@ count_same count (reply.Created f n) = omega arith
 count_same count r = omega arith
 
 -- what is told is told
-pub answered_told : (b : Bool) (cells : Cells) (l : Live) (p : Part) (id : FileId) (c : Call) (room : Room) (r : Reply) → IsTrue b → Answered b cells l.part p l.who id c room r → Answered true cells l.part p l.who id c room r
-answered_told b cells l p id c room r told given = subst (λ (x : Bool). Answered x cells l.part p l.who id c room r) told given
+pub answered_told : (b : Bool) (cells : Cells) (l : Live) (p : Part) (id : FileId) (c : Call) (room : Room) (r : Reply) → IsTrue b → Answered b cells l.part p (name_in l.who) id c room r → Answered true cells l.part p (name_in l.who) id c room r
+answered_told b cells l p id c room r told given = subst (λ (x : Bool). Answered x cells l.part p (name_in l.who) id c room r) told given
 
 pub room_told : {V : Type 0} (b : Bool) (cells : Cells) (k : ServerState V) (locks : ℕ) (room : Room) → IsTrue b → IsRoomOf b cells k locks room → IsRoomOf true cells k locks room
 room_told b cells k locks room told of = subst (λ (x : Bool). IsRoomOf x cells k locks room) told of
@@ -80,7 +83,7 @@ module _ {V : Type 0} (n : ℕ) (before serves : Bool) (k : ServerState V) (t : 
 
   -- a part that is another now
   pub part_ready : (m : ℕ) → IsTrue serves → k.is_down ≡ false → map.get k.lives t ≡ Some l → p.last ≤ m → n ≤ m → list_all (λ (o : Open). is_given k.server k.epoch k.given o.file) p.opens.items ≡ true
-      → IsWithin k.sizes (record l { part = p; locks = b }) → AllByRecursion (λ (w : WaitingCall). same_trans w.trans t ≡ true → IsLikePart l (record l { part = p; locks = b })) k.waits → IsReady n before k → IsReady m serves part_kept
+      → IsWithin k.sizes (record l { part = p; locks = b }) → AllByRecursion (λ (w : WaitingCall). is_file_on t w ≡ true → IsLikePart l (record l { part = p; locks = b })) k.waits → IsReady n before k → IsReady m serves part_kept
   part_ready m on up there low le given fresh like h = record {
     serving = λ _. on;
     halted = λ down. (let wrong : false ≡ true = sym up ∙ down in cc);
@@ -91,6 +94,9 @@ module _ {V : Type 0} (n : ℕ) (before serves : Bool) (k : ServerState V) (t : 
     own = own_alike k.coordinator k.lives (map.insert k.lives t (record l { part = p; locks = b })) (λ u. ap owner_of (get_put k.lives t (record l { part = p; locks = b }) u) ∙ own_so u (same_trans u t) refl) h.own;
     opens = λ u x is. opens_so u (same_trans u t) x (sym (get_put k.lives t (record l { part = p; locks = b }) u) ∙ is);
     opened = λ u x is. opened_so u (same_trans u t) x (sym (get_put k.lives t (record l { part = p; locks = b }) u) ∙ is);
+    callers = λ u x is. callers_so u (same_trans u t) x (sym (get_put k.lives t (record l { part = p; locks = b }) u) ∙ is);
+    alive = λ u x is. alive_so u (same_trans u t) refl x (sym (get_put k.lives t (record l { part = p; locks = b }) u) ∙ is);
+    causes = h.causes;
     places = h.places;
     calls = λ c w is. (let before_now : w.last ≤ n = h.calls c w is in omega arith);
     replies = h.replies;
@@ -108,14 +114,14 @@ module _ {V : Type 0} (n : ℕ) (before serves : Bool) (k : ServerState V) (t : 
     times = h.times;
   }
     where
-      all_like : (ws : List WaitingCall) → AllByRecursion (λ (w : WaitingCall). same_trans w.trans t ≡ true → IsLikePart l (record l { part = p; locks = b })) ws
-          → AllByRecursion (λ (w : WaitingCall). (x : Live) → map.get (map.insert k.lives t (record l { part = p; locks = b })) w.trans ≡ Some x → (y : Live) × (map.get k.lives w.trans ≡ Some y) × IsLikePart y x) ws
+      all_like : (ws : List WaitingCall) → AllByRecursion (λ (w : WaitingCall). is_file_on t w ≡ true → IsLikePart l (record l { part = p; locks = b })) ws
+          → AllByRecursion (IsLikeThen k.lives (map.insert k.lives t (record l { part = p; locks = b }))) ws
       all_like [] each = tt
-      all_like (w ∷ ws) each = ((λ x is. was (same_trans w.trans t) refl x (sym (get_put k.lives t (record l { part = p; locks = b }) w.trans) ∙ is)), all_like ws each.1)
+      all_like (w ∷ ws) each = ((λ z counted x is. was z counted (same_trans w.trans t) refl x (sym (get_put k.lives t (record l { part = p; locks = b }) w.trans) ∙ is)), all_like ws each.1)
         where
-          was : (e : Bool) → same_trans w.trans t ≡ e → (x : Live) → cond {A = Option Live} e (Some (record l { part = p; locks = b })) (map.get k.lives w.trans) ≡ Some x → (y : Live) × (map.get k.lives w.trans ≡ Some y) × IsLikePart y x
-          was true e x is = (l, ap (map.get k.lives) (same_trans-true w.trans t e) ∙ there, subst (IsLikePart l) (same_live (record l { part = p; locks = b }) x is) (each.0 e))
-          was false e x is = (x, is, like_itself x)
+          was : (z : LockCounts) → w.counts ≡ Some z → (e : Bool) → same_trans w.trans t ≡ e → (x : Live) → cond {A = Option Live} e (Some (record l { part = p; locks = b })) (map.get k.lives w.trans) ≡ Some x → (y : Live) × (map.get k.lives w.trans ≡ Some y) × IsLikePart y x
+          was z counted true e x is = (l, ap (map.get k.lives) (same_trans-true w.trans t e) ∙ there, subst (IsLikePart l) (same_live (record l { part = p; locks = b }) x is) (each.0 (file_on t w z counted e)))
+          was z counted false e x is = (x, is, like_itself x)
 
       live_so : (u : TransId) → is_some (map.get k.lives u) ≡ true → is_some (map.get (map.insert k.lives t (record l { part = p; locks = b })) u) ≡ true
       live_so u live = ap is_some (get_put k.lives t (record l { part = p; locks = b }) u) ∙ either_live (same_trans u t) live
@@ -126,6 +132,14 @@ module _ {V : Type 0} (n : ℕ) (before serves : Bool) (k : ServerState V) (t : 
 
       at_t : (u : TransId) → same_trans u t ≡ true → map.get k.lives u ≡ Some l
       at_t u e = ap (map.get k.lives) (same_trans-true u t e) ∙ there
+
+      callers_so : (u : TransId) (e : Bool) (x : Live) → cond {A = Option Live} e (Some (record l { part = p; locks = b })) (map.get k.lives u) ≡ Some x → is_some x.who ≡ true
+      callers_so u true x is = subst (λ (y : Live). is_some y.who ≡ true) (same_live (record l { part = p; locks = b }) x is) (h.callers t l there)
+      callers_so u false x is = h.callers u x is
+
+      alive_so : (u : TransId) (e : Bool) → same_trans u t ≡ e → (x : Live) → cond {A = Option Live} e (Some (record l { part = p; locks = b })) (map.get k.lives u) ≡ Some x → cause_in k.dead x.client u ≡ None
+      alive_so u true e x is = subst (λ (y : Live). cause_in k.dead y.client u ≡ None) (same_live (record l { part = p; locks = b }) x is) (h.alive u l (at_t u e))
+      alive_so u false e x is = h.alive u x is
 
       known_so : (u : TransId) (e : Bool) → same_trans u t ≡ e → (x : Live) → cond {A = Option Live} e (Some (record l { part = p; locks = b })) (map.get k.lives u) ≡ Some x → is_some (map.get k.locks.held u) ≡ true
       known_so u true e x is = h.known u l (at_t u e)
@@ -163,8 +177,8 @@ module _ {V : Type 0} (G : Ghosts V) (k : ServerState V) (m : LiveMap) (v : V) w
     pub ready : (n : ℕ) (on : Bool) → IsTrue on → IsReady n (G.serves k.vault) k → IsReady n on looked
 
   module _ (turn : Turn) (t : TransId) (c : Call) (unseen : IsUnseen turn t) (left : IsLeft G k.vault v) (is : IsTurn k.sessions turn) (up : k.is_down ≡ false) (named : file_trans c ≡ Some t) (calm : (a : Account) → IsAs a (G.held k.vault) k → waiting_of (state_of a).desk turn.client t ≡ None) where
-    own_there : standing_of turn.client (map.get m t) (is_dead turn.client t k.dead) ≡ standing.Own
-    own_there = own_standing turn.client (map.get m t) (is_dead turn.client t k.dead) (subst (IsOf turn.client) (sym unseen.there) unseen.own)
+    own_there : standing_of turn.client (map.get m t) (cause_in k.dead turn.client t) ≡ standing.Work
+    own_there = own_standing turn.client (map.get m t) (cause_in k.dead turn.client t) (subst (IsOf turn.client) (sym unseen.there) unseen.own)
 
     -- a read failed: the call is refused, and the server goes on
     failed_step : IsTrue (G.serves v) → Rose (G.faults k.vault) (G.faults v)
@@ -240,7 +254,7 @@ module _ {V : Type 0} (G : Ghosts V) (k : ServerState V) (turn : Turn) (t : Tran
         let low : p.last ≤ n = (let was : l.part.last ≤ n = h.opens t l there in omega (arith, last)) in
         part_ready n (G.serves k.vault) on k t l p l.locks v n serving up there low (le_refl n)
         (ap (λ (w : Own). list_all (λ (o : Open). is_given k.server k.epoch k.given o.file) w.opens) same.1 ∙ h.opened t l there) (within_same k.sizes l p sound same (h.within t l there))
-        (each_so (λ (w : WaitingCall). same_trans w.trans t ≡ true → IsLikePart l (record l { part = p; locks = l.locks })) (λ w e. record { client = refl; opens = ap (λ (w : Own). length w.opens) same.1; cells = ap (λ (n : Counts). n.cells) same.2 }) k.waits) h);
+        (each_so (λ (w : WaitingCall). is_file_on t w ≡ true → IsLikePart l (record l { part = p; locks = l.locks })) (λ w e. record { client = refl; opens = ap (λ (w : Own). length w.opens) same.1; cells = ap (λ (n : Counts). n.cells) same.2 }) k.waits) h);
   }
 
 -- a look that brought no answer leaves the vault too

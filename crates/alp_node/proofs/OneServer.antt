@@ -6,7 +6,10 @@ use Rattle.std.proofs.Common.{inl, inr, ◌⊎◌, ◌≡◌, ℕ, List, [], ◌
 use Rattle.alp_base.specs.declared.ids.JoinNo.{JoinNo}
 use Rattle.alp_base.specs.declared.ids.Stamp.{Stamp}
 use Rattle.alp_base.specs.declared.ids.TransId.{TransId}
+use Rattle.alp_base.specs.declared.key.Resource.{Resource}
+use Rattle.alp_files.specs.Cells.{Cells}
 use Rattle.alp_files.specs.declared.refusal.Cause.{Cause}
+use Rattle.alp_locks.specs.Tables.{Holders}
 use Rattle.alp_vault.specs.Contents.{Contents}
 use Rattle.alp_journal.specs.Ids.{same_trans, has_join}
 use Rattle.alp_journal.specs.Coordinator.{Fate, Vote, Undrawn, Running, Finishing, Committed, Forgotten, Ended, client_of, is_running, decision_in, has_votes}
@@ -23,7 +26,8 @@ use Rattle.alp_journal.proofs.PartLemmas.{own_at_work, far_part_at}
 use Rattle.alp_journal.proofs.QuietLemmas.{KeepsJoins}
 use Rattle.alp_journal.proofs.RestartLemmas.{IsNoted}
 use Rattle.alp_node.specs.Decisions.{IsPlain}
-use Rattle.alp_node.specs.ServerState.{IsAs}
+use Rattle.alp_node.specs.ServerState.{IsAs, IsCaller, IsLife}
+use Rattle.alp_node.specs.declared.lives.Live.{Live}
 use Rattle.alp_node.specs.declared.server_state.ServerState.{ServerState}
 
 -- a part is live just while its transaction runs: it is its client's, has not voted, and has no joins
@@ -286,6 +290,14 @@ module _ {V : Type 0} (a : Account) (held : Contents) (k : ServerState V) (h : I
   pub lone_works : (t : TransId) (l : Life) (client : ℕ) → a.holder.lives t ≡ Some l → l.client ≡ client → part_at (state_of a) client t ≡ AtWork
   lone_works t l client live mine =
       part_works a h.lone h.quiet.settled.stands t l client (own_here a h.quiet.settled.stands t l live (no_join a h.lone h.quiet.settled.stands t l live)) live mine
+
+  -- so it has not voted
+  pub lone_unvoted : (t : TransId) (l : Life) → a.holder.lives t ≡ Some l → l.vote ≡ None
+  lone_unvoted t l live = (live_one a h.lone h.quiet.settled.stands t l live).1
+
+  -- and its principal and its opens are kept
+  pub lone_caller : (cells : Cells) (locks : Holders) (rs : List Resource) (t : TransId) (l : Live) (life : Life) → a.holder.lives t ≡ Some life → IsLife cells locks rs t l life → IsCaller l life
+  lone_caller cells locks rs t l life live mine = mine.calls (lone_unvoted t life live)
 
   -- what is to be told of was not decided
   pub told_undecided : (client : ℕ) (t : TransId) → IsSome (a.dead client t) → decision_in (a.fates t) ≡ None

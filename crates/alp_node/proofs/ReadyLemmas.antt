@@ -29,20 +29,21 @@ use Rattle.alp_journal.proofs.IdLemmas.{same_trans-itself, same_trans-true}
 use Rattle.alp_coord.specs.declared.coordinator.Coordinator.{Coordinator}
 use Rattle.alp_coord.specs.Coordinators.{IsOf, IsAlong, Comes, Keeps, server_of, epoch_of, count_of, next_id}
 use Rattle.alp_node.specs.Asks.{is_given}
-use Rattle.alp_node.specs.Dead.{without_client}
+use Rattle.alp_node.specs.Dead.{cause_in, without_client}
 use Rattle.alp_node.specs.Rooms.{IsWithin}
 use Rattle.alp_node.specs.Sessions.{session_at, with_session}
-use Rattle.alp_node.specs.ServerState.{IsReady}
-use Rattle.alp_node.specs.Releases.{buried}
+use Rattle.alp_node.specs.ServerState.{IsReady, IsCalm}
+use Rattle.alp_node.specs.Releases.{buried, cleared}
 use Rattle.alp_node.specs.Steps.{IsTurn, counted_in}
 use Rattle.alp_node.specs.Turns.{TellsUpTo, IsKeepable}
 use Rattle.alp_node.specs.declared.server_state.ServerState.{ServerState}
 use Rattle.alp_node.specs.declared.dead.DeadPart.{DeadPart}
-use Rattle.alp_node.specs.Waits.{is_of, without_calls_of, stays, live_calls, IsWaitingCall, IsOfCalls, AreWaiting, asks_for}
+use Rattle.alp_node.specs.Waits.{is_of, without_calls_of, outlives, without_dead, stays, live_calls, IsWaitingCall, IsOfCalls, AreWaiting, asks_for}
 use Rattle.alp_node.specs.declared.lives.Live.{Live}
 use Rattle.alp_node.specs.declared.waits.WaitingCall.{WaitingCall}
+use Rattle.alp_node.proofs.DeadLemmas.{none_left, dead_buried, alive_still}
+use Rattle.alp_node.proofs.WaitLemmas.{call_later, like_itself, filter_apart, IsOwned, all_owned, asks_undead, asks_live, asks_other}
 use Rattle.alp_node.proofs.TransactionLemmas.{LetsGo, own_gone, own_begun, times_begun}
-use Rattle.alp_node.proofs.WaitLemmas.{call_later, like_itself, filter_apart, asks_live, asks_other}
 use Rattle.alp_journal.specs.Desk.{Session}
 use Rattle.alp_node.specs.declared.sessions.Sessions.{Sessions}
 use Rattle.alp_node.specs.declared.sessions.Turn.{Turn}
@@ -134,6 +135,9 @@ module _ {V : Type 0} (n : ℕ) (serves : Bool) (k : ServerState V) where
     own = h.own;
     opens = λ t l is. (let low : l.part.last ≤ n = h.opens t l is in omega arith);
     opened = h.opened;
+    callers = h.callers;
+    alive = h.alive;
+    causes = h.causes;
     places = places_set k.sessions client (record { who = name; last = 1; reply = reply.Welcome k.epoch }) h.places;
     calls = calls_set k.sessions client (record { who = name; last = 1; reply = reply.Welcome k.epoch }) n h.places le h.calls (omega arith);
     replies = replies_set k.sessions client (record { who = name; last = 1; reply = reply.Welcome k.epoch }) k.clock k.clock h.places le (le_refl k.clock) h.replies (record { inside = tt; times = tt });
@@ -163,6 +167,9 @@ module _ {V : Type 0} (n : ℕ) (serves : Bool) (k : ServerState V) where
     own = h.own;
     opens = λ t l there. (let low : l.part.last ≤ n = h.opens t l there in omega arith);
     opened = h.opened;
+    callers = h.callers;
+    alive = h.alive;
+    causes = h.causes;
     places = places_set k.sessions turn.client (record { who = turn.who; last = turn.number; reply = r }) h.places;
     calls = calls_set k.sessions turn.client (record { who = turn.who; last = turn.number; reply = r }) n h.places is.client h.calls (turn_within k.sessions turn n is h.calls);
     replies = replies_set k.sessions turn.client (record { who = turn.who; last = turn.number; reply = r }) k.clock k.clock h.places is.client (le_refl k.clock) h.replies keeps;
@@ -192,6 +199,9 @@ module _ {V : Type 0} (n : ℕ) (serves : Bool) (k : ServerState V) where
     own = h.own;
     opens = λ t l is. (let low : l.part.last ≤ n = h.opens t l is in omega arith);
     opened = h.opened;
+    callers = h.callers;
+    alive = h.alive;
+    causes = h.causes;
     places = h.places;
     calls = λ c w is. (let low : w.last ≤ n = h.calls c w is in omega arith);
     replies = h.replies;
@@ -222,7 +232,8 @@ module _ {V : Type 0} (n : ℕ) (serves : Bool) (k : ServerState V) where
     waits = record {
       calls = each-more (IsWaitingCall k.server k.epoch k.given (count_of k.coordinator) k.sizes k.lives) (IsWaitingCall k.server k.epoch k.given (count_of c) k.sizes (map.remove k.lives t))
           (λ w. call_later k.server k.epoch k.given k.given (le_refl k.given) k.sizes (count_of k.coordinator) (count_of c) (omega (arith, lets.along.count_same)) k.lives (map.remove k.lives t) w
-          (λ o l is. (l, kept w.trans (same_trans w.trans t) l (λ there. there) (sym (get_gone k.lives t w.trans) ∙ is), like_itself l))) k.waits h.waits.calls;
+          (λ z counted o l is. (l, kept w.trans (same_trans w.trans t) l (λ there. there) (sym (get_gone k.lives t w.trans) ∙ is), like_itself l))) k.waits h.waits.calls;
+      files = h.waits.files;
       apart = h.waits.apart;
       queued = each-more (λ (x : Waiter). IsOfCalls k.server k.epoch k.given k.lives k.waits x × (not (is_waiter_of t x) ≡ true)) (IsOfCalls k.server k.epoch k.given (map.remove k.lives t) k.waits)
           (λ x o. record { live = stays_live x.trans (turned t x.trans (sym (tied_same t x.trans) ∙ not-true (is_waiter_of t x) o.1)) o.0.live; asks = o.0.asks; beyond = o.0.beyond })
@@ -233,6 +244,9 @@ module _ {V : Type 0} (n : ℕ) (serves : Bool) (k : ServerState V) where
     own = own_gone k.coordinator c t clock k.lives lets h.own;
     opens = λ u l is. kept u (same_trans u t) l (λ there. h.opens u l there) (sym (get_gone k.lives t u) ∙ is);
     opened = λ u l is. kept u (same_trans u t) l (λ there. h.opened u l there) (sym (get_gone k.lives t u) ∙ is);
+    callers = λ u l is. kept u (same_trans u t) l (λ there. h.callers u l there) (sym (get_gone k.lives t u) ∙ is);
+    alive = λ u l is. kept u (same_trans u t) l (λ there. h.alive u l there) (sym (get_gone k.lives t u) ∙ is);
+    causes = h.causes;
     places = h.places;
     calls = h.calls;
     replies = λ client w is. keepable_later k.clock clock w.reply later (h.replies client w is);
@@ -266,26 +280,30 @@ module _ {V : Type 0} (n : ℕ) (serves : Bool) (k : ServerState V) where
     abbrev t : TransId
     t = next_id k.coordinator
 
+    -- the client's calls of dead parts go, and then those of no live part
+    abbrev waits_then : List WaitingCall
+    waits_then = live_calls turn.client (map.insert k.lives t l) (without_dead turn.client k.dead k.waits)
+
     abbrev pub begun_kept : ServerState V
-    begun_kept = record k { sessions = counted_in k.sessions turn (reply.Begun t); clock = clock; coordinator = c; dead = without_client turn.client k.dead; lives = map.insert k.lives t l; waits = live_calls turn.client (map.insert k.lives t l) k.waits; locks = entered k.locks t }
+    begun_kept = record k { sessions = counted_in k.sessions turn (reply.Begun t); clock = clock; coordinator = c; dead = without_client turn.client k.dead; lives = map.insert k.lives t l; waits = waits_then; locks = entered k.locks t }
 
     pub begin_ready : IsTurn k.sessions turn → l.client ≡ turn.client → IsOf (server_of k.coordinator) (epoch_of k.coordinator) (count_of k.coordinator + 1) c → ((who : List ℕ) (seen : ℕ) → Comes (Begins t turn.client who seen) k.coordinator c)
-        → own_of l.part ≡ no_opens → IsWithin k.sizes l → map.len k.lives < 64 → k.clock ≤ clock → clock ≤ 2 ^ 62 → IsReady n serves k → IsReady (n + 1) serves begun_kept
-    begin_ready is its one comes none fresh less later low h = record {
+        → is_some l.who ≡ true → own_of l.part ≡ no_opens → IsWithin k.sizes l → map.len k.lives < 64 → k.clock ≤ clock → clock ≤ 2 ^ 62 → IsReady n serves k → IsReady (n + 1) serves begun_kept
+    begin_ready is its one comes caller none fresh less later low h = record {
       serving = h.serving;
       halted = h.halted;
       sound = entered-sound k.locks t h.sound;
       taken = h.taken;
       waits = record {
-        calls = each-more (IsWaitingCall k.server k.epoch k.given (count_of k.coordinator) k.sizes k.lives) (IsWaitingCall k.server k.epoch k.given (count_of c) k.sizes (map.insert k.lives t l))
-            (λ w. call_later k.server k.epoch k.given k.given (le_refl k.given) k.sizes (count_of k.coordinator) (count_of c) (omega (arith, one.count_same)) k.lives (map.insert k.lives t l) w
-            (λ o x there. (x, older w.trans (same_trans w.trans t) refl o.begun x (sym (get_put k.lives t l w.trans) ∙ there), like_itself x)))
-            (live_calls turn.client (map.insert k.lives t l) k.waits) (each-filter (IsWaitingCall k.server k.epoch k.given (count_of k.coordinator) k.sizes k.lives) (stays turn.client (map.insert k.lives t l)) k.waits h.waits.calls);
-        apart = filter_apart (stays turn.client (map.insert k.lives t l)) k.waits h.waits.apart;
-        queued = each-more (IsOfCalls k.server k.epoch k.given k.lives k.waits) (IsOfCalls k.server k.epoch k.given (map.insert k.lives t l) (live_calls turn.client (map.insert k.lives t l) k.waits))
+        calls = each-filter Called (stays turn.client (map.insert k.lives t l)) (without_dead turn.client k.dead k.waits) (each-filter Called (outlives turn.client k.dead) k.waits calls_then);
+        files = each-filter (λ (w : WaitingCall). is_some w.counts ≡ true) (stays turn.client (map.insert k.lives t l)) (without_dead turn.client k.dead k.waits)
+            (each-filter (λ (w : WaitingCall). is_some w.counts ≡ true) (outlives turn.client k.dead) k.waits h.waits.files);
+        apart = filter_apart (stays turn.client (map.insert k.lives t l)) (without_dead turn.client k.dead k.waits) (filter_apart (outlives turn.client k.dead) k.waits h.waits.apart);
+        queued = each-more (IsOfCalls k.server k.epoch k.given k.lives k.waits) (IsOfCalls k.server k.epoch k.given (map.insert k.lives t l) waits_then)
             (λ x o. record {
               live = live_then x.trans o.live;
-              asks = asks_live turn.client (map.insert k.lives t l) k.waits x.trans (live_then x.trans o.live) o.asks;
+              asks = asks_live turn.client (map.insert k.lives t l) (without_dead turn.client k.dead k.waits) x.trans (live_then x.trans o.live) owned_then
+                  (asks_undead turn.client k.dead k.lives k.waits x.trans (λ m there. h.alive x.trans m there) o.live (all_owned k.server k.epoch k.given (count_of k.coordinator) k.sizes k.lives k.waits h.waits.calls) o.asks);
               beyond = o.beyond;
             }) k.locks.waiting h.waits.queued;
       };
@@ -294,6 +312,9 @@ module _ {V : Type 0} (n : ℕ) (serves : Bool) (k : ServerState V) where
       own = own_begun turn.client 0 turn.who k.coordinator c k.lives l its (comes turn.who 0) h.own;
       opens = λ u x there. opens_so u (same_trans u t) x (sym (get_put k.lives t l u) ∙ there);
       opened = λ u x there. opened_so u (same_trans u t) x (sym (get_put k.lives t l u) ∙ there);
+      callers = λ u x there. callers_so u (same_trans u t) x (sym (get_put k.lives t l u) ∙ there);
+      alive = λ u x there. alive_so u (same_trans u t) x (sym (get_put k.lives t l u) ∙ there);
+      causes = each-filter (IsCalm k.server) (λ (d : DeadPart). not (d.client == turn.client)) k.dead h.causes;
       places = places_set k.sessions turn.client (record { who = turn.who; last = turn.number; reply = reply.Begun t }) h.places;
       calls = calls_set k.sessions turn.client (record { who = turn.who; last = turn.number; reply = reply.Begun t }) n h.places is.client h.calls (turn_within k.sessions turn n is h.calls);
       replies = replies_set k.sessions turn.client (record { who = turn.who; last = turn.number; reply = reply.Begun t }) k.clock clock h.places is.client later h.replies (record { inside = tt; times = tt });
@@ -310,9 +331,28 @@ module _ {V : Type 0} (n : ℕ) (serves : Bool) (k : ServerState V) where
       unheld = λ u m high. entered_unheld k.locks t u (numbered k m) (h.unheld u m high);
     }
       where
+        callers_so : (u : TransId) (b : Bool) (x : Live) → cond {A = Option Live} b (Some l) (map.get k.lives u) ≡ Some x → is_some x.who ≡ true
+        callers_so u true x there = ap (λ (y : Live). is_some y.who) (sym (same_live l x there)) ∙ caller
+        callers_so u false x there = h.callers u x there
+
+        alive_so : (u : TransId) (b : Bool) (x : Live) → cond {A = Option Live} b (Some l) (map.get k.lives u) ≡ Some x → cause_in (without_client turn.client k.dead) x.client u ≡ None
+        alive_so u true x there = none_left k.dead x.client turn.client u (ap (λ (y : Live). y.client) (sym (same_live l x there)) ∙ its)
+        alive_so u false x there = alive_still (x.client == turn.client) (cause_in k.dead x.client u) (cause_in (without_client turn.client k.dead) x.client u) (dead_buried turn.client k.dead x.client u) (h.alive u x there)
+
+        Called : WaitingCall → Type 0
+        Called = IsWaitingCall k.server k.epoch k.given (count_of c) k.sizes (map.insert k.lives t l)
+
         older : (u : TransId) (b : Bool) → same_trans u t ≡ b → u.counter ≤ count_of k.coordinator → (x : Live) → cond {A = Option Live} b (Some l) (map.get k.lives u) ≡ Some x → map.get k.lives u ≡ Some x
         older u true e before x there = (let counter : u.counter ≡ count_of k.coordinator + 1 = ap (λ (v : TransId). v.counter) (same_trans-true u t e) in absurd (omega (arith, counter, before)))
         older u false e before x there = there
+
+        calls_then : AllByRecursion Called k.waits
+        calls_then = each-more (IsWaitingCall k.server k.epoch k.given (count_of k.coordinator) k.sizes k.lives) Called
+            (λ w. call_later k.server k.epoch k.given k.given (le_refl k.given) k.sizes (count_of k.coordinator) (count_of c) (omega (arith, one.count_same)) k.lives (map.insert k.lives t l) w
+            (λ z counted o x there. (x, older w.trans (same_trans w.trans t) refl o.begun x (sym (get_put k.lives t l w.trans) ∙ there), like_itself x))) k.waits h.waits.calls
+
+        owned_then : AllByRecursion (IsOwned (map.insert k.lives t l)) (without_dead turn.client k.dead k.waits)
+        owned_then = each-filter (IsOwned (map.insert k.lives t l)) (outlives turn.client k.dead) k.waits (all_owned k.server k.epoch k.given (count_of c) k.sizes (map.insert k.lives t l) k.waits calls_then)
 
         live_then : (u : TransId) → is_some (map.get k.lives u) ≡ true → is_some (map.get (map.insert k.lives t l) u) ≡ true
         live_then u there = ap is_some (get_put k.lives t l u) ∙ either_live (same_trans u t) there
@@ -352,6 +392,9 @@ module _ {V : Type 0} (n : ℕ) (serves : Bool) (k : ServerState V) where
     own = λ t. ap client_of (keeps t) ∙ h.own t;
     opens = h.opens;
     opened = h.opened;
+    callers = h.callers;
+    alive = h.alive;
+    causes = h.causes;
     places = h.places;
     calls = h.calls;
     replies = h.replies;
@@ -380,6 +423,9 @@ module _ {V : Type 0} (n : ℕ) (serves : Bool) (k : ServerState V) where
     own = h.own;
     opens = h.opens;
     opened = h.opened;
+    callers = h.callers;
+    alive = h.alive;
+    causes = h.causes;
     places = h.places;
     calls = h.calls;
     replies = h.replies;
@@ -401,6 +447,7 @@ module _ {V : Type 0} (n : ℕ) (serves : Bool) (k : ServerState V) where
   pub without_ready : (client : ℕ) (t : TransId) → AllByRecursion (λ (x : Waiter). same_trans x.trans t ≡ false) k.locks.waiting → IsReady n serves k → IsReady n serves (record k { waits = without_calls_of client t k.waits })
   without_ready client t others h = waits_ready (without_calls_of client t k.waits) (record {
     calls = each-filter (IsWaitingCall k.server k.epoch k.given (count_of k.coordinator) k.sizes k.lives) (λ w. not (is_of client t w)) k.waits h.waits.calls;
+    files = each-filter (λ (w : WaitingCall). is_some w.counts ≡ true) (λ w. not (is_of client t w)) k.waits h.waits.files;
     apart = filter_apart (λ w. not (is_of client t w)) k.waits h.waits.apart;
     queued = each-both (λ (x : Waiter). same_trans x.trans t ≡ false) (IsOfCalls k.server k.epoch k.given k.lives k.waits) (IsOfCalls k.server k.epoch k.given k.lives (without_calls_of client t k.waits))
         (λ x e o. record { live = o.live; asks = asks_other client t k.waits x.trans e o.asks; beyond = o.beyond }) k.locks.waiting others h.waits.queued;
@@ -422,18 +469,33 @@ module _ {V : Type 0} (n : ℕ) (serves : Bool) (k : ServerState V) where
       go x false e asks = refl
       go x true e asks = let wrong : false ≡ true = sym (ap (asks_for k.waits) (same_trans-true x.trans t e) ∙ none) ∙ asks in cc
 
-  -- of a client's calls those of live transactions are left
+  -- of a client's calls those of dead parts go
+  pub undead_calls_ready : (client : ℕ) → IsReady n serves k → IsReady n serves (record k { waits = without_dead client k.dead k.waits })
+  undead_calls_ready client h = waits_ready (without_dead client k.dead k.waits) (record {
+    calls = each-filter (IsWaitingCall k.server k.epoch k.given (count_of k.coordinator) k.sizes k.lives) (outlives client k.dead) k.waits h.waits.calls;
+    files = each-filter (λ (w : WaitingCall). is_some w.counts ≡ true) (outlives client k.dead) k.waits h.waits.files;
+    apart = filter_apart (outlives client k.dead) k.waits h.waits.apart;
+    queued = each-more (IsOfCalls k.server k.epoch k.given k.lives k.waits) (IsOfCalls k.server k.epoch k.given k.lives (without_dead client k.dead k.waits))
+        (λ x o. record {
+          live = o.live;
+          asks = asks_undead client k.dead k.lives k.waits x.trans (λ l there. h.alive x.trans l there) o.live (all_owned k.server k.epoch k.given (count_of k.coordinator) k.sizes k.lives k.waits h.waits.calls) o.asks;
+          beyond = o.beyond;
+        }) k.locks.waiting h.waits.queued;
+  }) h
+
+  -- and those that are of no live part
   pub live_calls_ready : (client : ℕ) → IsReady n serves k → IsReady n serves (record k { waits = live_calls client k.lives k.waits })
   live_calls_ready client h = waits_ready (live_calls client k.lives k.waits) (record {
     calls = each-filter (IsWaitingCall k.server k.epoch k.given (count_of k.coordinator) k.sizes k.lives) (stays client k.lives) k.waits h.waits.calls;
+    files = each-filter (λ (w : WaitingCall). is_some w.counts ≡ true) (stays client k.lives) k.waits h.waits.files;
     apart = filter_apart (stays client k.lives) k.waits h.waits.apart;
     queued = each-more (IsOfCalls k.server k.epoch k.given k.lives k.waits) (IsOfCalls k.server k.epoch k.given k.lives (live_calls client k.lives k.waits))
-        (λ x o. record { live = o.live; asks = asks_live client k.lives k.waits x.trans o.live o.asks; beyond = o.beyond }) k.locks.waiting h.waits.queued;
+        (λ x o. record { live = o.live; asks = asks_live client k.lives k.waits x.trans o.live (all_owned k.server k.epoch k.given (count_of k.coordinator) k.sizes k.lives k.waits h.waits.calls) o.asks; beyond = o.beyond }) k.locks.waiting h.waits.queued;
   }) h
 
-  -- whom it remembers as dead does not matter
-  pub buried_ready : (ds : List DeadPart) → IsReady n serves k → IsReady n serves (record k { dead = ds })
-  buried_ready ds h = record {
+  -- whom else it remembers as dead does not matter
+  pub buried_ready : (ds : List DeadPart) → ((t : TransId) (l : Live) → map.get k.lives t ≡ Some l → cause_in ds l.client t ≡ None) → AllByRecursion (IsCalm k.server) ds → IsReady n serves k → IsReady n serves (record k { dead = ds })
+  buried_ready ds alive causes h = record {
     serving = h.serving;
     halted = h.halted;
     sound = h.sound;
@@ -443,6 +505,9 @@ module _ {V : Type 0} (n : ℕ) (serves : Bool) (k : ServerState V) where
     own = h.own;
     opens = h.opens;
     opened = h.opened;
+    callers = h.callers;
+    alive = alive;
+    causes = causes;
     places = h.places;
     calls = h.calls;
     replies = h.replies;
@@ -475,6 +540,9 @@ ready_with n before serves k v on up h = record {
   own = h.own;
   opens = h.opens;
   opened = h.opened;
+  callers = h.callers;
+  alive = h.alive;
+  causes = h.causes;
   places = h.places;
   calls = h.calls;
   replies = h.replies;
@@ -507,6 +575,9 @@ down_ready n before serves k v off h =
       own = c.own;
       opens = c.opens;
       opened = c.opened;
+      callers = c.callers;
+      alive = c.alive;
+      causes = c.causes;
       places = c.places;
       calls = c.calls;
       replies = c.replies;
@@ -524,9 +595,21 @@ down_ready n before serves k v off h =
       times = c.times;
     }
 
--- the dead parts of a client whose begin is refused go
-pub refused_ready : {V : Type 0} (n : ℕ) (serves : Bool) (k : ServerState V) (turn : Turn) (r : Reply) → IsTurn k.sessions turn → IsKeepable k.clock r → IsReady n serves k
+-- the client's dead parts go as it is answered, with their calls
+pub buried_told_ready : {V : Type 0} (n : ℕ) (serves : Bool) (k : ServerState V) (turn : Turn) (r : Reply) → IsTurn k.sessions turn → IsKeepable k.clock r → IsReady n serves k
     → IsReady (n + 1) serves (record (buried k turn.client) { sessions = counted_in k.sessions turn r })
+buried_told_ready n serves k turn r is keeps h =
+    buried_ready (n + 1) serves (record k { sessions = counted_in k.sessions turn r; waits = without_dead turn.client k.dead k.waits }) (without_client turn.client k.dead)
+    (λ t l there. alive_still (l.client == turn.client) (cause_in k.dead l.client t) (cause_in (without_client turn.client k.dead) l.client t) (dead_buried turn.client k.dead l.client t) (h.alive t l there))
+    (each-filter (IsCalm k.server) (λ (d : DeadPart). not (d.client == turn.client)) k.dead h.causes)
+    (counted_ready n serves (record k { waits = without_dead turn.client k.dead k.waits }) turn r is keeps (undead_calls_ready n serves k turn.client h))
+
+-- and so do those that are of no live part, where its begin is refused
+pub refused_ready : {V : Type 0} (n : ℕ) (serves : Bool) (k : ServerState V) (turn : Turn) (r : Reply) → IsTurn k.sessions turn → IsKeepable k.clock r → IsReady n serves k
+    → IsReady (n + 1) serves (record (cleared k turn.client) { sessions = counted_in k.sessions turn r })
 refused_ready n serves k turn r is keeps h =
-    buried_ready (n + 1) serves (record k { sessions = counted_in k.sessions turn r; waits = live_calls turn.client k.lives k.waits }) (without_client turn.client k.dead)
-    (counted_ready n serves (record k { waits = live_calls turn.client k.lives k.waits }) turn r is keeps (live_calls_ready n serves k turn.client h))
+    let left : List WaitingCall = without_dead turn.client k.dead k.waits in
+    buried_ready (n + 1) serves (record k { sessions = counted_in k.sessions turn r; waits = live_calls turn.client k.lives left }) (without_client turn.client k.dead)
+    (λ t l there. alive_still (l.client == turn.client) (cause_in k.dead l.client t) (cause_in (without_client turn.client k.dead) l.client t) (dead_buried turn.client k.dead l.client t) (h.alive t l there))
+    (each-filter (IsCalm k.server) (λ (d : DeadPart). not (d.client == turn.client)) k.dead h.causes)
+    (counted_ready n serves (record k { waits = live_calls turn.client k.lives left }) turn r is keeps (live_calls_ready n serves (record k { waits = left }) turn.client (undead_calls_ready n serves k turn.client h)))

@@ -1,19 +1,20 @@
 -- a server stays ready where locks go and others get them
-use Rattle.std.specs.Prelude.{cond, Bool, true, false, find, IsTrue, Option, None, Some, is_some}
+use Rattle.std.specs.Prelude.{cond, Bool, true, false, not, ◌==◌, ◌&&◌, find, IsTrue, Option, None, Some, is_some}
 use Rattle.std.specs.FinMap as map
 use Rattle.std.specs.List.{list_all, list_any, AllByRecursion}
-use Rattle.std.proofs.Common.{◌≡◌, ℕ, ◌+◌, ◌^◌, ◌<◌, ◌≤◌, List, [], ◌∷◌, refl, sym, ◌∙◌, ap, subst, arith, le_refl}
+use Rattle.std.proofs.Common.{◌≡◌, ℕ, ◌+◌, ◌^◌, ◌<◌, ◌≤◌, List, [], ◌∷◌, ◌++◌, refl, sym, ◌∙◌, ap, subst, arith, le_refl}
 use Rattle.alp_base.specs.declared.allowance.Allowance.{Allowance}
 use Rattle.alp_base.specs.declared.ids.TransId.{TransId}
 use Rattle.alp_files.specs.declared.open.Open.{Open}
+use Rattle.alp_files.specs.declared.refusal.Cause.{Cause}
 use Rattle.alp_files.specs.declared.reply.Reply.{Reply}
 use Rattle.alp_files.specs.declared.reply.Reply.TheVariants as reply
 use Rattle.alp_journal.specs.Counts.{log_need}
 use Rattle.alp_journal.specs.Ids.{same_trans}
 use Rattle.alp_journal.specs.Moves.{is_stop}
-use Rattle.alp_journal.proofs.IdLemmas.{same_trans-itself, same_trans-true}
+use Rattle.alp_journal.proofs.IdLemmas.{all-append, same_trans-itself, same_trans-true}
 use Rattle.alp_locks.specs.Releases.{released}
-use Rattle.alp_locks.proofs.SoundLemmas.{each-more, each-both}
+use Rattle.alp_locks.proofs.SoundLemmas.{each-more, each-both, each-filter}
 use Rattle.alp_locks.proofs.WakeLemmas.{IsNoneOf, released-others}
 use Rattle.alp_trans.specs.declared.part.Part.{Part}
 use Rattle.alp_queue.specs.Order.{is_of as is_waiter_of}
@@ -21,41 +22,40 @@ use Rattle.alp_queue.specs.declared.waiter.Waiter.{Waiter}
 use Rattle.alp_coord.specs.declared.coordinator.Coordinator.{Coordinator}
 use Rattle.alp_coord.specs.Coordinators.{count_of}
 use Rattle.alp_node.specs.Asks.{is_given}
-use Rattle.alp_node.specs.Dead.{without_part}
+use Rattle.alp_node.specs.Dead.{cause_in, is_part, without_part}
 use Rattle.alp_node.specs.Halts.{HaveCauses}
 use Rattle.alp_node.specs.Releases.{grant_acts, with_locks, granted_if, granted_one, granted_all, let_go}
 use Rattle.alp_node.specs.Rooms.{IsWithin}
-use Rattle.alp_node.specs.ServerState.{IsReady}
+use Rattle.alp_node.specs.ServerState.{IsReady, IsCalm}
 use Rattle.alp_node.specs.Steps.{IsTurn, counted_in, ended}
 use Rattle.alp_node.specs.Totals.{LiveMap}
 use Rattle.alp_node.specs.Turns.{IsKeepable}
-use Rattle.alp_node.specs.Waits.{locks_in, locks_of, grant_of, without_calls_of, IsWithinLimits, IsWaitingCall, IsOfCalls}
+use Rattle.alp_node.specs.Waits.{is_file_on, count_asked, locks_in, locks_of, grant_of, without_calls_of, IsWithinLimits, IsFileCall, IsWaitingCall, IsOfCalls}
+use Rattle.alp_node.specs.declared.dead.DeadPart.{DeadPart}
 use Rattle.alp_node.specs.declared.lives.Live.{Live}
 use Rattle.alp_node.specs.declared.server_state.ServerState.{ServerState}
 use Rattle.alp_node.specs.declared.sessions.Turn.{Turn}
 use Rattle.alp_node.specs.declared.waits.WaitingCall.{WaitingCall}
-use Rattle.alp_node.proofs.LockedLemmas.{locked_each, locked_length, locked_live, locked_none, locked_owner, granted_locks}
-use Rattle.alp_node.proofs.MapLemmas.{get_gone, gone_length, tied_same}
-use Rattle.alp_node.proofs.ReadyLemmas.{gone_kept, gone_ready, counted_ready, buried_ready, without_ready, live_others, ready_with, turned}
+use Rattle.alp_node.proofs.DeadLemmas.{part_left, alive_still, dead_then}
+use Rattle.alp_node.proofs.LockedLemmas.{locked_each, locked_length, locked_live, locked_none, granted_locks, locked_owner}
+use Rattle.alp_node.proofs.MapLemmas.{get_gone, tied_same, gone_length}
+use Rattle.alp_node.proofs.ReadyLemmas.{gone_kept, gone_ready, counted_ready, buried_ready, without_ready, live_others, turned, ready_with}
+use Rattle.alp_node.proofs.WaitLemmas.{find_each, counts_there, file_counts, file_at, call_later, IsLikePart, like_itself, grant_call, grant_apart, grant_asks}
 use Rattle.alp_node.proofs.TransactionLemmas.{LetsGo, own_alike}
-use Rattle.alp_node.proofs.WaitLemmas.{find_each, call_later, IsLikePart, like_itself, grant_call, grant_apart, grant_asks}
 use Rattle.alp_node.proofs.WithinLemmas.{log_most}
 
 -- ---- one grant
 
 -- the call that is granted is one of those that wait
 abbrev pub IsGrant : List WaitingCall → TransId → ℕ → (WaitingCall → Type 0) → Type 0
-IsGrant ws t n P = (w : WaitingCall) × P w × (same_trans w.trans t ≡ true) × (w.counts.asked ≡ n)
+IsGrant ws t n P = (w : WaitingCall) × P w × (is_file_on t w ≡ true) × (count_asked w.counts ≡ Some n)
 
 pub grant_found : (P : WaitingCall → Type 0) (ws : List WaitingCall) (t : TransId) (n : ℕ) → locks_of t ws ≡ Some n → AllByRecursion P ws → IsGrant ws t n P
-grant_found P ws t n is h = go (find (λ w. same_trans w.trans t) ws) refl is
+grant_found P ws t n is h = go (find (is_file_on t) ws) refl is
   where
-    same_count : (a b : ℕ) → Some a ≡ Some b → a ≡ b
-    same_count a b e = cc
-
-    go : (x : Option WaitingCall) → find (λ w. same_trans w.trans t) ws ≡ x → locks_in x ≡ Some n → IsGrant ws t n P
+    go : (x : Option WaitingCall) → find (is_file_on t) ws ≡ x → locks_in x ≡ Some n → IsGrant ws t n P
     go None e f = let wrong : None ≡ Some n = f in cc
-    go (Some w) e f = let found = find_each P (λ w. same_trans w.trans t) ws w e h in (w, found.0, found.1, same_count w.counts.asked n f)
+    go (Some w) e f = let found = find_each P (is_file_on t) ws w e h in (w, found.0, found.1, f)
 
 module _ {V : Type 0} (n : ℕ) (serves : Bool) (k : ServerState V) (t : TransId) where
   granted_ready_so : (m : ℕ) → locks_of t k.waits ≡ Some m → AllByRecursion (λ (x : Waiter). is_waiter_of t x ≡ false) k.locks.waiting → IsReady n serves k → IsReady n serves (granted_if k t (Some m))
@@ -65,9 +65,10 @@ module _ {V : Type 0} (n : ℕ) (serves : Bool) (k : ServerState V) (t : TransId
     sound = h.sound;
     taken = h.taken;
     waits = record {
-      calls = grant_call (IsWaitingCall k.server k.epoch k.given (count_of k.coordinator) k.sizes now) t (λ w o. record { named = o.named; formed = o.formed; some = o.some; begun = o.begun; limits = λ l is. (let x = o.limits l is in record { its = x.its; shape = x.shape; fewer = x.fewer; locks = x.locks; log = x.log }) }) k.waits
+      calls = grant_call (IsWaitingCall k.server k.epoch k.given (count_of k.coordinator) k.sizes now) t granted_call k.waits
           (each-more (IsWaitingCall k.server k.epoch k.given (count_of k.coordinator) k.sizes k.lives) (IsWaitingCall k.server k.epoch k.given (count_of k.coordinator) k.sizes now)
-          (λ w. call_later k.server k.epoch k.given k.given (le_refl k.given) k.sizes (count_of k.coordinator) (count_of k.coordinator) (le_refl (count_of k.coordinator)) k.lives now w (λ o l is. was w.trans l is)) k.waits h.waits.calls);
+          (λ w. call_later k.server k.epoch k.given k.given (le_refl k.given) k.sizes (count_of k.coordinator) (count_of k.coordinator) (le_refl (count_of k.coordinator)) k.lives now w (λ z counted o l is. was w.trans l is)) k.waits h.waits.calls);
+      files = grant_call (λ (w : WaitingCall). is_some w.counts ≡ true) t (λ w e. e) k.waits h.waits.files;
       apart = grant_apart t k.waits h.waits.apart;
       queued = each-both (λ (x : Waiter). is_waiter_of t x ≡ false) (IsOfCalls k.server k.epoch k.given k.lives k.waits) (IsOfCalls k.server k.epoch k.given now (grant_of t k.waits))
           (λ x e o. record { live = locked_live k.lives t m x.trans o.live; asks = grant_asks t x.trans k.waits (turned t x.trans (sym (tied_same t x.trans) ∙ e)) ∙ o.asks; beyond = o.beyond }) k.locks.waiting others h.waits.queued;
@@ -76,6 +77,9 @@ module _ {V : Type 0} (n : ℕ) (serves : Bool) (k : ServerState V) (t : TransId
     own = own_alike k.coordinator k.lives now (locked_owner k.lives t m) h.own;
     opens = locked_each k.lives t m (λ u l. l.part.last ≤ n) h.opens (λ l there. h.opens t l there);
     opened = locked_each k.lives t m (λ u l. list_all (λ (o : Open). is_given k.server k.epoch k.given o.file) l.part.opens.items ≡ true) h.opened (λ l there. h.opened t l there);
+    callers = locked_each k.lives t m (λ u l. is_some l.who ≡ true) h.callers (λ l there. h.callers t l there);
+    alive = locked_each k.lives t m (λ u l. cause_in k.dead l.client u ≡ None) h.alive (λ l there. h.alive t l there);
+    causes = h.causes;
     places = h.places;
     calls = h.calls;
     replies = h.replies;
@@ -96,17 +100,35 @@ module _ {V : Type 0} (n : ℕ) (serves : Bool) (k : ServerState V) (t : TransId
       now : LiveMap
       now = with_locks k.lives t m
 
+      granted_call : (w : WaitingCall) → IsWaitingCall k.server k.epoch k.given (count_of k.coordinator) k.sizes now w → IsWaitingCall k.server k.epoch k.given (count_of k.coordinator) k.sizes now (record w { is_granted = true })
+      granted_call w o = record {
+        named = o.named;
+        file = λ z counted. (
+            let q : IsFileCall k.server k.epoch k.given (count_of k.coordinator) k.sizes now w z = o.file z counted in
+            record {
+              formed = q.formed;
+              some = q.some;
+              begun = q.begun;
+              limits = λ l is. (let x = q.limits l is in record { its = x.its; shape = x.shape; fewer = x.fewer; locks = x.locks; log = x.log });
+            });
+      }
+
+      same_count : (a b : ℕ) → Some a ≡ Some b → a ≡ b
+      same_count a b e = cc
+
       was : (u : TransId) (l : Live) → map.get now u ≡ Some l → (x : Live) × (map.get k.lives u ≡ Some x) × IsLikePart x l
       was u l is = locked_each k.lives t m (λ v y. (x : Live) × (map.get k.lives v ≡ Some x) × IsLikePart x y) (λ v y there. (y, there, like_itself y)) (λ y there. (y, there, record { client = refl; opens = refl; cells = refl })) u l is
 
       fits : (l : Live) → map.get k.lives t ≡ Some l → IsWithin k.sizes (record l { locks = m })
       fits l there =
           let g = grant_found (IsWaitingCall k.server k.epoch k.given (count_of k.coordinator) k.sizes k.lives) k.waits t m found h.waits.calls in
-          let limits : IsWithinLimits k.server k.epoch k.given k.sizes g.0 l = g.1.limits l (ap (map.get k.lives) (same_trans-true g.0.trans t g.2) ∙ there) in
+          let z = counts_there g.0.counts (file_counts t g.0 g.2) in
+          let asked : z.0.asked ≡ m = same_count z.0.asked m (sym (ap count_asked z.1) ∙ g.3) in
+          let limits : IsWithinLimits k.server k.epoch k.given k.sizes g.0 z.0 l = (g.1.file z.0 z.1).limits l (ap (map.get k.lives) (file_at t g.0 g.2) ∙ there) in
           record {
             part = (h.within t l there).part;
-            locks = omega (arith, limits.fewer, limits.locks, g.3);
-            log = subst (λ (x : ℕ). log_need l.part.counts.cells x ≤ k.sizes.area) g.3 (log_most l.part.counts.cells g.0.counts.asked g.0.counts.made k.sizes.area limits.fewer limits.log);
+            locks = omega (arith, limits.fewer, limits.locks, asked);
+            log = subst (λ (x : ℕ). log_need l.part.counts.cells x ≤ k.sizes.area) asked (log_most l.part.counts.cells z.0.asked z.0.made k.sizes.area limits.fewer limits.log);
           }
 
   -- the call of a transaction that waits in the table no more has its locks
@@ -224,12 +246,38 @@ module _ {V : Type 0} (n : ℕ) (k : ServerState V) (t : TransId) (c : Coordinat
   pub timed_ready : (serves : Bool) → LetsGo k.coordinator c t k.clock → IsReady n serves k → IsReady n serves (record (let_go k t) { coordinator = c })
   timed_ready serves lets h = subst (λ (y : ServerState V). IsReady n serves y) (ap (λ (y : ServerState V). record y { coordinator = c }) (sym (let_go_of k t))) (gone_so serves lets h)
 
+  -- its client is to be told
+  pub late_ready : (serves : Bool) (client : ℕ) (why : Cause) → IsCalm k.server (record { client = client; trans = t; cause = why }) → LetsGo k.coordinator c t k.clock → IsReady n serves k
+      → IsReady n serves (record (let_go k t) { dead = k.dead ++ (record { client = client; trans = t; cause = why }) ∷ []; coordinator = c })
+  late_ready serves client why calm lets h = buried_ready n serves (record (let_go k t) { coordinator = c }) (k.dead ++ (record { client = client; trans = t; cause = why }) ∷ []) alive causes (timed_ready serves lets h)
+    where
+      off : (u : TransId) (l : Live) → map.get (let_go k t).lives u ≡ Some l → (b : Bool) → same_trans u t ≡ b → b ≡ false
+      off u l there false e = refl
+      off u l there true e = let wrong : None ≡ Some l = sym (let_go_none k t) ∙ sym (ap (map.get (let_go k t).lives) (same_trans-true u t e)) ∙ there in cc
+
+      neither : (b d : Bool) → d ≡ false → (b && d) ≡ false
+      neither true d e = e
+      neither false d e = refl
+
+      causes : AllByRecursion (IsCalm (let_go k t).server) (k.dead ++ (record { client = client; trans = t; cause = why }) ∷ [])
+      causes = subst (λ (y : ServerState V). AllByRecursion (IsCalm y.server) (k.dead ++ (record { client = client; trans = t; cause = why }) ∷ [])) (sym (let_go_of k t))
+          (all-append (IsCalm k.server) k.dead ((record { client = client; trans = t; cause = why }) ∷ []) h.causes (calm, tt))
+
+      alive : (u : TransId) (l : Live) → map.get (let_go k t).lives u ≡ Some l → cause_in (k.dead ++ (record { client = client; trans = t; cause = why }) ∷ []) l.client u ≡ None
+      alive u l there =
+          sym (dead_then k.dead client t why l.client u)
+          ∙ ap (λ (b : Bool). cond {A = Option Cause} b (Some why) (cause_in k.dead l.client u)) (neither (l.client == client) (same_trans u t) (off u l there (same_trans u t) refl))
+          ∙ sym (ap (λ (y : ServerState V). cause_in y.dead l.client u) (let_go_of k t))
+          ∙ (timed_ready serves lets h).alive u l there
+
   -- its calls go, and its client is told
   pub ended_ready : (turn : Turn) (serves : Bool) (r : Reply) → LetsGo k.coordinator c t k.clock → IsTurn k.sessions turn → IsKeepable k.clock r → IsReady n serves k → IsReady (n + 1) serves (record (ended k turn t r) { coordinator = c })
   ended_ready turn serves r lets is keeps h =
       subst (λ (y : ServerState V). IsReady (n + 1) serves y)
       (ap (λ (y : ServerState V). record y { waits = without_calls_of turn.client t (let_go k t).waits; sessions = counted_in k.sessions turn r; dead = without_part turn.client t k.dead; coordinator = c }) (sym (let_go_of k t)))
       (buried_ready (n + 1) serves (record (let_gone k.clock) { waits = without_calls_of turn.client t (let_go k t).waits; sessions = counted_in k.sessions turn r }) (without_part turn.client t k.dead)
+      (λ u l there. alive_still (l.client == turn.client && same_trans u t) (cause_in k.dead l.client u) (cause_in (without_part turn.client t k.dead) l.client u) (part_left k.dead turn.client t l.client u) ((gone_so serves lets h).alive u l there))
+      (each-filter (IsCalm k.server) (λ (d : DeadPart). not (is_part turn.client t d)) k.dead h.causes)
       (counted_ready n serves (record (let_gone k.clock) { waits = without_calls_of turn.client t (let_go k t).waits }) turn r is keeps
       (without_ready n serves (let_gone k.clock) turn.client t (live_others n serves (let_gone k.clock) t (let_go_none k t) (gone_so serves lets h)) (gone_so serves lets h))))
 

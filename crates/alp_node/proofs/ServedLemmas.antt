@@ -9,7 +9,7 @@ use Rattle.alp_files.specs.declared.reply.Reply.{Reply}
 use Rattle.alp_files.specs.declared.reply.Reply.TheVariants as reply
 use Rattle.alp_files.specs.declared.refusal.Refusal.{Refusal}
 use Rattle.alp_files.specs.declared.refusal.Refusal.TheVariants as refusal
-use Rattle.alp_files.specs.declared.refusal.Cause.TheVariants as cause
+use Rattle.alp_files.specs.declared.refusal.Cause.{Cause}
 use Rattle.alp_vault.specs.Contents.{Contents}
 use Rattle.alp_base.specs.Causes.{Rose}
 use Rattle.alp_journal.specs.declared.event.Event.TheVariants as event
@@ -21,7 +21,7 @@ use Rattle.alp_journal.specs.Answered.{GrantsFor, grants_by, grants_if, asks}
 use Rattle.alp_journal.specs.Account.{Account, state_of}
 use Rattle.alp_journal.proofs.RefusedCalls.{counted_as, refused_leads}
 use Rattle.alp_journal.specs.Desk.{Session}
-use Rattle.alp_node.specs.Dead.{is_dead}
+use Rattle.alp_node.specs.Dead.{cause_in}
 use Rattle.alp_node.specs.ServerState.{IsAs}
 use Rattle.alp_node.specs.Standings.{standing_of}
 use Rattle.alp_node.specs.Steps.{Stepped, IsTurn, counted_in, seen_in, refused_answer}
@@ -55,47 +55,47 @@ module _ {V : Type 0} (a : Account) (before now : ℕ) (held : Contents) (k : Se
   part_grants : (f : Refusal) → part_refusal (state_of a) turn.client t ≡ Some f → GrantsFor false (state_of a) turn.client c (reply.Refused f) [] (Some t)
   part_grants f is = inr (sym (ap (λ (x : Option Refusal). cond {A = List TransId} (is_some x) [] (grants_if (state_of a) t c (reply.Refused f) (a.holder.lives t))) is))
 
-  pub stranger_stepped : (x : Answer) → IsAs a held k → IsTurn k.sessions turn → k.is_down ≡ false → file_trans c ≡ Some t → standing_of turn.client (map.get k.lives t) (is_dead turn.client t k.dead) ≡ standing.Unknown
+  pub stranger_stepped : (x : Answer) → IsAs a held k → IsTurn k.sessions turn → k.is_down ≡ false → file_trans c ≡ Some t → standing_of turn.client (map.get k.lives t) (cause_in k.dead turn.client t) ≡ standing.Unknown
       → x ≡ refused_answer refusal.UnknownTrans []
       → Stepped a before now held (record k { sessions = counted_in k.sessions turn (reply.Refused refusal.UnknownTrans) }) (event.Call turn.client k.epoch turn.number c) x
   stranger_stepped x h is up named unknown so =
       let no : part_refusal (state_of a) turn.client t ≡ Some refusal.UnknownTrans = refuses_so (part_of standing.Unknown) refusal.UnknownTrans (part_is a held k turn.client t h ∙ ap part_of unknown) (λ b. refl) in
       refused_stepped false refusal.UnknownTrans x h is up (λ e. cc) named refl refl (part_why refusal.UnknownTrans no) (part_grants refusal.UnknownTrans no) so
 
-  pub dead_call_stepped : (x : Answer) → IsAs a held k → IsTurn k.sessions turn → k.is_down ≡ false → file_trans c ≡ Some t → standing_of turn.client (map.get k.lives t) (is_dead turn.client t k.dead) ≡ standing.Dead
-      → x ≡ refused_answer (refusal.Aborted cause.TimedOut) []
-      → Stepped a before now held (record k { sessions = counted_in k.sessions turn (reply.Refused (refusal.Aborted cause.TimedOut)) }) (event.Call turn.client k.epoch turn.number c) x
-  dead_call_stepped x h is up named dead so =
-      let no : part_refusal (state_of a) turn.client t ≡ Some (refusal.Aborted cause.TimedOut) = refuses_so (part_of standing.Dead) (refusal.Aborted cause.TimedOut) (part_is a held k turn.client t h ∙ ap part_of dead) (λ b. refl) in
-      refused_stepped false (refusal.Aborted cause.TimedOut) x h is up (λ e. cc) named refl refl (part_why (refusal.Aborted cause.TimedOut) no) (part_grants (refusal.Aborted cause.TimedOut) no) so
+  pub dead_call_stepped : (why : Cause) (x : Answer) → IsAs a held k → IsTurn k.sessions turn → k.is_down ≡ false → file_trans c ≡ Some t → standing_of turn.client (map.get k.lives t) (cause_in k.dead turn.client t) ≡ standing.Ended why
+      → x ≡ refused_answer (refusal.Aborted why) []
+      → Stepped a before now held (record k { sessions = counted_in k.sessions turn (reply.Refused (refusal.Aborted why)) }) (event.Call turn.client k.epoch turn.number c) x
+  dead_call_stepped why x h is up named dead so =
+      let no : part_refusal (state_of a) turn.client t ≡ Some (refusal.Aborted why) = refuses_so (part_of (standing.Ended why)) (refusal.Aborted why) (part_is a held k turn.client t h ∙ ap part_of dead) (λ b. refl) in
+      refused_stepped false (refusal.Aborted why) x h is up (λ e. cc) named refl refl (part_why (refusal.Aborted why) no) (part_grants (refusal.Aborted why) no) so
 
   -- a part at work of which no call waits refuses nothing at once
-  at_work : IsAs a held k → standing_of turn.client (map.get k.lives t) (is_dead turn.client t k.dead) ≡ standing.Own → waiting_of (state_of a).desk turn.client t ≡ None → part_refusal (state_of a) turn.client t ≡ None
+  at_work : IsAs a held k → standing_of turn.client (map.get k.lives t) (cause_in k.dead turn.client t) ≡ standing.Work → waiting_of (state_of a).desk turn.client t ≡ None → part_refusal (state_of a) turn.client t ≡ None
   at_work h own idle = ap (λ (x : Option Waiting). at_part (is_some x) (part_at (state_of a) turn.client t)) idle ∙ ap (at_part false) (part_is a held k turn.client t h ∙ ap part_of own)
 
   -- a call of a part at work, by what the part is answered
-  pub work_why : (failed : Bool) (r : Reply) (life : Life) → IsAs a held k → standing_of turn.client (map.get k.lives t) (is_dead turn.client t k.dead) ≡ standing.Own → waiting_of (state_of a).desk turn.client t ≡ None → a.holder.lives t ≡ Some life
+  pub work_why : (failed : Bool) (r : Reply) (life : Life) → IsAs a held k → standing_of turn.client (map.get k.lives t) (cause_in k.dead turn.client t) ≡ standing.Work → waiting_of (state_of a).desk turn.client t ≡ None → a.holder.lives t ≡ Some life
       → OrFault failed r (IsFileAnswer (state_of a) t c r (Some life)) → IsFileOf failed (state_of a) turn.client c r (Some t)
   work_why failed r life h own idle live why =
       let none : part_refusal (state_of a) turn.client t ≡ None = at_work h own idle in
       subst (λ (x : Option Refusal). First x r (OrFault failed r (IsFileAnswer (state_of a) t c r (a.holder.lives t)))) (sym none)
       (subst (λ (x : Option Life). OrFault failed r (IsFileAnswer (state_of a) t c r x)) (sym live) why)
 
-  pub work_grants : (failed : Bool) (r : Reply) (life : Life) (ts : List TransId) → IsAs a held k → standing_of turn.client (map.get k.lives t) (is_dead turn.client t k.dead) ≡ standing.Own → waiting_of (state_of a).desk turn.client t ≡ None → a.holder.lives t ≡ Some life
+  pub work_grants : (failed : Bool) (r : Reply) (life : Life) (ts : List TransId) → IsAs a held k → standing_of turn.client (map.get k.lives t) (cause_in k.dead turn.client t) ≡ standing.Work → waiting_of (state_of a).desk turn.client t ≡ None → a.holder.lives t ≡ Some life
       → ts ≡ grants_if (state_of a) t c r (Some life) → GrantsFor failed (state_of a) turn.client c r ts (Some t)
   work_grants failed r life ts h own idle live are =
       let none : part_refusal (state_of a) turn.client t ≡ None = at_work h own idle in
       inr (are ∙ ap (grants_if (state_of a) t c r) (sym live) ∙ sym (ap (λ (x : Option Refusal). cond {A = List TransId} (is_some x) [] (grants_if (state_of a) t c r (a.holder.lives t))) none))
 
   -- a read of the vault failed
-  pub fault_stepped : (life : Life) (x : Answer) → IsAs a held k → IsTurn k.sessions turn → k.is_down ≡ false → Rose before now → file_trans c ≡ Some t → standing_of turn.client (map.get k.lives t) (is_dead turn.client t k.dead) ≡ standing.Own → waiting_of (state_of a).desk turn.client t ≡ None
+  pub fault_stepped : (life : Life) (x : Answer) → IsAs a held k → IsTurn k.sessions turn → k.is_down ≡ false → Rose before now → file_trans c ≡ Some t → standing_of turn.client (map.get k.lives t) (cause_in k.dead turn.client t) ≡ standing.Work → waiting_of (state_of a).desk turn.client t ≡ None
       → a.holder.lives t ≡ Some life → x ≡ refused_answer refusal.ReadFault []
       → Stepped a before now held (record k { sessions = counted_in k.sessions turn (reply.Refused refusal.ReadFault) }) (event.Call turn.client k.epoch turn.number c) x
   fault_stepped life x h is up rose named own idle live so =
       refused_stepped true refusal.ReadFault x h is up (λ e. rose) named refl refl (work_why true (reply.Refused refusal.ReadFault) life h own idle live (inl (refl, refl))) (inl (refl, refl, refl)) so
 
   -- it is refused before its locks are looked at
-  pub first_stepped : (f : Refusal) (life : Life) (x : Answer) → IsAs a held k → IsTurn k.sessions turn → k.is_down ≡ false → file_trans c ≡ Some t → standing_of turn.client (map.get k.lives t) (is_dead turn.client t k.dead) ≡ standing.Own → waiting_of (state_of a).desk turn.client t ≡ None
+  pub first_stepped : (f : Refusal) (life : Life) (x : Answer) → IsAs a held k → IsTurn k.sessions turn → k.is_down ≡ false → file_trans c ≡ Some t → standing_of turn.client (map.get k.lives t) (cause_in k.dead turn.client t) ≡ standing.Work → waiting_of (state_of a).desk turn.client t ≡ None
       → a.holder.lives t ≡ Some life → option_or (shape_refusal (state_of a) life c) (lock_refusal (state_of a) t life c) ≡ Some f → is_not_yet (reply.Refused f) ≡ false → done_by (state_of a) c (reply.Refused f) (Some t) ≡ []
       → x ≡ refused_answer f []
       → Stepped a before now held (record k { sessions = counted_in k.sessions turn (reply.Refused f) }) (event.Call turn.client k.epoch turn.number c) x

@@ -39,10 +39,10 @@ use Rattle.alp_journal.specs.Answered.{is_fault_reply}
 use Rattle.alp_journal.specs.Account.{Account, state_of}
 use Rattle.alp_node.specs.Asks.{is_given, is_of_given}
 use Rattle.alp_node.specs.Calls.{IsServedCall}
-use Rattle.alp_node.specs.Dead.{is_dead}
+use Rattle.alp_node.specs.Dead.{cause_in}
 use Rattle.alp_node.specs.Halts.{says_shut}
 use Rattle.alp_node.specs.Turns.{IsInSession}
-use Rattle.alp_node.specs.ServerState.{IsAs, IsLife}
+use Rattle.alp_node.specs.ServerState.{IsAs, IsCaller}
 use Rattle.alp_node.specs.Shapes.{no_open, no_run, no_size, shape_of, counts_then, too_locked}
 use Rattle.alp_node.specs.Standings.{standing_of}
 use Rattle.alp_node.specs.Steps.{Stepped, IsTurn, counted_in, refused_answer}
@@ -56,6 +56,7 @@ use Rattle.alp_node.proofs.CountedLemmas.{IsCountRefusal, over_is, either_is, to
 use Rattle.alp_node.proofs.ClosedLemmas.{EitherOpen, either_open, either_change, close_open, lock_open, read_on, write_on, size_on, props_on}
 use Rattle.alp_node.proofs.IdLemmas.{known_file, unknown_file}
 use Rattle.alp_node.proofs.KeptLemmas.{IsLive, live_there}
+use Rattle.alp_node.proofs.OneServer.{lone_caller}
 use Rattle.alp_node.proofs.ServedLemmas.{first_stepped}
 use Rattle.alp_node.proofs.WithinLemmas.{MayLock}
 
@@ -135,7 +136,7 @@ count_none_done a t c f counts = ap (λ (b : Bool). cond {A = List Deed} (b || i
 pub first_is : (o p q : Option Refusal) (f : Refusal) → o ≡ Some f → option_or (option_or o p) q ≡ Some f
 first_is o p q f e = ap (λ (x : Option Refusal). option_or (option_or x p) q) e
 
-module _ {V : Type 0} (a : Account) (held : Contents) (k : ServerState V) (h : IsAs a held k) (raised : 0 < k.epoch) (t : TransId) (l : Live) (life : Life) (mine : IsLife a.holder.cells k.locks.held (a.locked t) t l life) where
+module _ {V : Type 0} (a : Account) (held : Contents) (k : ServerState V) (h : IsAs a held k) (raised : 0 < k.epoch) (t : TransId) (l : Live) (life : Life) (mine : IsCaller l life) where
   -- the ids that the counts tell as given the journal tells too
   drawn_same : (f : FileId) → is_file_drawn (state_of a) f ≡ is_given k.server k.epoch k.given f
   drawn_same f = go (is_given k.server k.epoch k.given f) refl
@@ -235,13 +236,14 @@ module _ {V : Type 0} (a : Account) (held : Contents) (k : ServerState V) (h : I
 
 -- a file call is refused for its shape
 pub shape_stepped : {V : Type 0} (a : Account) (before now : ℕ) (held : Contents) (k : ServerState V) (turn : Turn) (t : TransId) (c : Call) (f : Refusal) (x : Answer) → IsAs a held k → 0 < k.epoch → IsTurn k.sessions turn → k.is_down ≡ false
-    → file_trans c ≡ Some t → IsServedCall c → standing_of turn.client (map.get k.lives t) (is_dead turn.client t k.dead) ≡ standing.Own → waiting_of (state_of a).desk turn.client t ≡ None → (l : Live) → map.get k.lives t ≡ Some l
+    → file_trans c ≡ Some t → IsServedCall c → standing_of turn.client (map.get k.lives t) (cause_in k.dead turn.client t) ≡ standing.Work → waiting_of (state_of a).desk turn.client t ≡ None → (l : Live) → map.get k.lives t ≡ Some l
     → shape_of k.server k.epoch k.given (length l.part.opens.items) c ≡ Some f → x ≡ refused_answer f []
     → Stepped a before now held (record k { sessions = counted_in k.sessions turn (reply.Refused f) }) (event.Call turn.client k.epoch turn.number c) x
 shape_stepped a before now held k turn t c f x h raised is up named served own idle l there e so =
     let y : IsLive a.holder.cells k.locks.held (a.locked t) t l (a.holder.lives t) = live_there a.holder.cells k.locks.held (a.locked t) t (map.get k.lives t) (a.holder.lives t) l there (h.lives t) in
-    first_stepped a before now held k turn t c f y.life x h is up named own idle y.is (shape_told a held k h raised t l y.life y.alike c f (lock_refusal (state_of a) t y.life c) served e)
-    (shape_now k.server k.epoch k.given (length l.part.opens.items) c f e) (shape_none a held k h raised t l y.life y.alike c f served e) so
+    let caller : IsCaller l y.life = lone_caller a held k h a.holder.cells k.locks.held (a.locked t) t l y.life y.is y.alike in
+    first_stepped a before now held k turn t c f y.life x h is up named own idle y.is (shape_told a held k h raised t l y.life caller c f (lock_refusal (state_of a) t y.life c) served e)
+    (shape_now k.server k.epoch k.given (length l.part.opens.items) c f e) (shape_none a held k h raised t l y.life caller c f served e) so
 
 -- ---- its locks
 

@@ -32,7 +32,7 @@ use Rattle.alp_journal.specs.Account.{Account}
 use Rattle.alp_node.specs.Eases.{new_blocks, shared_in, eased_live, eased}
 use Rattle.alp_node.specs.Rooms.{IsWithin}
 use Rattle.alp_turns.proofs.StandLemmas.{needs_stand}
-use Rattle.alp_node.specs.ServerState.{IsAs, IsAlike, IsLife, PutNoneBeyond}
+use Rattle.alp_node.specs.ServerState.{IsAs, IsAlike, IsCaller, IsLife, PutNoneBeyond}
 use Rattle.alp_node.specs.Totals.{LiveMap, totals_of, HaveRoom}
 use Rattle.alp_node.specs.declared.lives.Live.{Live}
 use Rattle.alp_node.specs.declared.server_state.ServerState.{ServerState}
@@ -40,6 +40,7 @@ use Rattle.alp_node.proofs.ApartLemmas.{writes_apart}
 use Rattle.alp_node.proofs.EaseLaw.{eased_counts}
 use Rattle.alp_node.proofs.EasedKeys.{eased_at}
 use Rattle.alp_node.proofs.MapLemmas.{tied_same}
+use Rattle.alp_node.proofs.OneServer.{lone_unvoted}
 use Rattle.alp_node.proofs.TotalLemmas.{among, gone_totals}
 
 intended_of : (cells : Cells) (locks : Holders) (rs : List Resource) (u : TransId) (o : Option Live) (x : Option Life) (m : Life) → x ≡ Some m → IsAlike cells locks rs u o x → IsIntended m.held
@@ -103,7 +104,8 @@ module _ {V : Type 0} (a : Account) (held : Contents) (k : ServerState V) (h : I
       opens_of None None is alike = let wrong : None ≡ Some y = is in cc
       opens_of (Some x) None is alike = absurd alike
       opens_of None (Some z) is alike = absurd alike
-      opens_of (Some x) (Some z) is alike = subst (λ (v : Life). OpensRead (Reads v.held) v.own.opens) (same_life z y is) (IsLife.opens alike)
+      opens_of (Some x) (Some z) is alike =
+          subst (λ (v : Life). OpensRead (Reads v.held) v.own.opens) (same_life z y is) (IsLife.calls alike (ap (λ (v : Life). v.vote) (same_life z y is) ∙ lone_unvoted a held k h u y live_u)).opens
         where
           same_life : (b c : Life) → Some b ≡ Some c → b ≡ c
           same_life b c e = cc
@@ -133,11 +135,10 @@ module _ {V : Type 0} (a : Account) (held : Contents) (k : ServerState V) (h : I
           let b : StandsBeside u x.part y.edits = beside x y refl refl in
           subst (λ (c : Bool). IsAlike cells_then locks rs u (cond {A = Option Live} c (Some (eased_live blocks_then x)) (Some x)) (Some y)) (sym b.2) (record {
             client = IsLife.client alike;
-            who = IsLife.who alike;
+            join = IsLife.join alike;
             intents = IsLife.intents alike;
-            own = IsLife.own alike;
             held = IsLife.held alike;
-            opens = IsLife.opens alike;
+            calls = λ unvoted. (let c : IsCaller x y = IsLife.calls alike unvoted in record { who = c.who; own = c.own; opens = c.opens });
             counts = b.1;
             within = IsLife.within alike;
             intended = IsLife.intended alike;

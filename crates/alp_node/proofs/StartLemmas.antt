@@ -320,12 +320,15 @@ new_ready steps old server sizes c serves up within later last area sound nothin
   halted = λ down. (let wrong : false ≡ true = down in cc);
   sound = sound;
   taken = refl;
-  waits = record { calls = tt; apart = tt; queued = tt };
+  waits = record { calls = tt; files = tt; apart = tt; queued = tt };
   known = λ t l is. (let wrong : None ≡ Some l = sym (none_live t) ∙ is in cc);
   seat = (nothing_known.run.server_same, nothing_known.run.epoch_same);
   own = λ t. ap client_of (nothing_known.none t) ∙ ap owner_of (sym (none_live t));
   opens = λ t l is. (let wrong : None ≡ Some l = sym (none_live t) ∙ is in cc);
   opened = λ t l is. (let wrong : None ≡ Some l = sym (none_live t) ∙ is in cc);
+  callers = λ t l is. (let wrong : None ≡ Some l = sym (none_live t) ∙ is in cc);
+  alive = λ t l is. (let wrong : None ≡ Some l = sym (none_live t) ∙ is in cc);
+  causes = tt;
   places = refl;
   calls = λ client w is. (let wrong : None ≡ Some w = sym (no_session client) ∙ is in cc);
   replies = λ client w is. (let wrong : None ≡ Some w = sym (no_session client) ∙ is in cc);

@@ -1,18 +1,20 @@
 -- calls that wait, as the parts that they are of go on
-use Rattle.std.specs.Prelude.{cond, Bool, true, false, not, ◌&&◌, ◌||◌, ◌==◌, find, filter, Option, None, Some, is_some}
+use Rattle.std.specs.Prelude.{cond, Bool, true, false, not, ◌&&◌, ◌||◌, ◌==◌, find, filter, Option, None, Some, is_some, is_none}
 use Rattle.std.specs.List.{list_any, AllByRecursion}
 use Rattle.std.specs.Option.{option_or}
 use Rattle.std.specs.FinMap as map
+use Rattle.std.proofs.lemmas.Bool.{eqb-true}
+use Rattle.alp_base.proofs.NameLemmas.{and_left, and_right}
 use Rattle.std.proofs.Common.{◌≡◌, ℕ, zero, suc, ◌+◌, ◌<◌, ◌≤◌, List, [], ◌∷◌, ◌++◌, length, take, drop, get_or, slice_set, refl, sym, ◌∙◌, ap, subst, arith, eq-eqb, le_refl}
 use Rattle.alp_base.specs.declared.faults.Sizes.{Sizes}
 use Rattle.alp_base.specs.declared.ids.TransId.{TransId}
 use Rattle.alp_files.specs.declared.call.Call.{Call}
 use Rattle.alp_files.specs.declared.call.Call.TheVariants as call
+use Rattle.alp_files.specs.declared.refusal.Cause.{Cause}
 use Rattle.alp_files.specs.declared.refusal.Refusal.{Refusal}
 use Rattle.alp_files.specs.declared.refusal.Refusal.TheVariants as refusal
 use Rattle.alp_journal.specs.Answers.{if_over}
 use Rattle.alp_journal.specs.Counts.{log_need}
-use Rattle.alp_journal.specs.Desk.{file_trans}
 use Rattle.alp_journal.specs.Ids.{same_trans}
 use Rattle.alp_journal.proofs.IdLemmas.{same_trans-itself, same_trans-true}
 use Rattle.alp_locks.proofs.SoundLemmas.{each-more, each-both, each-filter}
@@ -21,9 +23,13 @@ use Rattle.alp_queue.specs.declared.waiter.Waiter.{Waiter}
 use Rattle.alp_node.specs.Asks.{is_given}
 use Rattle.alp_node.specs.Shapes.{shape_of, no_open}
 use Rattle.alp_node.specs.Totals.{LiveMap}
-use Rattle.alp_node.specs.Waits.{is_of, has_waiting, grant_one, grant_of, stays, live_calls, IsWithinLimits, IsWaitingCall, IsOfOther, AreApart, is_asking, asks_for, IsOfCalls, AreWaiting}
+use Rattle.alp_node.specs.Dead.{cause_in}
+use Rattle.alp_node.specs.Waits.{is_of, is_file_on, has_waiting, grant_one, grant_of, outlives, without_dead, has_part, stays, live_calls, IsWithinLimits, IsFileCall, IsNamed, IsWaitingCall, IsOfOther, AreApart, is_asking, asks_for, IsOfCalls, AreWaiting}
+use Rattle.alp_node.specs.declared.dead.DeadPart.{DeadPart}
 use Rattle.alp_node.specs.declared.lives.Live.{Live}
+use Rattle.alp_node.specs.declared.lock_counts.LockCounts.{LockCounts}
 use Rattle.alp_node.specs.declared.waits.WaitingCall.{WaitingCall}
+use Rattle.alp_node.proofs.BesideLemmas.{AreNamed, AreOthers, HasNoCall}
 use Rattle.alp_node.proofs.MapLemmas.{tied_same}
 use Rattle.alp_node.proofs.OpenLemmas.{given_later}
 
@@ -44,15 +50,32 @@ pub each_so : {X : Type 0} (P : X → Type 0) → ((x : X) → P x) → (xs : Li
 each_so P h [] = tt
 each_so P h (x ∷ xs) = (h x, each_so P h xs)
 
-pub any_filter : {X : Type 0} (p q : X → Bool) (xs : List X) → ((x : X) → q x ≡ true → p x ≡ true) → list_any q xs ≡ true → list_any q (filter p xs) ≡ true
-any_filter p q [] keeps h = h
-any_filter p q (x ∷ xs) keeps h = go (q x) (p x) refl refl h (any_filter p q xs keeps)
+pub any_filter : {X : Type 0} (P : X → Type 0) (p q : X → Bool) (xs : List X) → ((x : X) → P x → q x ≡ true → p x ≡ true) → AllByRecursion P xs → list_any q xs ≡ true → list_any q (filter p xs) ≡ true
+any_filter P p q [] keeps all h = h
+any_filter P p q (x ∷ xs) keeps all h = go (q x) (p x) refl refl h (any_filter P p q xs keeps all.1)
   where
     go : (a b : Bool) → q x ≡ a → p x ≡ b → (a || list_any q xs) ≡ true → (list_any q xs ≡ true → list_any q (filter p xs) ≡ true) → list_any q (cond b (x ∷ filter p xs) (filter p xs)) ≡ true
     go true true e f g rest = ap (λ (c : Bool). c || list_any q (filter p xs)) e
-    go true false e f g rest = let wrong : true ≡ false = sym (keeps x e) ∙ f in cc
+    go true false e f g rest = let wrong : true ≡ false = sym (keeps x all.0 e) ∙ f in cc
     go false true e f g rest = ap (λ (c : Bool). c || list_any q (filter p xs)) e ∙ rest g
     go false false e f g rest = rest g
+
+-- ---- file calls
+
+-- counts that are there
+pub counts_there : (x : Option LockCounts) → is_some x ≡ true → (n : LockCounts) × (x ≡ Some n)
+counts_there None some = let wrong : false ≡ true = some in cc
+counts_there (Some n) some = (n, refl)
+
+pub file_counts : (t : TransId) (w : WaitingCall) → is_file_on t w ≡ true → is_some w.counts ≡ true
+file_counts t w e = and_left (is_some w.counts) (same_trans w.trans t) e
+
+pub file_at : (t : TransId) (w : WaitingCall) → is_file_on t w ≡ true → w.trans ≡ t
+file_at t w e = same_trans-true w.trans t (and_right (is_some w.counts) (same_trans w.trans t) e)
+
+-- one of this transaction is a file call on it
+pub file_on : (t : TransId) (w : WaitingCall) (n : LockCounts) → w.counts ≡ Some n → same_trans w.trans t ≡ true → is_file_on t w ≡ true
+file_on t w n counted e = ap (λ (x : Option LockCounts). is_some x && same_trans w.trans t) counted ∙ e
 
 -- ---- shapes
 
@@ -79,36 +102,37 @@ pub like_itself : (l : Live) → IsLikePart l l
 like_itself l = record { client = refl; opens = refl; cells = refl }
 
 module _ (server epoch m n : ℕ) (more : m ≤ n) (sizes : Sizes) where
-  pub limits_later : (w : WaitingCall) (l now : Live) → IsLikePart l now → IsWithinLimits server epoch m sizes w l → IsWithinLimits server epoch n sizes w now
-  limits_later w l now like h = record {
+  pub limits_later : (w : WaitingCall) (z : LockCounts) (l now : Live) → IsLikePart l now → IsWithinLimits server epoch m sizes w z l → IsWithinLimits server epoch n sizes w z now
+  limits_later w z l now like h = record {
     its = h.its ∙ sym like.client;
     shape = subst (λ (k : ℕ). shape_of server epoch n k w.call ≡ None) (sym like.opens) (shape_later server epoch m n (length l.part.opens.items) more w.call h.shape);
     fewer = h.fewer;
     locks = h.locks;
-    log = subst (λ (k : ℕ). log_need k w.counts.made ≤ sizes.area) (sym like.cells) h.log;
+    log = subst (λ (k : ℕ). log_need k z.made ≤ sizes.area) (sym like.cells) h.log;
   }
 
-  -- whoever is live then was a like part before, where the call is of its transaction
+  -- whoever is live then was a like part before, where the file call is of its transaction
   pub call_later : (drawn drawn_then : ℕ) → drawn ≤ drawn_then → (lives now : LiveMap) (w : WaitingCall)
-      → (IsWaitingCall server epoch m drawn sizes lives w → (l : Live) → map.get now w.trans ≡ Some l → (x : Live) × (map.get lives w.trans ≡ Some x) × IsLikePart x l)
+      → ((z : LockCounts) → w.counts ≡ Some z → IsFileCall server epoch m drawn sizes lives w z → (l : Live) → map.get now w.trans ≡ Some l → (x : Live) × (map.get lives w.trans ≡ Some x) × IsLikePart x l)
       → IsWaitingCall server epoch m drawn sizes lives w → IsWaitingCall server epoch n drawn_then sizes now w
   call_later drawn drawn_then low lives now w was h = record {
     named = h.named;
-    formed = h.formed;
-    some = h.some;
-    begun = omega (arith, low, h.begun);
-    limits = λ l is. let x = was h l is in limits_later w x.0 l x.2 (h.limits x.0 x.1);
+    file = λ z counted. (
+        let o : IsFileCall server epoch m drawn sizes lives w z = h.file z counted in
+        let before : w.trans.counter ≤ drawn = o.begun in
+        record {
+          formed = o.formed;
+          some = o.some;
+          begun = omega (arith, low, before);
+          limits = λ l is. let x = was z counted o l is in limits_later w z x.0 l x.2 (o.limits x.0 x.1);
+        });
   }
 
 -- ---- a grant
 
-granted_like : (t : TransId) (w : WaitingCall) → (b : Bool) → same_trans (cond {A = WaitingCall} b (record w { is_granted = true }) w).trans t ≡ same_trans w.trans t
-granted_like t w true = refl
-granted_like t w false = refl
-
 pub grant_call : (P : WaitingCall → Type 0) (t : TransId) → ((w : WaitingCall) → P w → P (record w { is_granted = true })) → (ws : List WaitingCall) → AllByRecursion P ws → AllByRecursion P (grant_of t ws)
 grant_call P t keeps [] h = tt
-grant_call P t keeps (w ∷ ws) h = (go (same_trans w.trans t), grant_call P t keeps ws h.1)
+grant_call P t keeps (w ∷ ws) h = (go (is_file_on t w), grant_call P t keeps ws h.1)
   where
     go : (b : Bool) → P (cond {A = WaitingCall} b (record w { is_granted = true }) w)
     go true = keeps w h.0
@@ -116,23 +140,37 @@ grant_call P t keeps (w ∷ ws) h = (go (same_trans w.trans t), grant_call P t k
 
 pub grant_apart : (t : TransId) (ws : List WaitingCall) → AreApart ws → AreApart (grant_of t ws)
 grant_apart t [] h = tt
-grant_apart t (w ∷ ws) h = (go (same_trans w.trans t), grant_apart t ws h.1)
+grant_apart t (w ∷ ws) h = (go (is_file_on t w), grant_apart t ws h.1)
   where
+    as_granted : (v : WaitingCall) → IsOfOther w v → IsOfOther w (record v { is_granted = true })
+    as_granted v e = record { files = e.files; parts = e.parts }
+
+    granted_from : (v : WaitingCall) → IsOfOther w v → IsOfOther (record w { is_granted = true }) v
+    granted_from v e = record { files = e.files; parts = e.parts }
+
+    both_granted : (v : WaitingCall) → IsOfOther (record w { is_granted = true }) v → IsOfOther (record w { is_granted = true }) (record v { is_granted = true })
+    both_granted v e = record { files = e.files; parts = e.parts }
+
     go : (b : Bool) → AllByRecursion (IsOfOther (cond {A = WaitingCall} b (record w { is_granted = true }) w)) (grant_of t ws)
-    go true = grant_call (IsOfOther w) t (λ v e. e) ws h.0
-    go false = grant_call (IsOfOther w) t (λ v e. e) ws h.0
+    go true = grant_call (IsOfOther (record w { is_granted = true })) t both_granted ws (each-more (IsOfOther w) (IsOfOther (record w { is_granted = true })) granted_from ws h.0)
+    go false = grant_call (IsOfOther w) t as_granted ws h.0
 
 asking_one : (t u : TransId) (w : WaitingCall) → same_trans u t ≡ false → is_asking u (grant_one t w) ≡ is_asking u w
-asking_one t u w apart = go (same_trans w.trans t) refl
+asking_one t u w apart = go (is_file_on t w) refl
   where
-    go : (b : Bool) → same_trans w.trans t ≡ b → is_asking u (cond {A = WaitingCall} b (record w { is_granted = true }) w) ≡ is_asking u w
+    go : (b : Bool) → is_file_on t w ≡ b → is_asking u (cond {A = WaitingCall} b (record w { is_granted = true }) w) ≡ is_asking u w
     go false e = refl
     go true e = none (same_trans w.trans u) refl
       where
-        none : (c : Bool) → same_trans w.trans u ≡ c → (c && false) ≡ (c && not w.is_granted)
-        none false f = refl
+        neither : (c x y : Bool) → ((c && false) && x) ≡ ((c && false) && y)
+        neither true x y = refl
+        neither false x y = refl
+
+        none : (c : Bool) → same_trans w.trans u ≡ c → ((is_some w.counts && c) && false) ≡ ((is_some w.counts && c) && not w.is_granted)
+        none false f = neither (is_some w.counts) false (not w.is_granted)
         none true f =
-            let wrong : true ≡ false = sym e ∙ ap (λ (x : TransId). same_trans x t) (same_trans-true w.trans u f) ∙ apart in
+            let its : same_trans w.trans t ≡ true = and_right (is_some w.counts) (same_trans w.trans t) e in
+            let wrong : true ≡ false = sym its ∙ ap (λ (x : TransId). same_trans x t) (same_trans-true w.trans u f) ∙ apart in
             cc
 
 -- others go on asking
@@ -152,22 +190,56 @@ filter_apart p (w ∷ ws) h = go (p w) (filter_apart p ws h.1)
 
 -- an asking call is of its transaction
 asking_is : (t : TransId) (w : WaitingCall) → is_asking t w ≡ true → w.trans ≡ t
-asking_is t w e = go (same_trans w.trans t) refl e
-  where
-    go : (b : Bool) → same_trans w.trans t ≡ b → (b && not w.is_granted) ≡ true → w.trans ≡ t
-    go true f g = same_trans-true w.trans t f
-    go false f g = let wrong : false ≡ true = g in cc
+asking_is t w e = file_at t w (and_left (is_file_on t w) (not w.is_granted) e)
 
--- whoever is live goes on asking where calls of dead parts go, and calls of another
-pub asks_live : (client : ℕ) (lives : LiveMap) (ws : List WaitingCall) (t : TransId) → is_some (map.get lives t) ≡ true → asks_for ws t ≡ true → asks_for (live_calls client lives ws) t ≡ true
-asks_live client lives ws t live asks = any_filter (stays client lives) (is_asking t) ws (λ w e. go w (not (w.client == client)) (ap (λ (u : TransId). is_some (map.get lives u)) (asking_is t w e) ∙ live)) asks
+-- the file call of a live part is its client's
+abbrev pub IsOwned : LiveMap → WaitingCall → Type 0
+IsOwned lives w = (l : Live) → map.get lives w.trans ≡ Some l → is_some w.counts ≡ true → w.client ≡ l.client
+
+pub owned_of : (server epoch given drawn : ℕ) (sizes : Sizes) (lives : LiveMap) (w : WaitingCall) → IsWaitingCall server epoch given drawn sizes lives w → IsOwned lives w
+owned_of server epoch given drawn sizes lives w h l there some = let n = counts_there w.counts some in ((h.file n.0 n.1).limits l there).its
+
+pub all_owned : (server epoch given drawn : ℕ) (sizes : Sizes) (lives : LiveMap) (ws : List WaitingCall) → AllByRecursion (IsWaitingCall server epoch given drawn sizes lives) ws → AllByRecursion (IsOwned lives) ws
+all_owned server epoch given drawn sizes lives ws h = each-more (IsWaitingCall server epoch given drawn sizes lives) (IsOwned lives) (λ w o. owned_of server epoch given drawn sizes lives w o) ws h
+
+-- whoever is live goes on asking where calls of dead parts go
+pub asks_undead : (client : ℕ) (ds : List DeadPart) (lives : LiveMap) (ws : List WaitingCall) (t : TransId) → ((l : Live) → map.get lives t ≡ Some l → cause_in ds l.client t ≡ None) → is_some (map.get lives t) ≡ true
+    → AllByRecursion (IsOwned lives) ws → asks_for ws t ≡ true → asks_for (without_dead client ds ws) t ≡ true
+asks_undead client ds lives ws t alive live owned asks = any_filter (IsOwned lives) (outlives client ds) (is_asking t) ws keeps owned asks
   where
-    go : (w : WaitingCall) (b : Bool) → is_some (map.get lives w.trans) ≡ true → (b || is_some (map.get lives w.trans)) ≡ true
-    go w true e = refl
-    go w false e = e
+    by : (w : WaitingCall) (l : Live) → w.trans ≡ t → w.client ≡ l.client → cause_in ds l.client t ≡ None → (b : Bool) → (w.client == client) ≡ b → (not b || is_none (cause_in ds client w.trans)) ≡ true
+    by w l at its none false e = refl
+    by w l at its none true e =
+        let same : client ≡ l.client = sym (eqb-true w.client client e) ∙ its in
+        ap (λ (x : Option Cause). is_none x) ((λ i. cause_in ds (same i) (at i)) ∙ none)
+
+    go : (w : WaitingCall) → IsOwned lives w → is_some w.counts ≡ true → w.trans ≡ t → (x : Option Live) → map.get lives t ≡ x → is_some x ≡ true → outlives client ds w ≡ true
+    go w own some at None e s = let wrong : false ≡ true = s in cc
+    go w own some at (Some l) e s = by w l at (own l (ap (map.get lives) at ∙ e) some) (alive l e) (w.client == client) refl
+
+    keeps : (w : WaitingCall) → IsOwned lives w → is_asking t w ≡ true → outlives client ds w ≡ true
+    keeps w own e = go w own (file_counts t w (and_left (is_file_on t w) (not w.is_granted) e)) (asking_is t w e) (map.get lives t) refl live
+
+-- and where those go that are of no live part
+pub asks_live : (client : ℕ) (lives : LiveMap) (ws : List WaitingCall) (t : TransId) → is_some (map.get lives t) ≡ true → AllByRecursion (IsOwned lives) ws → asks_for ws t ≡ true → asks_for (live_calls client lives ws) t ≡ true
+asks_live client lives ws t live owned asks = any_filter (IsOwned lives) (stays client lives) (is_asking t) ws keeps owned asks
+  where
+    by : (w : WaitingCall) (l : Live) → map.get lives w.trans ≡ Some l → w.client ≡ l.client → (b : Bool) → (w.client == client) ≡ b → (not b || has_part client (map.get lives w.trans)) ≡ true
+    by w l there its false e = refl
+    by w l there its true e = ap (has_part client) there ∙ eq-eqb l.client client (sym its ∙ eqb-true w.client client e)
+
+    go : (w : WaitingCall) → IsOwned lives w → is_some w.counts ≡ true → w.trans ≡ t → (x : Option Live) → map.get lives t ≡ x → is_some x ≡ true → stays client lives w ≡ true
+    go w own some at None e s = let wrong : false ≡ true = s in cc
+    go w own some at (Some l) e s =
+        let there : map.get lives w.trans ≡ Some l = ap (map.get lives) at ∙ e in
+        by w l there (own l there some) (w.client == client) refl
+
+    keeps : (w : WaitingCall) → IsOwned lives w → is_asking t w ≡ true → stays client lives w ≡ true
+    keeps w own e = go w own (file_counts t w (and_left (is_file_on t w) (not w.is_granted) e)) (asking_is t w e) (map.get lives t) refl live
 
 pub asks_other : (client : ℕ) (t : TransId) (ws : List WaitingCall) (u : TransId) → same_trans u t ≡ false → asks_for ws u ≡ true → asks_for (filter (λ w. not (is_of client t w)) ws) u ≡ true
-asks_other client t ws u apart asks = any_filter (λ w. not (is_of client t w)) (is_asking u) ws (λ w e. go w (w.client == client) (ap (λ (x : TransId). same_trans x t) (asking_is u w e) ∙ apart)) asks
+asks_other client t ws u apart asks =
+    any_filter (λ (w : WaitingCall). Unit {0}) (λ w. not (is_of client t w)) (is_asking u) ws (λ w o e. go w (w.client == client) (ap (λ (x : TransId). same_trans x t) (asking_is u w e) ∙ apart)) (each_so (λ (w : WaitingCall). Unit {0}) (λ w. tt) ws) asks
   where
     go : (w : WaitingCall) (b : Bool) → same_trans w.trans t ≡ false → not (b && same_trans w.trans t) ≡ true
     go w true e = ap not e
@@ -182,7 +254,7 @@ each_last P (y ∷ ys) x h k = (h.0, each_last P ys x h.1 k)
 pub pushed_each : (P : WaitingCall → Type 0) (ws : List WaitingCall) (w : WaitingCall) → AllByRecursion P ws → P w → AllByRecursion P (ws ++ w ∷ [])
 pushed_each P ws w h k = each_last P ws w h k
 
-pub pushed_apart : (ws : List WaitingCall) (w : WaitingCall) → AreApart ws → AllByRecursion (λ v. same_trans w.trans v.trans ≡ false) ws → AreApart (ws ++ w ∷ [])
+pub pushed_apart : (ws : List WaitingCall) (w : WaitingCall) → AreApart ws → AllByRecursion (λ v. IsOfOther v w) ws → AreApart (ws ++ w ∷ [])
 pushed_apart [] w h k = (tt, tt)
 pushed_apart (v ∷ vs) w h k = (each_last (IsOfOther v) vs w h.0 k.0, pushed_apart vs w h.1 k.1)
 
@@ -194,9 +266,9 @@ pushed_asks (v ∷ vs) w t h = go (is_asking t v) h (pushed_asks vs w t)
     go true e rest = refl
     go false e rest = rest e
 
-pub asks_last : (ws : List WaitingCall) (w : WaitingCall) → w.is_granted ≡ false → asks_for (ws ++ w ∷ []) w.trans ≡ true
-asks_last [] w new = (λ i. (same_trans-itself w.trans i && not (new i)) || false)
-asks_last (v ∷ vs) w new = go (is_asking w.trans v) (asks_last vs w new)
+pub asks_last : (ws : List WaitingCall) (w : WaitingCall) → is_some w.counts ≡ true → w.is_granted ≡ false → asks_for (ws ++ w ∷ []) w.trans ≡ true
+asks_last [] w some new = (λ i. ((some i && same_trans-itself w.trans i) && not (new i)) || false)
+asks_last (v ∷ vs) w some new = go (is_asking w.trans v) (asks_last vs w some new)
   where
     go : (b : Bool) → asks_for (vs ++ w ∷ []) w.trans ≡ true → (b || asks_for (vs ++ w ∷ []) w.trans) ≡ true
     go true rest = refl
@@ -204,26 +276,35 @@ asks_last (v ∷ vs) w new = go (is_asking w.trans v) (asks_last vs w new)
 
 -- ---- who does not wait
 
--- of a live part of which no call waits none of its transaction does
-pub none_waiting : (server epoch given drawn : ℕ) (sizes : Sizes) (lives : LiveMap) (client : ℕ) (t : TransId) (l : Live) (ws : List WaitingCall) → map.get lives t ≡ Some l → l.client ≡ client → has_waiting client t ws ≡ false
-    → AllByRecursion (IsWaitingCall server epoch given drawn sizes lives) ws → AllByRecursion (λ (w : WaitingCall). same_trans w.trans t ≡ false) ws
-none_waiting server epoch given drawn sizes lives client t l [] live own idle h = tt
-none_waiting server epoch given drawn sizes lives client t l (w ∷ ws) live own idle h =
-    (go (same_trans w.trans t) refl idle, none_waiting server epoch given drawn sizes lives client t l ws live own (right (w.client == client && same_trans w.trans t) (has_waiting client t ws) idle) h.1)
+-- of a live part of which no call waits no file call of its transaction does
+none_on : (server epoch given drawn : ℕ) (sizes : Sizes) (lives : LiveMap) (client : ℕ) (t : TransId) (l : Live) (ws : List WaitingCall) → map.get lives t ≡ Some l → l.client ≡ client → has_waiting client t ws ≡ false
+    → AllByRecursion (IsWaitingCall server epoch given drawn sizes lives) ws → AreOthers t ws
+none_on server epoch given drawn sizes lives client t l [] live own idle h = tt
+none_on server epoch given drawn sizes lives client t l (w ∷ ws) live own idle h =
+    (go (is_file_on t w) refl, none_on server epoch given drawn sizes lives client t l ws live own (right (is_of client t w) (has_waiting client t ws) idle) h.1)
   where
+    left : (a b : Bool) → (a || b) ≡ false → a ≡ false
+    left true b e = let wrong : true ≡ false = e in cc
+    left false b e = refl
+
     right : (a b : Bool) → (a || b) ≡ false → b ≡ false
     right true b e = let wrong : true ≡ false = e in cc
     right false b e = e
 
-    go : (b : Bool) → same_trans w.trans t ≡ b → ((w.client == client && b) || has_waiting client t ws) ≡ false → b ≡ false
-    go false e f = refl
-    go true e f =
-        let there : map.get lives w.trans ≡ Some l = ap (map.get lives) (same_trans-true w.trans t e) ∙ live in
-        let its : w.client ≡ client = (h.0.limits l there).its ∙ own in
-        let wrong : true ≡ false = sym (ap (λ (x : Bool). (x && true) || has_waiting client t ws) (eq-eqb w.client client its)) ∙ f in
+    go : (b : Bool) → is_file_on t w ≡ b → b ≡ false
+    go false e = refl
+    go true e =
+        let there : map.get lives w.trans ≡ Some l = ap (map.get lives) (file_at t w e) ∙ live in
+        let its : w.client ≡ client = owned_of server epoch given drawn sizes lives w h.0 l there (file_counts t w e) ∙ own in
+        let of : is_of client t w ≡ true = (λ i. eq-eqb w.client client its i && and_right (is_some w.counts) (same_trans w.trans t) e i) in
+        let wrong : true ≡ false = sym of ∙ left (is_of client t w) (has_waiting client t ws) idle in
         cc
 
-pub asks_none : (t : TransId) (ws : List WaitingCall) → AllByRecursion (λ (w : WaitingCall). same_trans w.trans t ≡ false) ws → asks_for ws t ≡ false
+pub none_waiting : (server epoch given drawn : ℕ) (sizes : Sizes) (lives : LiveMap) (client : ℕ) (t : TransId) (l : Live) (ws : List WaitingCall) → map.get lives t ≡ Some l → l.client ≡ client → has_waiting client t ws ≡ false
+    → AllByRecursion (IsWaitingCall server epoch given drawn sizes lives) ws → HasNoCall client t ws
+none_waiting server epoch given drawn sizes lives client t l ws live own idle h = record { others = none_on server epoch given drawn sizes lives client t l ws live own idle h; idle = idle }
+
+pub asks_none : (t : TransId) (ws : List WaitingCall) → AreOthers t ws → asks_for ws t ≡ false
 asks_none t [] h = refl
 asks_none t (w ∷ ws) h = λ i. (h.0 i && not w.is_granted) || asks_none t ws h.1 i
 
@@ -269,7 +350,7 @@ module _ (t : TransId) (ws items now : List WaitingCall) (i : ℕ) (x : WaitingC
   one : suc i ≡ i + 1
   one = omega arith
 
-  pub marked_step : same_trans x.trans t ≡ true → now ≡ slice_set items i (record x { is_granted = true }) → now ≡ then_marked (i + 1)
+  pub marked_step : is_file_on t x ≡ true → now ≡ slice_set items i (record x { is_granted = true }) → now ≡ then_marked (i + 1)
   marked_step same so =
       so
       ∙ ap (λ (vs : List WaitingCall). slice_set vs i (record x { is_granted = true })) before
@@ -277,7 +358,7 @@ module _ (t : TransId) (ws items now : List WaitingCall) (i : ℕ) (x : WaitingC
       ∙ marked t ws i x lt (is ∙ ap (λ (vs : List WaitingCall). get_or vs i x) before)
       ∙ ap then_marked one
 
-  pub passed_step : same_trans x.trans t ≡ false → now ≡ slice_set items i (get_or items i x) → now ≡ then_marked (i + 1)
+  pub passed_step : is_file_on t x ≡ false → now ≡ slice_set items i (get_or items i x) → now ≡ then_marked (i + 1)
   passed_step other so =
       so
       ∙ set_itself items i x
@@ -287,43 +368,49 @@ module _ (t : TransId) (ws items now : List WaitingCall) (i : ℕ) (x : WaitingC
 
 -- ---- all that waits, where the server goes on
 
+-- the part of a file call was live before, and is like that
+abbrev pub IsLikeThen : (lives now : LiveMap) → WaitingCall → Type 0
+IsLikeThen lives now w = (z : LockCounts) → w.counts ≡ Some z → (l : Live) → map.get now w.trans ≡ Some l → (x : Live) × (map.get lives w.trans ≡ Some x) × IsLikePart x l
+
 module _ (server epoch m n : ℕ) (more : m ≤ n) (drawn : ℕ) (sizes : Sizes) (lives now : LiveMap) (ws : List WaitingCall) (queue : List Waiter) where
-  -- each part of a call was live before and counted as many cells, and none that waits has gone
-  pub waiting_parts : AllByRecursion (λ (w : WaitingCall). (l : Live) → map.get now w.trans ≡ Some l → (x : Live) × (map.get lives w.trans ≡ Some x) × IsLikePart x l) ws
+  -- each part of a file call was live before and counted as many cells, and none that waits has gone
+  pub waiting_parts : AllByRecursion (IsLikeThen lives now) ws
       → ((t : TransId) → is_some (map.get lives t) ≡ true → is_some (map.get now t) ≡ true)
       → AreWaiting server epoch m drawn sizes lives ws queue → AreWaiting server epoch n drawn sizes now ws queue
   waiting_parts was stays_live h = record {
-    calls = each-both (λ (w : WaitingCall). (l : Live) → map.get now w.trans ≡ Some l → (x : Live) × (map.get lives w.trans ≡ Some x) × IsLikePart x l) (IsWaitingCall server epoch m drawn sizes lives) (IsWaitingCall server epoch n drawn sizes now)
-        (λ w from o. call_later server epoch m n more sizes drawn drawn (le_refl drawn) lives now w (λ _. from) o) ws was h.calls;
+    calls = each-both (IsLikeThen lives now) (IsWaitingCall server epoch m drawn sizes lives) (IsWaitingCall server epoch n drawn sizes now)
+        (λ w from o. call_later server epoch m n more sizes drawn drawn (le_refl drawn) lives now w (λ z counted q l is. from z counted l is) o) ws was h.calls;
+    files = h.files;
     apart = h.apart;
     queued = each-more (IsOfCalls server epoch m lives ws) (IsOfCalls server epoch n now ws) (λ x o. record { live = stays_live x.trans o.live; asks = o.asks; beyond = λ k high. o.beyond k (omega (arith, more, high)) }) queue h.queued;
   }
 
-all_like : (lives : LiveMap) (ws : List WaitingCall) → AllByRecursion (λ (w : WaitingCall). (l : Live) → map.get lives w.trans ≡ Some l → (x : Live) × (map.get lives w.trans ≡ Some x) × IsLikePart x l) ws
+all_like : (lives : LiveMap) (ws : List WaitingCall) → AllByRecursion (IsLikeThen lives lives) ws
 all_like lives [] = tt
-all_like lives (w ∷ ws) = ((λ l is. (l, is, like_itself l)), all_like lives ws)
+all_like lives (w ∷ ws) = ((λ z counted l is. (l, is, like_itself l)), all_like lives ws)
 
 -- more files were made
 pub waiting_later : (server epoch m n : ℕ) → m ≤ n → (drawn : ℕ) (sizes : Sizes) (lives : LiveMap) (ws : List WaitingCall) (queue : List Waiter) → AreWaiting server epoch m drawn sizes lives ws queue → AreWaiting server epoch n drawn sizes lives ws queue
 waiting_later server epoch m n more drawn sizes lives ws queue h = waiting_parts server epoch m n more drawn sizes lives lives ws queue (all_like lives ws) (λ t live. live) h
 
 -- each call is one of its transaction
-pub named_all : (server epoch given drawn : ℕ) (sizes : Sizes) (lives : LiveMap) (ws : List WaitingCall) → AllByRecursion (IsWaitingCall server epoch given drawn sizes lives) ws → AllByRecursion (λ (w : WaitingCall). file_trans w.call ≡ Some w.trans) ws
-named_all server epoch given drawn sizes lives ws h = each-more (IsWaitingCall server epoch given drawn sizes lives) (λ (w : WaitingCall). file_trans w.call ≡ Some w.trans) (λ w o. o.named) ws h
+pub named_all : (server epoch given drawn : ℕ) (sizes : Sizes) (lives : LiveMap) (ws : List WaitingCall) → AllByRecursion (IsWaitingCall server epoch given drawn sizes lives) ws → AreNamed ws
+named_all server epoch given drawn sizes lives ws h = each-more (IsWaitingCall server epoch given drawn sizes lives) IsNamed (λ w o. o.named) ws h
 
 -- where none is of the transaction nothing is asked of its part
-pub not_like : (t : TransId) (l now : Live) (ws : List WaitingCall) → AllByRecursion (λ (w : WaitingCall). same_trans w.trans t ≡ false) ws → AllByRecursion (λ (w : WaitingCall). same_trans w.trans t ≡ true → IsLikePart l now) ws
+pub not_like : (t : TransId) (l now : Live) (ws : List WaitingCall) → AreOthers t ws → AllByRecursion (λ (w : WaitingCall). is_file_on t w ≡ true → IsLikePart l now) ws
 not_like t l now [] away = tt
 not_like t l now (w ∷ ws) away = ((λ e. let wrong : false ≡ true = sym away.0 ∙ e in cc), not_like t l now ws away.1)
 
 -- and an id beyond the count has none
-pub none_newer : (server epoch given drawn : ℕ) (sizes : Sizes) (lives : LiveMap) (t : TransId) (ws : List WaitingCall) → drawn < t.counter → AllByRecursion (IsWaitingCall server epoch given drawn sizes lives) ws → AllByRecursion (λ (w : WaitingCall). same_trans w.trans t ≡ false) ws
+pub none_newer : (server epoch given drawn : ℕ) (sizes : Sizes) (lives : LiveMap) (t : TransId) (ws : List WaitingCall) → drawn < t.counter → AllByRecursion (IsWaitingCall server epoch given drawn sizes lives) ws → AreOthers t ws
 none_newer server epoch given drawn sizes lives t [] high h = tt
-none_newer server epoch given drawn sizes lives t (w ∷ ws) high h = (go (same_trans w.trans t) refl, none_newer server epoch given drawn sizes lives t ws high h.1)
+none_newer server epoch given drawn sizes lives t (w ∷ ws) high h = (go (is_file_on t w) refl, none_newer server epoch given drawn sizes lives t ws high h.1)
   where
-    go : (b : Bool) → same_trans w.trans t ≡ b → b ≡ false
+    go : (b : Bool) → is_file_on t w ≡ b → b ≡ false
     go false e = refl
     go true e =
-        let counter : w.trans.counter ≡ t.counter = ap (λ (u : TransId). u.counter) (same_trans-true w.trans t e) in
-        let low : w.trans.counter ≤ drawn = h.0.begun in
+        let n = counts_there w.counts (file_counts t w e) in
+        let counter : w.trans.counter ≡ t.counter = ap (λ (u : TransId). u.counter) (file_at t w e) in
+        let low : w.trans.counter ≤ drawn = (h.0.file n.0 n.1).begun in
         absurd (omega (arith, counter, low, high))

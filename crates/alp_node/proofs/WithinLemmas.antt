@@ -25,7 +25,7 @@ use Rattle.alp_node.specs.Rooms.{IsWithin, locks_given}
 use Rattle.alp_node.specs.declared.lives.Live.{Live}
 
 -- a part that did nothing yet is
-pub new_within : (s : Sizes) (client : ℕ) (who : List ℕ) (p : Part) → p.intents ≡ no_intents → p.counts ≡ no_counts → 64 ≤ s.area → IsWithin s (record { client = client; who = who; part = p; locks = 0 })
+pub new_within : (s : Sizes) (client : ℕ) (who : Option (List ℕ)) (p : Part) → p.intents ≡ no_intents → p.counts ≡ no_counts → 64 ≤ s.area → IsWithin s (record { client = client; who = who; part = p; locks = 0; join = None })
 new_within s client who p none idle sized =
     let cells : p.counts.cells ≡ 0 = ap (λ (n : Counts). n.cells) idle in
     record { part = part_begins p none idle; locks = omega arith; log = omega (arith, cells, sized) }

@@ -1,5 +1,5 @@
 -- File calls, which a server answers, and what its answers rest on.
-use Rattle.std.specs.Prelude.{◌≡◌, ◌+◌, List, Bool, true, Some, IsSome, Result, Ok, Err}
+use Rattle.std.specs.Prelude.{◌≡◌, ◌+◌, ℕ, List, [], Bool, true, Option, None, Some, IsSome, Result, Ok, Err}
 use Rattle.std.specs.FinMap as map
 use Rattle.alp_files.specs.declared.call.Call.{Call}
 use Rattle.alp_base.specs.declared.ids.FileId.{FileId}
@@ -24,6 +24,11 @@ use Rattle.alp_node.specs.Steps.{told_answer}
 abbrev pub IsServedCall : Call → Type 0
 IsServedCall c = IsSome (file_trans c)
 
+-- the principal that a part acts for, where one is known
+abbrev pub name_in : Option (List ℕ) → List ℕ
+name_in None = []
+name_in (Some name) = name
+
 -- the id that the next file gets
 abbrev pub next_file : {V : Type 0} → ServerState V → FileId
 next_file k = record { server = k.server; epoch = k.epoch; counter = k.given + 1 }
@@ -41,7 +46,7 @@ IsAnswerTo (Err e) acts x = x ≡ Err e
 -- a live part gave this for a call
 pub record Gave (tells : Bool) (cells : Cells) (id : FileId) (l : Live) (p : Part) (c : Call) (room : Room) (acts : List Act) (x : Given) : Type 0 where
   pub is : x ≡ given_of x.reply acts
-  pub given : Answered tells cells l.part p l.who id c room x.reply
+  pub given : Answered tells cells l.part p (name_in l.who) id c room x.reply
 
 -- what a live part gave for a call, or that it stands as before
 abbrev pub Outcome : Bool → Cells → FileId → Live → Part → Call → Room → List Act → Result Given CallFault → Type 0

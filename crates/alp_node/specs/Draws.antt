@@ -1,5 +1,5 @@
 -- A transaction that begins.
-use Rattle.std.specs.Prelude.{◌≡◌, ℕ, ◌+◌, List}
+use Rattle.std.specs.Prelude.{◌≡◌, ℕ, ◌+◌, List, None, Some}
 use Rattle.alp_base.specs.declared.ids.TransId.{TransId}
 use Rattle.alp_files.specs.Act.{no_opens}
 use Rattle.alp_files.specs.Needs.{no_intents}
@@ -19,7 +19,7 @@ pub record HasDrawn {V : Type 0} (turn : Turn) (t : TransId) (old new : ServerSt
   pub intents : part.intents ≡ no_intents
   pub counts : part.counts ≡ no_counts
   pub id : t ≡ next_id old.coordinator
-  pub kept : new ≡ record (with_trans old t (record { client = turn.client; who = turn.who; part = part; locks = 0 })) { coordinator = new.coordinator }
+  pub kept : new ≡ record (with_trans old t (record { client = turn.client; who = Some turn.who; part = part; locks = 0; join = None })) { coordinator = new.coordinator }
   pub one : IsOf (server_of old.coordinator) (epoch_of old.coordinator) (count_of old.coordinator + 1) new.coordinator
   pub begun : (who : List ℕ) (seen : ℕ) → Comes (Begins t turn.client who seen) old.coordinator new.coordinator
 

@@ -8,7 +8,7 @@ use Rattle.alp_locks.specs.Asks.{entered}
 use Rattle.alp_locks.specs.Releases.{released}
 use Rattle.alp_node.specs.Totals.{LiveMap}
 use Rattle.alp_node.specs.Dead.{without_client}
-use Rattle.alp_node.specs.Waits.{locks_of, grant_of, live_calls}
+use Rattle.alp_node.specs.Waits.{locks_of, grant_of, without_dead, live_calls}
 use Rattle.alp_node.specs.declared.lives.Live.{Live}
 use Rattle.alp_node.specs.declared.server_state.ServerState.{ServerState}
 
@@ -53,9 +53,13 @@ let_go k t = woken_taken (without_trans k t)
 abbrev pub granted_behind : {V : Type 0} → ServerState V → TransId → List TransId
 granted_behind k t = (released k.locks t).woken
 
--- nothing of the client's dead parts is known any more
+-- nothing of the client's dead parts is known any more, and no call of one
 abbrev pub buried : {V : Type 0} → ServerState V → ℕ → ServerState V
-buried k client = record k { waits = live_calls client k.lives k.waits; dead = without_client client k.dead }
+buried k client = record k { waits = without_dead client k.dead k.waits; dead = without_client client k.dead }
+
+-- nor any other call of the client that is of no live part
+abbrev pub cleared : {V : Type 0} → ServerState V → ℕ → ServerState V
+cleared k client = record k { waits = live_calls client k.lives (without_dead client k.dead k.waits); dead = without_client client k.dead }
 
 -- the acts of these grants
 abbrev pub grant_acts : List TransId → List Act

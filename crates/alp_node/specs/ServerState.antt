@@ -3,7 +3,7 @@
 -- the participant: no join is live, as no other server is of the run;
 -- the holder: the vault has the cells, and one note, of the epoch and the kept clock; each live part has its intents, opens and locks;
 -- the desk: the sessions are just those, each with its principal, its last number and the reply to that; the calls that wait and
--- the parts that timed out are those of the lists, and the table's queue is that of the calls that have not their locks;
+-- the parts that ended and are to be told of are those of the lists, and the table's queue is that of the calls that have not their locks;
 -- the counts: each live part has its own, and beside the cells there is room for what all of them come to;
 -- the ids: the counts of transactions and of files in this epoch. What older epochs of this server left may stand in what began,
 -- was made and was decided.
@@ -15,6 +15,8 @@ use Rattle.alp_base.specs.declared.ids.TransId.{TransId}
 use Rattle.alp_base.specs.declared.key.Key.TheVariants.{Leader}
 use Rattle.alp_base.specs.declared.key.Resource.{Resource}
 use Rattle.alp_base.specs.declared.key.Resource.TheVariants.{Whole}
+use Rattle.alp_files.specs.declared.refusal.Refusal.TheVariants as refusal
+use Rattle.alp_files.specs.declared.reply.Reply.TheVariants as reply
 use Rattle.alp_files.specs.Holdings.{IsIntended}
 use Rattle.alp_files.specs.Locks.{Reads, Writes, HoldsEach, needs_of}
 use Rattle.alp_files.specs.Apart.{AreSized, IsWithin as AreWithin, OpensRead}
@@ -27,6 +29,7 @@ use Rattle.alp_locks.specs.Sound.{IsSound}
 use Rattle.alp_vault.specs.Contents.{Contents}
 use Rattle.alp_trans.specs.Parts.{own_of}
 use Rattle.alp_trans.specs.Counting.{AreCountsOf}
+use Rattle.alp_journal.specs.Answered.{is_fault_reply}
 use Rattle.alp_journal.specs.Answers.{more_locks}
 use Rattle.alp_journal.specs.Counts.{Locked, with_resources, request_in}
 use Rattle.alp_journal.specs.Holder.{Holder, Life, view_in}
@@ -36,7 +39,7 @@ use Rattle.alp_journal.specs.State.{is_other_server}
 use Rattle.alp_journal.specs.Account.{Account, state_of, IsQuiet, AreEarlier}
 use Rattle.alp_node.specs.Asks.{is_given}
 use Rattle.alp_node.specs.Covers.{AreHeld, AreSizedEdits}
-use Rattle.alp_node.specs.Dead.{dead_in}
+use Rattle.alp_node.specs.Dead.{cause_in}
 use Rattle.alp_node.specs.Decisions.{IsPlain}
 use Rattle.alp_node.specs.Durable.{clock_notes}
 use Rattle.alp_node.specs.Rooms.{IsWithin}
@@ -46,22 +49,30 @@ use Rattle.alp_node.specs.Transactions.{IsCoordinatorOf, IsOwnOf, AreDecidedBy}
 use Rattle.alp_node.specs.Turns.{IsKeepable}
 use Rattle.alp_node.specs.Waits.{waiting_calls, AreWaiting}
 use Rattle.alp_turns.specs.Queues.{queue_of}
+use Rattle.alp_node.specs.declared.dead.DeadPart.{DeadPart}
 use Rattle.alp_node.specs.declared.lives.Live.{Live}
+use Rattle.alp_node.specs.declared.lock_counts.LockCounts.{LockCounts}
 use Rattle.alp_node.specs.declared.server_state.ServerState.{ServerState}
 use Rattle.alp_node.specs.declared.waits.WaitingCall.{WaitingCall}
 
 -- ---- live transactions
 
+-- the principal that a part acts for and its opens, where it has not voted: it may read the leader of each open's file
+pub record IsCaller (l : Live) (life : Life) : Type 0 where
+  pub who : l.who ≡ Some life.who
+  pub own : own_of l.part ≡ life.own
+  pub opens : OpensRead (Reads life.held) life.own.opens
+
 -- A live part is kept as the journal tells it: its intents are what its edits come to, and the table has its locks, of which
 -- there are as many as it counts. Under them it may read the leader of each open's file, and write what it changes; and beside
--- each lock on a leaf it has the intention on the file. Its counts are those of its edits over the cells.
+-- each lock on a leaf it has the intention on the file. Its counts are those of its edits over the cells. Of one that voted neither
+-- the principal nor the opens are kept, as an earlier run may have left it ready.
 pub record IsLife (cells : Cells) (locks : Holders) (locked : List Resource) (t : TransId) (l : Live) (life : Life) : Type 0 where
   pub client : life.client ≡ l.client
-  pub who : life.who ≡ l.who
+  pub join : life.join ≡ l.join
   pub intents : l.part.intents ≡ intents_of life.edits
-  pub own : own_of l.part ≡ life.own
   pub held : (r : Resource) → life.held r ≡ holding locks t r
-  pub opens : OpensRead (Reads life.held) life.own.opens
+  pub calls : life.vote ≡ None → IsCaller l life
   pub counts : AreCountsOf cells life.edits l.part.counts
   pub within : AreWithin (Writes life.held) life.edits
   pub intended : IsIntended life.held
@@ -103,16 +114,16 @@ pub record AreMade (server epoch count : ℕ) (made : List FileId) : Type 0 wher
 
 -- ---- calls that wait
 
--- The part of the call will have as many resources locked as it counts, where the call makes no file and where it makes one; and
--- what it holds covers the call once its locks are granted.
-pub record IsAskedAs (h : Holder) (locked : Locked) (w : WaitingCall) (l : Life) : Type 0 where
-  pub asked : w.counts.asked ≡ length (with_resources (request_in h w.call (Some l)) (locked w.trans))
-  pub made : w.counts.made ≡ w.counts.asked + more_locks w.call
+-- The part of a file call will have as many resources locked as the call counts, where it makes no file and where it makes one; and
+-- what the part holds covers the call once its locks are granted.
+pub record IsAskedAs (h : Holder) (locked : Locked) (w : WaitingCall) (n : LockCounts) (l : Life) : Type 0 where
+  pub asked : n.asked ≡ length (with_resources (request_in h w.call (Some l)) (locked w.trans))
+  pub made : n.made ≡ n.asked + more_locks w.call
   pub covered : w.is_granted ≡ true → HoldsEach l.held (needs_of (view_in h l) l.own w.call)
 
 -- as long as the part lives
 abbrev pub IsWaitingAs : Holder → Locked → WaitingCall → Type 0
-IsWaitingAs h locked w = (l : Life) → h.lives w.trans ≡ Some l → IsAskedAs h locked w l
+IsWaitingAs h locked w = (n : LockCounts) (l : Life) → w.counts ≡ Some n → h.lives w.trans ≡ Some l → IsAskedAs h locked w n l
 
 -- ---- all of it
 
@@ -129,7 +140,7 @@ pub record IsAs {V : Type 0} (a : Account) (held : Contents) (k : ServerState V)
   pub notes : k.is_down ≡ false → held.notes ≡ clock_notes (record { epoch = a.ids.epoch; clock = a.holder.kept })
   pub places : length k.sessions.places ≡ 17
   pub sessions : (client : ℕ) → a.sessions client ≡ session_at k.sessions client
-  pub dead : (client : ℕ) (t : TransId) → a.dead client t ≡ dead_in k.dead client t
+  pub dead : (client : ℕ) (t : TransId) → a.dead client t ≡ cause_in k.dead client t
   pub waits : a.waits ≡ waiting_calls k.waits
   pub queue : k.locks.waiting ≡ queue_of a.holder k.locks.held a.waits
   pub asked : AllByRecursion (IsWaitingAs a.holder a.locked) k.waits
@@ -145,11 +156,15 @@ pub record IsAs {V : Type 0} (a : Account) (held : Contents) (k : ServerState V)
   pub quiet : IsQuiet a
   pub down : a.is_down ≡ k.is_down
 
+-- a reply that tells why the part ended shows no fault of the device
+abbrev pub IsCalm : ℕ → DeadPart → Type 0
+IsCalm here d = is_fault_reply here (Some (reply.Refused (refusal.Aborted d.cause))) ≡ false
+
 -- Whatever its vault tells: its vault serves just while it is up, the table's locks agree, nobody is woken and not taken, those who
 -- wait in it do so for calls that the server keeps, and these may be performed once they have their locks. The table knows each live
--- transaction, and just these run, each live part is within its limits, as many as there may be, nobody has a file open or holds a
--- lock on one that was not made yet, each session keeps what it may, no transaction was decided later than the clock, and no count
--- went further than so many steps.
+-- transaction, and just these run, each live part is within its limits, acts for somebody and is not among the dead, as many as there
+-- may be, no fault of the device ended one of the dead, nobody has a file open or holds a lock on one that was not made yet, each
+-- session keeps what it may, no transaction was decided later than the clock, and no count went further than so many steps.
 pub record IsReady {V : Type 0} (steps : ℕ) (serves : Bool) (k : ServerState V) : Type 0 where
   pub serving : k.is_down ≡ false → IsTrue serves
   pub halted : k.is_down ≡ true → serves ≡ false
@@ -161,6 +176,9 @@ pub record IsReady {V : Type 0} (steps : ℕ) (serves : Bool) (k : ServerState V
   pub own : (t : TransId) → IsOwnOf (map.get k.lives t) (fate_in k.coordinator t)
   pub opens : (t : TransId) (l : Live) → map.get k.lives t ≡ Some l → l.part.last ≤ steps
   pub opened : (t : TransId) (l : Live) → map.get k.lives t ≡ Some l → list_all (λ o. is_given k.server k.epoch k.given o.file) l.part.opens.items ≡ true
+  pub callers : (t : TransId) (l : Live) → map.get k.lives t ≡ Some l → is_some l.who ≡ true
+  pub alive : (t : TransId) (l : Live) → map.get k.lives t ≡ Some l → cause_in k.dead l.client t ≡ None
+  pub causes : AllByRecursion (IsCalm k.server) k.dead
   pub places : length k.sessions.places ≡ 17
   pub calls : (client : ℕ) (w : Session) → session_at k.sessions client ≡ Some w → w.last ≤ steps
   pub replies : (client : ℕ) (w : Session) → session_at k.sessions client ≡ Some w → IsKeepable k.clock w.reply

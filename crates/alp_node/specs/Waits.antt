@@ -1,18 +1,22 @@
 -- Calls that wait for their locks, or have them and are not collected.
-use Rattle.std.specs.Prelude.{◌≡◌, ℕ, ◌<◌, ◌≤◌, Bool, true, false, not, ◌==◌, ◌&&◌, ◌||◌, List, [], ◌∷◌, filter, find, length, Option, None, Some, is_some, if◌then◌else◌, map as list_map}
+use Rattle.std.specs.Prelude.{◌≡◌, ℕ, ◌<◌, ◌≤◌, Bool, true, false, not, ◌==◌, ◌&&◌, ◌||◌, List, [], ◌∷◌, filter, find, length, Option, None, Some, is_some, is_none, if◌then◌else◌, map as list_map}
 use Rattle.std.specs.List.{list_any, AllByRecursion}
 use Rattle.std.specs.FinMap as map
 use Rattle.alp_base.specs.declared.ids.TransId.{TransId}
 use Rattle.alp_base.specs.declared.faults.Sizes.{Sizes}
 use Rattle.alp_base.specs.declared.key.Resource.TheVariants.{Whole}
 use Rattle.alp_files.specs.Locks.{IsFormed}
+use Rattle.alp_files.specs.declared.call.Call.{Call}
 use Rattle.alp_journal.specs.Counts.{log_need}
-use Rattle.alp_journal.specs.Desk.{Waiting, file_trans}
+use Rattle.alp_journal.specs.Desk.{Waiting, file_trans, part_trans}
 use Rattle.alp_journal.specs.Ids.{same_trans}
 use Rattle.alp_queue.specs.declared.waiter.Waiter.{Waiter}
+use Rattle.alp_node.specs.Dead.{cause_in}
 use Rattle.alp_node.specs.Shapes.{shape_of, ReadsSome}
 use Rattle.alp_node.specs.Totals.{LiveMap}
+use Rattle.alp_node.specs.declared.dead.DeadPart.{DeadPart}
 use Rattle.alp_node.specs.declared.lives.Live.{Live}
+use Rattle.alp_node.specs.declared.lock_counts.LockCounts.{LockCounts}
 use Rattle.alp_node.specs.declared.waits.WaitingCall.{WaitingCall}
 
 -- as the journal tells it
@@ -28,28 +32,39 @@ waiting_calls ws = list_map waiting ws
 abbrev pub is_of : ℕ → TransId → WaitingCall → Bool
 is_of client t w = w.client == client && same_trans w.trans t
 
+-- it is a file call of the transaction, whosever it is
+abbrev pub is_file_on : TransId → WaitingCall → Bool
+is_file_on t w = is_some w.counts && same_trans w.trans t
+
 abbrev pub is_at : ℕ → ℕ → WaitingCall → Bool
 is_at client number w = w.client == client && w.number == number
 
 abbrev pub has_waiting : ℕ → TransId → List WaitingCall → Bool
 has_waiting client t ws = list_any (is_of client t) ws
 
+abbrev pub has_file_on : TransId → List WaitingCall → Bool
+has_file_on t ws = list_any (is_file_on t) ws
+
 abbrev pub call_at : ℕ → ℕ → List WaitingCall → Option WaitingCall
 call_at client number ws = find (is_at client number) ws
 
--- how many resources the transaction has locked once its call has its locks
+-- how many resources the part has locked once the call has its locks, where it is a file call
+abbrev pub count_asked : Option LockCounts → Option ℕ
+count_asked None = None
+count_asked (Some n) = Some n.asked
+
 abbrev pub locks_in : Option WaitingCall → Option ℕ
 locks_in None = None
-locks_in (Some w) = Some w.counts.asked
+locks_in (Some w) = count_asked w.counts
 
 abbrev pub locks_of : TransId → List WaitingCall → Option ℕ
-locks_of t ws = locks_in (find (λ w. same_trans w.trans t) ws)
+locks_of t ws = locks_in (find (is_file_on t) ws)
 
 -- ---- what becomes of them
 
--- the call of the transaction has its locks
+-- the file call of the transaction has its locks
 abbrev pub grant_one : TransId → WaitingCall → WaitingCall
-grant_one t w = if same_trans w.trans t then record w { is_granted = true } else w
+grant_one t w = if is_file_on t w then record w { is_granted = true } else w
 
 abbrev pub grant_of : TransId → List WaitingCall → List WaitingCall
 grant_of t ws = list_map (grant_one t) ws
@@ -57,43 +72,70 @@ grant_of t ws = list_map (grant_one t) ws
 abbrev pub without_calls_of : ℕ → TransId → List WaitingCall → List WaitingCall
 without_calls_of client t ws = filter (λ w. not (is_of client t w)) ws
 
--- of a client's calls those that are of a live transaction, and all of the others'
+abbrev pub without_call_at : ℕ → ℕ → List WaitingCall → List WaitingCall
+without_call_at client number ws = filter (λ w. not (is_at client number w)) ws
+
+-- of a client's calls those that are of no dead part, and all of the others'
+abbrev pub outlives : ℕ → List DeadPart → WaitingCall → Bool
+outlives client ds w = not (w.client == client) || is_none (cause_in ds client w.trans)
+
+abbrev pub without_dead : ℕ → List DeadPart → List WaitingCall → List WaitingCall
+without_dead client ds ws = filter (outlives client ds) ws
+
+-- the live part is the client's
+abbrev pub has_part : ℕ → Option Live → Bool
+has_part client None = false
+has_part client (Some l) = l.client == client
+
+-- of a client's calls those that are of a live part, and all of the others'
 abbrev pub stays : ℕ → LiveMap → WaitingCall → Bool
-stays client lives w = not (w.client == client) || is_some (map.get lives w.trans)
+stays client lives w = not (w.client == client) || has_part client (map.get lives w.trans)
 
 abbrev pub live_calls : ℕ → LiveMap → List WaitingCall → List WaitingCall
 live_calls client lives ws = filter (stays client lives) ws
 
 -- ---- what is so of them between two steps, whatever the vault tells
 
--- The call of a live part is its client's. It has the shape that it may have, and the part is within its limits with the locks of
--- the call, and with that of a file that it makes.
-pub record IsWithinLimits (server epoch given : ℕ) (sizes : Sizes) (w : WaitingCall) (l : Live) : Type 0 where
+-- A file call is one of its transaction. Without counts it is a Join or a Finish of that.
+abbrev pub IsCallBy : Call → TransId → Option LockCounts → Type 0
+IsCallBy c t None = (file_trans c ≡ None) × (part_trans c ≡ Some t)
+IsCallBy c t (Some n) = file_trans c ≡ Some t
+
+abbrev pub IsNamed : WaitingCall → Type 0
+IsNamed w = IsCallBy w.call w.trans w.counts
+
+-- The file call of a live part is its client's. It has the shape that it may have, and the part is within its limits with the locks
+-- of the call, and with that of a file that it makes.
+pub record IsWithinLimits (server epoch given : ℕ) (sizes : Sizes) (w : WaitingCall) (n : LockCounts) (l : Live) : Type 0 where
   pub its : w.client ≡ l.client
   pub shape : shape_of server epoch given (length l.part.opens.items) w.call ≡ None
-  pub fewer : w.counts.asked ≤ w.counts.made
-  pub locks : w.counts.made ≤ 1024
-  pub log : log_need l.part.counts.cells w.counts.made ≤ sizes.area
+  pub fewer : n.asked ≤ n.made
+  pub locks : n.made ≤ 1024
+  pub log : log_need l.part.counts.cells n.made ≤ sizes.area
 
--- it is a file call of the grammar, of a transaction that was begun, and within the limits of its part as long as that is live
-pub record IsWaitingCall (server epoch given drawn : ℕ) (sizes : Sizes) (lives : LiveMap) (w : WaitingCall) : Type 0 where
-  pub named : file_trans w.call ≡ Some w.trans
+-- a file call is one of the grammar, of a transaction that was begun, and within the limits of its part as long as that is live
+pub record IsFileCall (server epoch given drawn : ℕ) (sizes : Sizes) (lives : LiveMap) (w : WaitingCall) (n : LockCounts) : Type 0 where
   pub formed : IsFormed w.call
   pub some : ReadsSome w.call
   pub begun : w.trans.counter ≤ drawn
-  pub limits : (l : Live) → map.get lives w.trans ≡ Some l → IsWithinLimits server epoch given sizes w l
+  pub limits : (l : Live) → map.get lives w.trans ≡ Some l → IsWithinLimits server epoch given sizes w n l
 
--- no two are of one transaction
-abbrev pub IsOfOther : WaitingCall → WaitingCall → Type 0
-IsOfOther w v = same_trans v.trans w.trans ≡ false
+pub record IsWaitingCall (server epoch given drawn : ℕ) (sizes : Sizes) (lives : LiveMap) (w : WaitingCall) : Type 0 where
+  pub named : IsNamed w
+  pub file : (n : LockCounts) → w.counts ≡ Some n → IsFileCall server epoch given drawn sizes lives w n
+
+-- no two file calls are of one transaction, and no two calls of one part
+pub record IsOfOther (w v : WaitingCall) : Type 0 where
+  pub files : (is_some w.counts && is_file_on w.trans v) ≡ false
+  pub parts : is_of w.client w.trans v ≡ false
 
 abbrev pub AreApart : List WaitingCall → Type 0
 AreApart [] = Unit {0}
 AreApart (w ∷ ws) = AllByRecursion (IsOfOther w) ws × AreApart ws
 
--- a call of the transaction has not its locks yet
+-- a file call of the transaction has not its locks yet
 abbrev pub is_asking : TransId → WaitingCall → Bool
-is_asking t w = same_trans w.trans t && not w.is_granted
+is_asking t w = is_file_on t w && not w.is_granted
 
 abbrev pub asks_for : List WaitingCall → TransId → Bool
 asks_for ws t = list_any (is_asking t) ws
@@ -104,8 +146,9 @@ pub record IsOfCalls (server epoch given : ℕ) (lives : LiveMap) (ws : List Wai
   pub asks : asks_for ws x.trans ≡ true
   pub beyond : (n : ℕ) → given < n → map.get x.after (Whole (record { server = server; epoch = epoch; counter = n })) ≡ None
 
--- each of them is so, and so is the table's queue
+-- each of them is so, and so is the table's queue; and so far file calls alone wait
 pub record AreWaiting (server epoch given drawn : ℕ) (sizes : Sizes) (lives : LiveMap) (ws : List WaitingCall) (queue : List Waiter) : Type 0 where
   pub calls : AllByRecursion (IsWaitingCall server epoch given drawn sizes lives) ws
+  pub files : AllByRecursion (λ (w : WaitingCall). is_some w.counts ≡ true) ws
   pub apart : AreApart ws
   pub queued : AllByRecursion (IsOfCalls server epoch given lives ws) queue

@@ -65,8 +65,8 @@ impl<V: Vault> ServerState<V> {
             return Ok(self.refuse(turn, Refusal::UnknownTrans));
         }
         match self.standing(turn.client, &trans) {
-            Standing::Own => self.finish_own(turn, trans, commit),
-            Standing::Dead => Ok(self.tell_dead(turn, trans, commit)),
+            Standing::Work => self.finish_own(turn, trans, commit),
+            Standing::Ended(cause) => Ok(self.tell_dead(turn, trans, commit, cause)),
             Standing::Unknown => Ok(self.refuse(turn, Refusal::UnknownTrans)),
         }
     }

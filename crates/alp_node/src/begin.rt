@@ -9,7 +9,7 @@ ghost use Rattle.alp_journal.specs.declared.event.Event.TheVariants as event;
 ghost use Rattle.alp_trans.specs.Counting.{no_counts};
 ghost use Rattle.alp_coord.specs.Coordinators.{counted_of};
 ghost use Rattle.alp_node.specs.Draws.{HasDrawn, IsBackAgain};
-ghost use Rattle.alp_node.specs.Releases.{buried, with_trans};
+ghost use Rattle.alp_node.specs.Releases.{buried, cleared, with_trans};
 ghost use Rattle.alp_node.specs.Sessions.{session_at};
 ghost use Rattle.alp_node.specs.ServerState.{IsReadyForMore};
 ghost use Rattle.alp_node.specs.Steps.{IsStep, IsStepAs, IsTurn};
@@ -57,14 +57,14 @@ impl<V: Vault> ServerState<V> {
         ensures { IsStep V.Vault self.old self.new (event.Call turn.now.client self.old.epoch turn.now.number (call.Begin seen)) result }
     {
         if let Some(refusal) = self.too_many()? {
-            self.bury(turn.client);
+            self.clear(turn.client);
             return Ok(self.refuse(turn, refusal));
         }
         let mut acts = Vec::with_capacity(self.alloc, 1)?;
         let trans = self.draw(turn)?;
         acts.push_reserved(Act::Drawn { trans });
         self.clock = self.clock.max(seen.ts);
-        self.bury(turn.client);
+        self.clear(turn.client);
         self.sessions.count(turn, Reply::Begun { trans });
         Ok(Answer::begun(trans, Acts::new(acts)))
     }
@@ -92,9 +92,10 @@ impl<V: Vault> ServerState<V> {
         let trans = self.coordinator.begin(turn.client)?;
         let live = Live {
             client: turn.client,
-            who: turn.who,
+            who: Some(turn.who),
             part: Part::new(self.alloc),
             locks: 0,
+            join: None,
         };
         if self.enter(trans, live).is_err() {
             self.coordinator.take_back();
@@ -122,7 +123,15 @@ impl<V: Vault> ServerState<V> {
     pub fn bury(&mut self, client: u8)
         ensures { self.new ≡ buried self.old client }
     {
-        self.waits.bury(client, &self.lives);
+        self.waits.bury(client, &self.dead);
         self.dead.bury(client);
+    }
+
+    // Nor for a call of any other part that is not live.
+    fn clear(&mut self, client: u8)
+        ensures { self.new ≡ cleared self.old client }
+    {
+        self.bury(client);
+        self.waits.clear(client, &self.lives);
     }
 }

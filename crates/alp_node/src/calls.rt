@@ -1,5 +1,5 @@
 //! File calls: what they ask by what their part sees, and what their part gives.
-ghost use Rattle.std.specs.Prelude.{◌≡◌, ◌≢◌, ◌+◌, ◌<◌, ◌^◌, IsTrue, IfOk, IfSome, Some, None};
+ghost use Rattle.std.specs.Prelude.{◌≡◌, ◌≢◌, ◌+◌, ◌<◌, ◌^◌, IsTrue, IfOk, IfSome, Some, None, is_some, true};
 ghost use Rattle.std.specs.FinMap as map;
 ghost use Rattle.alp_base.specs.declared.key.Key.TheVariants.{Leader};
 ghost use Rattle.alp_files.specs.Files.{AreFiles};
@@ -12,7 +12,6 @@ ghost use Rattle.alp_node.specs.Calls.{next_file as next_file_of, IsAnswerTo, Pe
 ghost use Rattle.alp_node.specs.Totals.{totals_of, AreFewTotals};
 
 use crate::answer::Given;
-use crate::lives::Live;
 use crate::lock_counts::LockCounts;
 use crate::needs::{looks_at, needs};
 use crate::room::locks_given;
@@ -69,6 +68,7 @@ impl<V: Vault> ServerState<V> {
         requires serving { IsTrue (V.serves self.old.vault) }
         requires room { self.old.given + 1 < 2 ^ 32 }
         requires ready { (l : ALive) → map.get self.old.lives trans ≡ Some l → CanPerform l.part call.now }
+        requires caller { (l : ALive) → map.get self.old.lives trans ≡ Some l → is_some l.who ≡ true }
         requires few { AreFewTotals (totals_of self.old.lives) }
         requires new { IsTrue (V.tells self.old.vault) → (l : ALive) → map.get self.old.lives trans ≡ Some l → seen (V.held self.old.vault).cells l.part (Leader (next_file_of self.old)) ≡ None }
         requires files { IsTrue (V.tells self.old.vault) → (l : ALive) → map.get self.old.lives trans ≡ Some l → AreFiles (seen (V.held self.old.vault).cells l.part) }
@@ -80,14 +80,9 @@ impl<V: Vault> ServerState<V> {
         let Some(found) = self.lives.get(&trans) else {
             unreachable!()
         };
-        let blank = Live {
-            client: found.client,
-            who: found.who,
-            part: Part::new(self.alloc),
-            locks: found.locks,
-        };
+        let Some(who) = found.who else { unreachable!() };
+        let blank = found.blank(self.alloc);
         let mut live = self.lives.swap(trans, blank);
-        let who = live.who;
         let given = perform(
             &mut live.part,
             self.alloc,

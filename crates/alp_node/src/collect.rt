@@ -12,12 +12,13 @@ ghost use Rattle.alp_node.specs.Waits.{call_at};
 
 use crate::answer::Answer;
 use crate::lock_counts::LockCounts;
+use crate::served::Standing;
 use crate::server_state::ServerState;
 use crate::sessions::Turn;
 use crate::waits::copy_of;
 use alp_base::{OutOfMemory, TransId};
 use alp_calls::CallFault;
-use alp_files::{Call, Cause, Refusal};
+use alp_files::{Call, Refusal};
 use alp_journal::Acts;
 use alp_locks::Plan;
 use alp_queue::Needs;
@@ -26,7 +27,7 @@ use std::alloc::Global;
 
 impl<V: Vault> ServerState<V> {
     /// The reply to the client's call with this number, if it waits: where it has its locks it is performed, and known no more.
-    /// That of a part that timed out is told so, and stays known as long as the part.
+    /// That of a part that ended is told why, and stays known as long as the part.
     pub fn collect(&mut self, turn: &Turn, number: u32) -> Result<Answer, OutOfMemory>
         requires turn { IsTurn self.old.sessions turn.now }
         requires up { self.old.is_down ≡ false }
@@ -39,14 +40,13 @@ impl<V: Vault> ServerState<V> {
             return Ok(self.refuse(turn, Refusal::UnknownTrans));
         };
         let trans = waiting.trans;
-        let counts = waiting.counts;
-        if self.lives.get(&trans).is_none() {
-            return Ok(self.refuse(
-                turn,
-                Refusal::Aborted {
-                    cause: Cause::TimedOut,
-                },
-            ));
+        let Some(counts) = waiting.counts else {
+            unreachable!()
+        };
+        match self.standing(turn.client, &trans) {
+            Standing::Work => {}
+            Standing::Ended(cause) => return Ok(self.refuse(turn, Refusal::Aborted { cause })),
+            Standing::Unknown => return Ok(self.refuse(turn, Refusal::UnknownTrans)),
         }
         if !waiting.is_granted {
             return Ok(self.refuse(turn, Refusal::NotYet));
@@ -66,7 +66,7 @@ impl<V: Vault> ServerState<V> {
     ) -> Result<Answer, OutOfMemory>
         requires turn { IsTurn self.old.sessions turn.now }
         requires own { IsOf turn.now.client (map.get self.old.lives trans) }
-        requires waiting { call_at turn.now.client number self.old.waits ≡ Some (record { client = turn.now.client; number = number; trans = trans; call = call.now; counts = counts; is_granted = true }) }
+        requires waiting { call_at turn.now.client number self.old.waits ≡ Some (record { client = turn.now.client; number = number; trans = trans; call = call.now; counts = Some counts; is_granted = true }) }
         requires up { self.old.is_down ≡ false }
         requires ready { IsReadyForMore (V.serves self.old.vault) self.old }
         requires known { IsTrue (V.tells self.old.vault) → IsOfJournal (V.held self.old.vault) self.old }

@@ -1,20 +1,23 @@
-//! Parts that timed out while their clients do not know.
-ghost use Rattle.std.specs.Prelude.{◌≡◌, ◌==◌, ◌&&◌, ◌∷◌, ◌++◌, [], OnOk, OnErr};
+//! Parts that ended while their clients do not know.
+ghost use Rattle.std.specs.Prelude.{◌≡◌, ◌∷◌, ◌++◌, [], OnOk, OnErr, List};
 ghost use Rattle.alp_journal.specs.Ids.{same_trans};
-ghost use Rattle.alp_node.specs.Dead.{is_dead, without_part, without_client};
+ghost use Rattle.alp_node.specs.Dead.{is_part as is_part_said, without_part, without_client, cause_in};
+ghost use Rattle.alp_node.specs.declared.dead.DeadPart.{DeadPart as APart};
 
 use alp_base::{OutOfMemory, TransId};
+use alp_files::Cause;
 use std::alloc::Global;
 use std::marker::Model;
 
-/// A part that timed out: whose it was, and of which transaction.
+/// A part that ended: whose it was, of which transaction, and why it ended.
 #[derive(Clone, Copy, Drop)]
 pub struct DeadPart {
     pub client: u8,
     pub trans: TransId,
+    pub cause: Cause,
 }
 
-/// All that timed out and are not known of yet, in the order in which they did.
+/// All that ended and are not known of yet, in the order in which they did.
 #[derive(Drop)]
 pub struct Dead {
     parts: Vec<DeadPart>,
@@ -38,19 +41,31 @@ impl Dead {
         }
     }
 
-    /// Whether the client's part of the transaction is one of them.
-    pub fn has(&self, client: u8, trans: &TransId) -> bool
-        ensures { result ≡ is_dead client trans.now self.now }
+    /// Why the client's part of the transaction ended, if it is one of them.
+    pub fn cause(&self, client: u8, trans: &TransId) -> Option<Cause>
+        ensures { result ≡ cause_in self.now client trans.now }
     {
-        self.parts.iter().any(|part| is_part(part, client, trans))
+        last_cause(self.parts.as_slice(), client, trans)
     }
 
-    pub fn add(&mut self, client: u8, trans: TransId) -> Result<(), OutOfMemory>
-        ensures ok { OnOk result (self.new ≡ self.old ++ (record { client = client; trans = trans }) ∷ []) }
+    /// One more.
+    pub fn add(&mut self, client: u8, trans: TransId, cause: Cause) -> Result<(), OutOfMemory>
+        ensures ok { OnOk result (self.new ≡ self.old ++ (record { client = client; trans = trans; cause = cause }) ∷ []) }
         ensures err { OnErr result (self.new ≡ self.old) }
     {
-        self.parts.push(DeadPart { client, trans })?;
+        self.parts.push(DeadPart {
+            client,
+            trans,
+            cause,
+        })?;
         Ok(())
+    }
+
+    /// Takes the last one back.
+    pub fn take_back(&mut self)
+        ensures { (before : List APart) (last : APart) → self.old ≡ before ++ last ∷ [] → self.new ≡ before }
+    {
+        let _ = self.parts.pop();
     }
 
     /// The client knows of this one.
@@ -68,9 +83,22 @@ impl Dead {
     }
 }
 
+// The cause that the last of them names which is the client's part of the transaction.
+fn last_cause(parts: &[DeadPart], client: u8, trans: &TransId) -> Option<Cause>
+    ensures { result ≡ cause_in parts.now client trans.now }
+{
+    let mut cause = None;
+    for part in parts {
+        if is_part(part, client, trans) {
+            cause = Some(part.cause);
+        }
+    }
+    cause
+}
+
 // Whether it is the client's part of the transaction.
 fn is_part(part: &DeadPart, client: u8, trans: &TransId) -> bool
-    ensures { result ≡ (part.now.client == client && same_trans part.now.trans trans.now) }
+    ensures { result ≡ is_part_said client trans.now part.now }
 {
     part.client == client && is_same(&part.trans, trans)
 }

@@ -10,11 +10,9 @@ ghost use Rattle.alp_node.specs.Totals.{totals_of, AreFewTotals};
 ghost use Rattle.alp_node.specs.declared.lives.Live.{Live as ALive};
 
 use crate::blocks::Blocks;
-use crate::lives::Live;
 use crate::server_state::ServerState;
 use alp_base::{BLOCK_PAGES, Cell, Key, OutOfMemory, TransId};
 use alp_files::CellMap;
-use alp_trans::Part;
 use alp_vault::Vault;
 use std::alloc::Global;
 
@@ -100,12 +98,7 @@ impl<V: Vault> ServerState<V> {
         let Some(found) = self.lives.get(&trans) else {
             return;
         };
-        let blank = Live {
-            client: found.client,
-            who: found.who,
-            part: Part::new(self.alloc),
-            locks: found.locks,
-        };
+        let blank = found.blank(self.alloc);
         let mut live = self.lives.swap(trans, blank);
         let places = live.part.counts.places;
         live.part.counts.places = places_left(places, live.part.intents.puts(), blocks);

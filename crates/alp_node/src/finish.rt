@@ -12,7 +12,7 @@ ghost use Rattle.alp_journal.specs.declared.event.Event.TheVariants as event;
 ghost use Rattle.alp_journal.specs.Deeds.{Ends};
 ghost use Rattle.alp_coord.specs.Coordinators.{IsAlong, Comes};
 ghost use Rattle.alp_node.specs.declared.lives.Live.{Live as ALive};
-ghost use Rattle.alp_node.specs.Dead.{is_dead};
+ghost use Rattle.alp_node.specs.Dead.{cause_in};
 ghost use Rattle.alp_node.specs.Standings.{standing_of};
 ghost use Rattle.alp_node.specs.declared.served.Standing.TheVariants as standing;
 ghost use Rattle.alp_node.specs.ServerState.{IsReadyForMore, IsOfJournal};
@@ -85,10 +85,10 @@ impl<V: Vault> ServerState<V> {
         Ok(self.end(turn, trans, Cause::Asked, acts))
     }
 
-    /// A part of the client that timed out is known of from now on.
-    pub fn tell_dead(&mut self, turn: &Turn, trans: TransId, commit: bool) -> Answer
+    /// A part of the client that ended for that cause is known of from now on.
+    pub fn tell_dead(&mut self, turn: &Turn, trans: TransId, commit: bool, cause: Cause) -> Answer
         requires turn { IsTurn self.old.sessions turn.now }
-        requires dead { standing_of turn.now.client (map.get self.old.lives trans) (is_dead turn.now.client trans self.old.dead) ≡ standing.Dead }
+        requires dead { standing_of turn.now.client (map.get self.old.lives trans) (cause_in self.old.dead turn.now.client trans) ≡ standing.Ended cause }
         requires here { trans.server ≡ self.old.server }
         requires up { self.old.is_down ≡ false }
         requires ready { IsReadyForMore (V.serves self.old.vault) self.old }
@@ -96,7 +96,6 @@ impl<V: Vault> ServerState<V> {
     {
         self.waits.remove_of(turn.client, &trans);
         self.dead.remove(turn.client, trans);
-        let cause = Cause::TimedOut;
         self.refuse(turn, Refusal::Aborted { cause })
     }
 
@@ -111,7 +110,7 @@ impl<V: Vault> ServerState<V> {
         };
         let client = live.client;
         let mut acts = self.released(trans)?;
-        self.dead.add(client, trans)?;
+        self.dead.add(client, trans, Cause::TimedOut)?;
         self.release(trans, &mut acts);
         self.coordinator.end(&trans, Cause::TimedOut);
         Ok(Answer::silence(Acts::new(acts)))

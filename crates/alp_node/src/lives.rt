@@ -9,19 +9,21 @@ ghost use Rattle.alp_trans.specs.Counting.{no_counts};
 ghost use Rattle.alp_node.specs.Totals.{totals_of, AreFewTotals};
 
 use crate::totals::Totals;
-use alp_base::{Name, OutOfMemory, TransId};
+use alp_base::{JoinNo, Name, OutOfMemory, TransId};
 use alp_trans::Part;
 use std::alloc::Global;
 use std::collections::BTreeMap;
 use std::marker::Model;
 
-/// A live transaction: its client, the principal that it acts for, what it did here, and how many resources it has locked.
+/// A live part: its client, the principal that it acts for, what it did here, how many resources it has locked, and its join,
+/// where the transaction is another server's. Of a part that an earlier run left ready no principal is known.
 #[derive(Drop)]
 pub struct Live {
     pub client: u8,
-    pub who: Name,
+    pub who: Option<Name>,
     pub part: Part,
     pub locks: u32,
+    pub join: Option<JoinNo>,
 }
 
 /// Live transactions by their ids, and what they come to together, which is kept as they change and end.
@@ -47,6 +49,22 @@ impl Model for Lives {
     ghost view = { λ l. map.from_entries l.lives.entries };
 
     ghost invariant = { λ l. l.totals ≡ totals_of (map.from_entries l.lives.entries) };
+}
+
+impl Live {
+    /// One that stands for this one while that is changed: a part that did nothing.
+    pub fn blank(&self, alloc: Global) -> Live
+        ensures same { result ≡ record self.now { part = result.part } }
+        ensures idle { result.part.counts ≡ no_counts }
+    {
+        Live {
+            client: self.client,
+            who: self.who,
+            part: Part::new(alloc),
+            locks: self.locks,
+            join: self.join,
+        }
+    }
 }
 
 impl Lives {

@@ -113,7 +113,7 @@ impl<V: Vault> ServerState<V> {
             number: turn.number,
             trans,
             call: copy_of(call)?,
-            counts: asked.0,
+            counts: Some(asked.0),
             is_granted: false,
         };
         self.waits.push(waiting)?;

@@ -56,8 +56,8 @@ impl<V: Vault> ServerState<V> {
         ensures { IsStep V.Vault self.old self.new (event.Call turn.now.client self.old.epoch turn.now.number (call.Join trans)) (Ok result) }
     {
         match self.standing(turn.client, &trans) {
-            Standing::Own => self.join_own(turn, trans),
-            Standing::Dead => self.refuse(turn, Refusal::UnknownTrans),
+            Standing::Work => self.join_own(turn, trans),
+            Standing::Ended(_) => self.refuse(turn, Refusal::UnknownTrans),
             Standing::Unknown => self.refuse(turn, Refusal::UnknownTrans),
         }
     }

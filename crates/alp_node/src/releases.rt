@@ -7,11 +7,9 @@ ghost use Rattle.alp_node.specs.Releases.{granted_one, woken_taken, let_go, gran
 ghost use Rattle.alp_node.specs.Totals.{totals_of, AreFewTotals};
 ghost use Rattle.alp_node.specs.declared.lives.Live.{Live as ALive};
 
-use crate::lives::Live;
 use crate::server_state::ServerState;
 use alp_base::{OutOfMemory, TransId};
 use alp_journal::Act;
-use alp_trans::Part;
 use alp_vault::Vault;
 
 impl<V: Vault> ServerState<V> {
@@ -67,12 +65,7 @@ impl<V: Vault> ServerState<V> {
         let Some(found) = self.lives.get(&trans) else {
             return;
         };
-        let blank = Live {
-            client: found.client,
-            who: found.who,
-            part: Part::new(self.alloc),
-            locks: found.locks,
-        };
+        let blank = found.blank(self.alloc);
         let mut live = self.lives.swap(trans, blank);
         live.locks = locks;
         let _ = self.lives.swap(trans, live);

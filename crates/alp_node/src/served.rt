@@ -7,7 +7,7 @@ ghost use Rattle.alp_journal.specs.Desk.{file_trans};
 ghost use Rattle.alp_node.specs.Calls.{IsServedCall};
 ghost use Rattle.alp_node.specs.Shapes.{ReadsSome};
 ghost use Rattle.alp_node.specs.ServerState.{IsReadyForMore, IsOfJournal};
-ghost use Rattle.alp_node.specs.Dead.{is_dead};
+ghost use Rattle.alp_node.specs.Dead.{cause_in};
 ghost use Rattle.alp_node.specs.Standings.{standing_of};
 ghost use Rattle.alp_node.specs.Served.{AreLivesSound};
 ghost use Rattle.alp_node.specs.Steps.{IsStep, IsTurn};
@@ -19,29 +19,31 @@ use alp_base::{OutOfMemory, TransId};
 use alp_files::{Call, Cause, Refusal};
 use alp_vault::Vault;
 
-/// What a client has here of a transaction: a live part, one that timed out without its knowing, or nothing.
+/// What a client has here of a transaction.
 #[derive(Clone, Copy, PartialEq, Eq)]
 pub enum Standing {
-    Own,
-    Dead,
     Unknown,
+    /// Its part performs calls.
+    Work,
+    /// Its part ended, and it is to be told why.
+    Ended(Cause),
 }
 
 impl<V: Vault> ServerState<V> {
     /// What the client has here of a transaction.
     pub fn standing(&self, client: u8, trans: &TransId) -> Standing
-        ensures { result ≡ standing_of client (map.get self.now.lives trans.now) (is_dead client trans.now self.now.dead) }
+        ensures { result ≡ standing_of client (map.get self.now.lives trans.now) (cause_in self.now.dead client trans.now) }
     {
         if let Some(live) = self.lives.get(trans) {
             if live.client == client {
-                return Standing::Own;
+                return Standing::Work;
             }
             return Standing::Unknown;
         }
-        if self.dead.has(client, trans) {
-            return Standing::Dead;
+        match self.dead.cause(client, trans) {
+            Some(cause) => Standing::Ended(cause),
+            None => Standing::Unknown,
         }
-        Standing::Unknown
     }
 
     /// A file call: of a live transaction of the client, and of a shape that is within the limits.
@@ -63,15 +65,8 @@ impl<V: Vault> ServerState<V> {
         ensures { IsStep V.Vault self.old self.new (event.Call turn.now.client self.old.epoch turn.now.number call.now) result }
     {
         match self.standing(turn.client, &trans) {
-            Standing::Own => {}
-            Standing::Dead => {
-                return Ok(self.refuse(
-                    turn,
-                    Refusal::Aborted {
-                        cause: Cause::TimedOut,
-                    },
-                ));
-            }
+            Standing::Work => {}
+            Standing::Ended(cause) => return Ok(self.refuse(turn, Refusal::Aborted { cause })),
             Standing::Unknown => return Ok(self.refuse(turn, Refusal::UnknownTrans)),
         }
         if self.waits.has(turn.client, &trans) {

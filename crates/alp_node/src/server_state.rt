@@ -24,7 +24,7 @@ pub struct ServerState<V: Vault> {
     pub coordinator: Coordinator,
     pub sessions: Sessions,
     pub lives: Lives,
-    /// Parts that timed out, each up to its client's `Finish` of it or next `Begin`.
+    /// Parts that ended while their clients do not know, each up to its client's `Finish` of it or next `Begin` or `Join`.
     pub dead: Dead,
     /// Calls that wait for their locks, or have them and are not collected.
     pub waits: Waits,

@@ -1,10 +1,11 @@
 //! Calls that wait for their locks, or have them and are not collected.
-ghost use Rattle.std.specs.Prelude.{◌≡◌, ◌++◌, ◌∷◌, [], IfOk, OnOk, OnErr, List};
+ghost use Rattle.std.specs.Prelude.{◌≡◌, ◌++◌, ◌∷◌, [], IfOk, OnOk, OnErr, List, find};
 ghost use Rattle.std.specs.Option.{option_copied as copied};
-ghost use Rattle.alp_node.specs.Waits.{is_of as is_of_said, has_waiting, call_at, locks_of as locks_of_said, grant_of, without_calls_of, live_calls};
+ghost use Rattle.std.specs.FinMap as map;
+ghost use Rattle.alp_node.specs.Waits.{is_of as is_of_said, is_at as is_at_said, is_file_on, has_waiting, has_file_on, call_at, count_asked, locks_of as locks_of_said, grant_of, without_calls_of, without_call_at, without_dead, has_part as has_part_said, live_calls};
 ghost use Rattle.alp_node.specs.declared.waits.WaitingCall.{WaitingCall as ACall};
 
-use crate::dead::is_same;
+use crate::dead::{Dead, is_same};
 use crate::lives::Lives;
 use crate::lock_counts::LockCounts;
 use alp_base::{OutOfMemory, TransId};
@@ -12,15 +13,15 @@ use alp_files::Call;
 use std::alloc::Global;
 use std::marker::Model;
 
-/// A file call that waits: whose it is, its number, the transaction of its part, and how many resources the part has locked
-/// once it has the locks of the call.
+/// A call that waits: whose it is, its number, the transaction of its part, and of a file call how many resources the part has
+/// locked once it has the locks of the call.
 #[derive(Drop)]
 pub struct WaitingCall {
     pub client: u8,
     pub number: u32,
     pub trans: TransId,
     pub call: Call,
-    pub counts: LockCounts,
+    pub counts: Option<LockCounts>,
     pub is_granted: bool,
 }
 
@@ -76,11 +77,17 @@ impl Waits {
     pub fn locks_of(&self, trans: &TransId) -> Option<u32>
         ensures { result ≡ locks_of_said trans.now self.now }
     {
-        let found = self.calls.iter().find(|call| is_same(&call.trans, trans));
-        match found {
-            Some(call) => Some(call.counts.asked),
+        match self.file_on(trans) {
+            Some(call) => call.asked(),
             None => None,
         }
+    }
+
+    // The first file call of the transaction that waits.
+    fn file_on(&self, trans: &TransId) -> Option<&WaitingCall>
+        ensures { copied result ≡ find (is_file_on trans.now) self.now }
+    {
+        self.calls.iter().find(|call| is_on(call, trans))
     }
 
     /// A call waits from now on.
@@ -99,12 +106,12 @@ impl Waits {
         let _ = self.calls.pop();
     }
 
-    /// The call of the transaction has its locks.
+    /// The file call of the transaction has its locks.
     pub fn grant(&mut self, trans: &TransId)
         ensures { self.new ≡ grant_of trans.now self.old }
     {
         for call in self.calls.iter_mut() {
-            if is_same(&call.trans, trans) {
+            if is_on(call, trans) {
                 call.is_granted = true;
             }
         }
@@ -117,12 +124,70 @@ impl Waits {
         self.calls.retain(|call| !is_of(call, client, trans));
     }
 
-    /// Of the client's calls those alone wait on whose transactions are live.
-    pub fn bury(&mut self, client: u8, lives: &Lives)
+    /// Whether a file call of the transaction waits, whosever it is.
+    pub fn has_on(&self, trans: &TransId) -> bool
+        ensures { result ≡ has_file_on trans.now self.now }
+    {
+        self.calls.iter().any(|call| is_on(call, trans))
+    }
+
+    /// The client's call with this number waits no more.
+    pub fn remove_at(&mut self, client: u8, number: u32)
+        ensures { self.new ≡ without_call_at client number self.old }
+    {
+        self.calls.retain(|call| !is_at(call, client, number));
+    }
+
+    /// The calls of the client's parts that ended wait no more.
+    pub fn bury(&mut self, client: u8, dead: &Dead)
+        ensures { self.new ≡ without_dead client dead.now self.old }
+    {
+        self.calls.retain(|call| call.client != client
+            || dead.cause(client, &call.trans).is_none());
+    }
+
+    /// Of the client's calls those alone wait on whose parts are live.
+    pub fn clear(&mut self, client: u8, lives: &Lives)
         ensures { self.new ≡ live_calls client lives.now self.old }
     {
-        self.calls.retain(|call| call.client != client || lives.get(&call.trans).is_some());
+        self.calls.retain(|call| call.client != client || has_part(lives, client, &call.trans));
     }
+}
+
+impl WaitingCall {
+    // How many resources the part has locked once it has the locks of the call, where it is a file call.
+    fn asked(&self) -> Option<u32>
+        ensures { result ≡ count_asked self.now.counts }
+    {
+        match &self.counts {
+            Some(counts) => Some(counts.asked),
+            None => None,
+        }
+    }
+}
+
+// Whether the client has a live part of the transaction here.
+fn has_part(lives: &Lives, client: u8, trans: &TransId) -> bool
+    ensures { result ≡ has_part_said client (map.get lives.now trans.now) }
+{
+    match lives.get(trans) {
+        Some(live) => live.client == client,
+        None => false,
+    }
+}
+
+// Whether it is a file call of the transaction.
+fn is_on(call: &WaitingCall, trans: &TransId) -> bool
+    ensures { result ≡ is_file_on trans.now call.now }
+{
+    call.counts.is_some() && is_same(&call.trans, trans)
+}
+
+// Whether it is the client's call with this number.
+fn is_at(call: &WaitingCall, client: u8, number: u32) -> bool
+    ensures { result ≡ is_at_said client number call.now }
+{
+    call.client == client && call.number == number
 }
 
 // Whether it is a call of the client's part of the transaction.

@@ -1,4 +1,4 @@
-use Rattle.std.specs.Prelude.{max, nat_le, None, Some, Ok}
+use Rattle.std.specs.Prelude.{None, Some, Ok, max, nat_le}
 use Rattle.std.specs.FinMap as map
 use Rattle.std.proofs.Common.{◌≡◌, ℕ, ◌+◌, ◌<◌, List, [], ◌∷◌, ◌++◌, sym, ap, ◌∙◌, subst, refl, arith}
 use Rattle.alp_base.specs.declared.ids.TransId.{TransId}
@@ -36,8 +36,8 @@ use Rattle.alp_node.proofs.KeptLemmas.{session_of}
 use Rattle.alp_node.proofs.ReadyLemmas.{begin_ready, refused_ready}
 use Rattle.alp_node.proofs.TransactionLemmas.{next_new, few_live}
 use Rattle.alp_node.proofs.WaitLemmas.{named_all, none_newer}
-use Rattle.alp_node.specs.Releases.{buried, with_trans}
-use Rattle.alp_node.specs.Waits.{live_calls}
+use Rattle.alp_node.specs.Releases.{cleared, with_trans}
+use Rattle.alp_node.specs.Waits.{without_dead, live_calls}
 use Rattle.alp_calls.proofs.LookLemmas.{left_same}
 use Rattle.alp_node.proofs.SeatLemmas.{left_step}
 use Rattle.alp_node.proofs.server_state.ServerState.begin.Goals as goal
@@ -54,7 +54,7 @@ returns g c =
     let drawn : HasDrawn turn c.in_ok-trans.trans k c.draw.new.self = c.in_ok-trans.ensures.drawn in
     let z : Coordinator = (c.draw.new.self).coordinator in
     let t : TransId = next_id k.coordinator in
-    let l : Live = record { client = turn.client; who = turn.who; part = drawn.part; locks = 0 } in
+    let l : Live = record { client = turn.client; who = Some turn.who; part = drawn.part; locks = 0; join = None } in
     let r : Reply = reply.Begun t in
     let e = event.Call turn.client k.epoch turn.number (call.Begin seen) in
     let x = c.begun.result in
@@ -75,22 +75,22 @@ returns g c =
       coordinator = z;
       dead = without_client turn.client k.dead;
       lives = map.insert k.lives t l;
-      waits = live_calls turn.client (map.insert k.lives t l) k.waits;
+      waits = live_calls turn.client (map.insert k.lives t l) (without_dead turn.client k.dead k.waits);
       locks = entered k.locks t;
     } in
-    let buried_now : c.bury-2.new.self ≡ buried (record (with_trans k t l) { coordinator = z; clock = n }) turn.client = c.bury-2.ensures ∙ ap (λ (y : ServerState _). buried (record y { clock = n }) turn.client) begun in
+    let cleared_now : c.clear-2.new.self ≡ cleared (record (with_trans k t l) { coordinator = z; clock = n }) turn.client = c.clear-2.ensures ∙ ap (λ (y : ServerState _). cleared (record y { clock = n }) turn.client) begun in
     let counted : c.count.new.self ≡ counted_in k.sessions turn r =
-    c.count.ensures ∙ ap (λ (y : ServerState _). counted_in y.sessions turn (reply.Begun c.in_ok-trans.trans)) buried_now ∙ ap (λ (u : TransId). counted_in k.sessions turn (reply.Begun u)) drawn.id in
-    let kept : record (c.bury-2.new.self) { sessions = c.count.new.self } ≡ after = (λ i. record (buried_now i) { sessions = counted i }) in
+    c.count.ensures ∙ ap (λ (y : ServerState _). counted_in y.sessions turn (reply.Begun c.in_ok-trans.trans)) cleared_now ∙ ap (λ (u : TransId). counted_in k.sessions turn (reply.Begun u)) drawn.id in
+    let kept : record (c.clear-2.new.self) { sessions = c.count.new.self } ≡ after = (λ i. record (cleared_now i) { sessions = counted i }) in
     let named : AreNamed k.waits = named_all k.server k.epoch k.given (count_of k.coordinator) k.sizes k.lives k.waits ready.waits.calls in
     let away : AreOthers t k.waits = none_newer k.server k.epoch k.given (count_of k.coordinator) k.sizes k.lives t k.waits (omega arith) ready.waits.calls in
     subst (λ (y : ServerState _). IsStep G k y e (Ok x)) (sym kept)
     (left_step G k after refl refl refl (left_same G k.vault) e x c.requires.up
     (λ told a h. subst (λ (m : ℕ). Stepped a faults faults held (record after { clock = m }) e x) (sym clock)
     (begin_stepped a held k turn.client turn.number (session_of turn c.requires.turn) seen drawn.part z faults faults x (entered k.locks t) h c.requires.turn.client c.requires.up c.requires.turn.session c.requires.turn.number ready.raised none new
-    (λ u q. ap (λ y. map.get y q) (entering-keeps-held k.locks t u)) drawn.own drawn.intents drawn.counts drawn.one (comes turn.who seen.ts) named away refl (entering-keeps-held k.locks t) is))
+    (λ u q. ap (λ y. map.get y q) (entering-keeps-held k.locks t u)) drawn.own drawn.intents drawn.counts drawn.one (comes turn.who seen.ts) named ready.waits.files away refl (entering-keeps-held k.locks t) is))
     (reply_given k.server faults faults (G.allowance k.vault) k.is_down r (act.Drawn t ∷ []) x is (counts_none k.server faults faults k.is_down (Some r) refl refl c.requires.up) c.requires.up tt)
-    (λ m h. begin_ready m serves k turn l n z c.requires.turn refl drawn.one comes drawn.own (new_within k.sizes turn.client turn.who drawn.part drawn.intents drawn.counts h.sized) few (omega (arith, clock)) (omega (arith, clock, h.clock, c.requires.time)) h)
+    (λ m h. begin_ready m serves k turn l n z c.requires.turn refl drawn.one comes refl drawn.own (new_within k.sizes turn.client (Some turn.who) drawn.part drawn.intents drawn.counts h.sized) few (omega (arith, clock)) (omega (arith, clock, h.clock, c.requires.time)) h)
     (λ on. subst (λ (y : Answer). HasTurned (Some order.Next) k after e y.kept) (sym is) (counts_on k after turn c.requires.turn (call.Begin seen) r tt (omega (arith, clock)) tt tt refl)))
 
 -- as many count as there may be
@@ -104,15 +104,15 @@ returns-in-Some g c =
     let same : c.in-Some.refusal ≡ f = over_is (nat_le 64 (counted_of k.coordinator)) f c.in-Some.refusal (sym c.in_ok-refusal.ensures ∙ c.in-Some.is) in
     let many : many_of k.coordinator ≡ Some f = sym c.in_ok-refusal.ensures ∙ c.in-Some.is ∙ ap Some same in
     let so = c.refuse.ensures.answer ∙ ap (λ (x : Refusal). refused_answer x []) same in
-    let kept : c.refuse.new.self ≡ record (buried k turn.client) { sessions = counted_in k.sessions turn (reply.Refused f) } =
-    c.refuse.ensures.kept ∙ ap (λ (y : ServerState _). record y { sessions = counted_in y.sessions turn (reply.Refused c.in-Some.refusal) }) c.bury.ensures
-    ∙ ap (λ (x : Refusal). record (buried k turn.client) { sessions = counted_in k.sessions turn (reply.Refused x) }) same in
+    let kept : c.refuse.new.self ≡ record (cleared k turn.client) { sessions = counted_in k.sessions turn (reply.Refused f) } =
+    c.refuse.ensures.kept ∙ ap (λ (y : ServerState _). record y { sessions = counted_in y.sessions turn (reply.Refused c.in-Some.refusal) }) c.clear.ensures
+    ∙ ap (λ (x : Refusal). record (cleared k turn.client) { sessions = counted_in k.sessions turn (reply.Refused x) }) same in
     plain_step G k c.refuse.new.self turn (call.Begin c.args.seen) c.refuse.result (reply.Refused f) [] (ap (λ (y : ServerState _). y.vault) kept) (ap (λ (y : ServerState _). y.server) kept) (ap (λ (y : ServerState _). y.sizes) kept)
     (ap (λ (y : ServerState _). y.epoch) kept) c.requires.up (ap (λ (y : ServerState _). y.is_down) kept ∙ c.requires.up) refl so refl (λ m n b. tt)
     (λ n h. subst (λ (y : ServerState _). IsReady (n + 1) (G.serves k.vault) y) (sym kept) (refused_ready n (G.serves k.vault) k turn (reply.Refused f) c.requires.turn (record { inside = tt; times = tt }) h))
     (λ told a h. subst (λ (y : ServerState _). Stepped a (G.faults k.vault) (G.faults k.vault) (G.held k.vault) y e c.refuse.result) (sym kept)
     (begin_refused_stepped a (G.held k.vault) k turn.client turn.number (session_of turn c.requires.turn) c.args.seen (G.faults k.vault) (G.faults k.vault) c.refuse.result h c.requires.turn.client c.requires.up c.requires.turn.session c.requires.turn.number many
-    (named_all k.server k.epoch k.given (count_of k.coordinator) k.sizes k.lives k.waits c.requires.ready.2.waits.calls) so))
+    (named_all k.server k.epoch k.given (count_of k.coordinator) k.sizes k.lives k.waits c.requires.ready.2.waits.calls) c.requires.ready.2.waits.files so))
     (counts_refused k c.refuse.new.self turn c.requires.turn (call.Begin c.args.seen) f tt (ap (λ (y : ServerState _). y.clock) kept) (ap (λ (y : ServerState _). y.sessions) kept))
 
 -- there is no room for it

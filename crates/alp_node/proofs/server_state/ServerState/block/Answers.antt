@@ -22,7 +22,7 @@ use Rattle.alp_node.specs.declared.lock_counts.LockCounts.{LockCounts}
 use Rattle.alp_node.specs.declared.server_state.ServerState.{ServerState}
 use Rattle.alp_node.specs.declared.waits.WaitingCall.{WaitingCall}
 use Rattle.alp_node.proofs.AskLemmas.{asked_given, asked_told}
-use Rattle.alp_node.proofs.BesideLemmas.{AreNamed, AreOthers, idle_told}
+use Rattle.alp_node.proofs.BesideLemmas.{AreNamed, HasNoCall, idle_told}
 use Rattle.alp_node.proofs.BlockLemmas.{new_call, blocked_locks, blocked_kept, blocked_is, blocked_ready, waits_stepped}
 use Rattle.alp_node.proofs.BehindLemmas.{same_without, same_err}
 use Rattle.alp_node.proofs.KeptLemmas.{of_client}
@@ -42,9 +42,9 @@ wait-requires-clause-idle g c =
     let turn = c.args.turn.now in
     let mine = of_client turn.client (map.get k.lives c.args.trans) c.requires.own in
     let calls = c.requires.ready.2.waits.calls in
-    let away : AreOthers c.args.trans k.waits = none_waiting k.server k.epoch k.given (count_of k.coordinator) k.sizes k.lives turn.client c.args.trans mine.0 k.waits mine.1 mine.2 c.requires.idle calls in
+    let away : HasNoCall turn.client c.args.trans k.waits = none_waiting k.server k.epoch k.given (count_of k.coordinator) k.sizes k.lives turn.client c.args.trans mine.0 k.waits mine.1 mine.2 c.requires.idle calls in
     ap (λ (w : Waiter). waits k.locks.waiting w.trans) c.requires.plan
-    ∙ idle_in k.server k.epoch k.given k.lives k.waits c.args.trans k.locks.waiting (asks_none c.args.trans k.waits away) c.requires.ready.2.waits.queued
+    ∙ idle_in k.server k.epoch k.given k.lives k.waits c.args.trans k.locks.waiting (asks_none c.args.trans k.waits away.others) c.requires.ready.2.waits.queued
 
 -- it fails where another is in its way
 pub returns-then-not-may_wait : goal.returns-then-not-may_wait
@@ -58,13 +58,13 @@ returns-then-not-may_wait g c =
     let mine = of_client turn.client (map.get k.lives t) c.requires.own in
     let l : Live = mine.0 in
     let named : AreNamed k.waits = named_all k.server k.epoch k.given (count_of k.coordinator) k.sizes k.lives k.waits c.requires.ready.2.waits.calls in
-    let away : AreOthers t k.waits = none_waiting k.server k.epoch k.given (count_of k.coordinator) k.sizes k.lives turn.client t l k.waits mine.1 mine.2 c.requires.idle c.requires.ready.2.waits.calls in
+    let away : HasNoCall turn.client t k.waits = none_waiting k.server k.epoch k.given (count_of k.coordinator) k.sizes k.lives turn.client t l k.waits mine.1 mine.2 c.requires.idle c.requires.ready.2.waits.calls in
     let never : may_wait call ≡ false = sym c.may_wait.ensures ∙ c.if-not-may_wait.true in
     let few : too_locked k.sizes.area l.part.counts.cells (counts_then l.locks (holding k.locks.held t) ns call).made ≡ None =
     ap (λ (n : LockCounts). too_locked k.sizes.area l.part.counts.cells n.made) (sym (c.requires.counts l mine.1)) ∙ c.requires.few l mine.1 in
     let blocked : blocker k.locks.held t (plan_of k.locks t ns).rises ≡ Some c.args.holder = ap (λ (w : Waiter). blocker k.locks.held t w.rises) (sym c.requires.plan) ∙ c.requires.blocked in
     refused_step G k c.refuse.new.self turn call c.refuse.result (refusal.LockConflict c.args.holder) refl c.requires.turn c.requires.up c.refuse.ensures.kept c.refuse.ensures.answer
-    (λ told a h. conflict_stepped a (G.faults k.vault) (G.faults k.vault) (G.held k.vault) k turn t l call ns c.args.holder c.refuse.result h c.requires.ready.2.raised c.requires.turn c.requires.up mine.1 mine.2 (idle_told a turn.client t k.waits h.waits named away) never
+    (λ told a h. conflict_stepped a (G.faults k.vault) (G.faults k.vault) (G.held k.vault) k turn t l call ns c.args.holder c.refuse.result h c.requires.ready.2.raised c.requires.turn c.requires.up mine.1 mine.2 (idle_told a turn.client t k.waits h.waits named away.idle) never
     (subst (λ (x : Option TransId). IsSome x) (sym c.requires.named) refl) (asked_told (G.tells k.vault) (G.held k.vault).cells (holding k.locks.held t) l.part call ns (c.requires.asked l mine.1) told) (c.requires.shape l mine.1) few c.requires.named c.requires.ready.2.sound blocked c.refuse.ensures.answer)
     tt
 
@@ -95,7 +95,7 @@ returns g c =
     let ready = c.requires.ready.2 in
     let faults = G.faults k.vault in
     let e = event.Call turn.client k.epoch turn.number call in
-    let away : AreOthers t k.waits = none_waiting k.server k.epoch k.given (count_of k.coordinator) k.sizes k.lives turn.client t l k.waits mine.1 mine.2 c.requires.idle ready.waits.calls in
+    let away : HasNoCall turn.client t k.waits = none_waiting k.server k.epoch k.given (count_of k.coordinator) k.sizes k.lives turn.client t l k.waits mine.1 mine.2 c.requires.idle ready.waits.calls in
     let chooses : may_wait call ≡ true = sym c.may_wait.ensures ∙ c.if-not-may_wait.false in
     let counts_are : c.args.asked.0 ≡ counts_then l.locks (holding k.locks.held t) ns call = c.requires.counts l mine.1 in
     let few : too_locked k.sizes.area l.part.counts.cells (counts_then l.locks (holding k.locks.held t) ns call).made ≡ None = ap (λ (n : LockCounts). too_locked k.sizes.area l.part.counts.cells n.made) (sym counts_are) ∙ c.requires.few l mine.1 in
@@ -104,7 +104,7 @@ returns g c =
     (shape_given k.server k.epoch k.given (length l.part.opens.items) call (c.requires.shape l mine.1)) in
     let cloned : c.in_ok-copy_of.field-0 ≡ call = c.in_ok-copy_of.ensures in
     let waits_are : c.push.new.self ≡ k.waits ++ new_call k turn t l call ns ∷ [] =
-    c.in_ok-push.ensures.ok ∙ (λ i. k.waits ++ (record { client = turn.client; number = turn.number; trans = t; call = cloned i; counts = counts_are i; is_granted = false }) ∷ []) in
+    c.in_ok-push.ensures.ok ∙ (λ i. k.waits ++ (record { client = turn.client; number = turn.number; trans = t; call = cloned i; counts = Some (counts_are i); is_granted = false }) ∷ []) in
     let locks_are : c.wait.new.self ≡ blocked_locks k turn t l call ns =
     when_ok c.wait.result _ c.wait.ensures.after (sym c.if-is_err.ensures.value) ∙ ap (with_waiter k.locks) c.requires.plan ∙ blocked_is k turn t l call ns (ready.known t l mine.1) in
     let kept : c.refuse-2.new.self ≡ blocked_kept k turn t l call ns =

@@ -19,10 +19,10 @@ use Rattle.alp_journal.specs.declared.act.Act.TheVariants as act
 use Rattle.alp_journal.specs.declared.event.Event.TheVariants as event
 use Rattle.alp_coord.specs.Coordinators.{count_of}
 use Rattle.alp_node.specs.Asks.{asks_made, makes_file, is_made, plan_if, plan_of, count_made, with_made}
-use Rattle.alp_node.specs.Calls.{next_file, Performed}
+use Rattle.alp_node.specs.Calls.{name_in, next_file, Performed}
 use Rattle.alp_node.specs.Steps.{IsStep, IsOf, IsDown, counted_in, told_answer}
 use Rattle.alp_node.specs.Totals.{LiveMap}
-use Rattle.alp_node.specs.Waits.{without_calls_of, IsWaitingCall}
+use Rattle.alp_node.specs.Waits.{without_calls_of, IsFileCall, IsWaitingCall}
 use Rattle.alp_node.specs.declared.answer.Answer.{Answer}
 use Rattle.alp_node.specs.declared.answer.Given.{Given}
 use Rattle.alp_node.specs.declared.lives.Live.{Live}
@@ -54,16 +54,20 @@ pub perform-requires-clause-ready : goal.perform-requires-clause-ready
 perform-requires-clause-ready g c l there =
     let k = c.args.self.now in
     let ready = c.requires.ready.2 in
-    let w : WaitingCall = record { client = c.args.turn.now.client; number = c.args.number; trans = c.args.trans; call = c.args.call.now; counts = c.args.counts; is_granted = true } in
+    let w : WaitingCall = record { client = c.args.turn.now.client; number = c.args.number; trans = c.args.trans; call = c.args.call.now; counts = Some c.args.counts; is_granted = true } in
     let its : IsWaitingCall k.server k.epoch k.given (count_of k.coordinator) k.sizes k.lives w = call_is k c.args.turn.now.client c.args.number w c.requires.ready.0 (g.V.Vault.serves k.vault) ready c.requires.waiting in
+    let file : IsFileCall k.server k.epoch k.given (count_of k.coordinator) k.sizes k.lives w c.args.counts = its.file c.args.counts refl in
     let low : l.part.last ≤ c.requires.ready.0 = ready.opens c.args.trans l there in
     record {
       part = (ready.within c.args.trans l there).part;
       last = omega (arith, low, c.requires.ready.1);
       file = subst (λ (o : Option TransId). IsSome o) (sym its.named) refl;
-      whole = its.formed.0;
-      shaped = shape_shaped k.server k.epoch k.given (length l.part.opens.items) c.args.call.now (its.limits l there).shape;
+      whole = file.formed.0;
+      shaped = shape_shaped k.server k.epoch k.given (length l.part.opens.items) c.args.call.now (file.limits l there).shape;
     }
+
+pub perform-requires-clause-caller : goal.perform-requires-clause-caller
+perform-requires-clause-caller g c = c.requires.ready.2.callers c.args.trans
 
 pub perform-requires-clause-few : goal.perform-requires-clause-few
 perform-requires-clause-few g c = few_totals c.args.self.now.lives c.requires.ready.2.most (λ t l there. (c.requires.ready.2.within t l there).part)
@@ -115,18 +119,18 @@ returns-in-Ok g c =
     let M = c.keep_made.new.self in
     let z : Given = c.in-Ok.given in
     let r = z.reply in
-    let w : WaitingCall = record { client = turn.client; number = c.args.number; trans = t; call = c.args.call.now; counts = c.args.counts; is_granted = true } in
+    let w : WaitingCall = record { client = turn.client; number = c.args.number; trans = t; call = c.args.call.now; counts = Some c.args.counts; is_granted = true } in
     let mine = of_client turn.client (map.get k.lives t) c.requires.own in
     let l : Live = mine.0 in
     let did : Performed (G.tells k.vault) (G.held k.vault).cells k N t l c.args.call.now c.args.counts [] (Ok z) =
     subst (λ (y : List Act). Performed (G.tells k.vault) (G.held k.vault).cells k N t l c.args.call.now c.args.counts y (Ok z)) c.no_acts.ensures (c.in-Ok.ensures.performed l mine.1) in
     let is : z.answer ≡ told_answer (Some r) [] = ap (λ (y : Given). y.answer) did.outcome.is in
-    let given : Answered (G.tells k.vault) (G.held k.vault).cells l.part did.part l.who (next_file k) c.args.call.now did.room r = did.outcome.given in
+    let given : Answered (G.tells k.vault) (G.held k.vault).cells l.part did.part (name_in l.who) (next_file k) c.args.call.now did.room r = did.outcome.given in
     let looked = c.in-Ok.ensures.looked in
-    let after : ServerState _ = collected_left k turn w l did.part N.vault r in
+    let after : ServerState _ = collected_left k turn w c.args.counts l did.part N.vault r in
     let gone : c.remove_of.new.self ≡ without_calls_of turn.client t k.waits = c.remove_of.ensures ∙ ap (λ (y : ServerState _). without_calls_of turn.client t y.waits) did.kept in
     let made_is : c.is_made.result ≡ is_made r = c.is_made.ensures in
-    let plan_is : c.in_ok-made.made ≡ made_plan k turn w l did.part N.vault =
+    let plan_is : c.in_ok-made.made ≡ made_plan k turn w c.args.counts l did.part N.vault =
     c.in_ok-made.ensures ∙ ap (λ (ns : List Need). plan_if (makes_file c.args.call.now) (plan_of k.locks t (asks_made (next_file k) ns))) c.no_needs-needs.ensures in
     let M_is : M ≡ record after { sessions = k.sessions } =
     c.keep_made.ensures.kept
@@ -134,7 +138,7 @@ returns-in-Ok g c =
     ∙ (λ i. record after { sessions = k.sessions; given = count_given k.given r i }) in
     let kept_is : record M { sessions = c.count.new.self } ≡ after = (λ i. record (M_is i) { sessions = (c.count.ensures ∙ ap (λ (y : ServerState _). counted_in y.sessions turn r) M_is) i }) in
     subst (λ (y : ServerState _). IsStep G k y (event.Call turn.client k.epoch turn.number (call.Collect c.args.number)) (Ok z.answer)) (sym kept_is)
-    (collect_done G k turn c.args.number w l did.part did.room r N.vault c.requires.waiting refl c.requires.turn c.requires.up mine.1 did.sound looked.0 looked.1 given did.left z.answer c.requires.ready.0 c.requires.ready.2 looked.2 is)
+    (collect_done G k turn c.args.number w c.args.counts l did.part did.room r N.vault c.requires.waiting refl refl c.requires.turn c.requires.up mine.1 did.sound looked.0 looked.1 given did.left z.answer c.requires.ready.0 c.requires.ready.2 looked.2 is)
 
 -- a read failed
 pub returns-in-Err-Failed : goal.returns-in-Err-Failed
@@ -144,7 +148,7 @@ returns-in-Err-Failed g c =
     let turn = c.args.turn.now in
     let t : TransId = c.args.trans in
     let N = c.perform.new.self in
-    let w : WaitingCall = record { client = turn.client; number = c.args.number; trans = t; call = c.args.call.now; counts = c.args.counts; is_granted = true } in
+    let w : WaitingCall = record { client = turn.client; number = c.args.number; trans = t; call = c.args.call.now; counts = Some c.args.counts; is_granted = true } in
     let mine = of_client turn.client (map.get k.lives t) c.requires.own in
     let l : Live = mine.0 in
     let did = c.in-Err-Failed.ensures.performed l mine.1 in
@@ -168,7 +172,7 @@ returns-in-Err-Stopped g c =
     let turn = c.args.turn.now in
     let t : TransId = c.args.trans in
     let N = c.perform.new.self in
-    let w : WaitingCall = record { client = turn.client; number = c.args.number; trans = t; call = c.args.call.now; counts = c.args.counts; is_granted = true } in
+    let w : WaitingCall = record { client = turn.client; number = c.args.number; trans = t; call = c.args.call.now; counts = Some c.args.counts; is_granted = true } in
     let mine = of_client turn.client (map.get k.lives t) c.requires.own in
     let l : Live = mine.0 in
     let did = c.in-Err-Stopped.ensures.performed l mine.1 in
@@ -190,7 +194,7 @@ returns-in-Err-OutOfMemory g c =
     let turn = c.args.turn.now in
     let t : TransId = c.args.trans in
     let N = c.perform.new.self in
-    let w : WaitingCall = record { client = turn.client; number = c.args.number; trans = t; call = c.args.call.now; counts = c.args.counts; is_granted = true } in
+    let w : WaitingCall = record { client = turn.client; number = c.args.number; trans = t; call = c.args.call.now; counts = Some c.args.counts; is_granted = true } in
     let mine = of_client turn.client (map.get k.lives t) c.requires.own in
     let l : Live = mine.0 in
     let did = c.in-Err-OutOfMemory.ensures.performed l mine.1 in

@@ -1,4 +1,4 @@
-use Rattle.std.specs.Prelude.{cond}
+use Rattle.std.specs.Prelude.{cond, None, Some}
 use Rattle.std.specs.FinMap as map
 use Rattle.std.proofs.Common.{◌≡◌, ◌+◌, ◌-◌, sym, ap, subst, ◌∙◌, arith}
 use Rattle.alp_files.proofs.UndoLemmas.{when_ok, when_err}
@@ -54,7 +54,7 @@ returns-clause-drawn g c =
     let turn = c.args.turn.now in
     let t : TransId = c.in_ok-trans.trans in
     let id : t ≡ next_id k.coordinator = c.in_ok-trans.ensures.id in
-    let l : Live = record { client = turn.client; who = turn.who; part = c.new.result; locks = 0 } in
+    let l : Live = record { client = turn.client; who = Some turn.who; part = c.new.result; locks = 0; join = None } in
     let entered : c.enter.new.self ≡ with_trans (record k { coordinator = c.begin.new.self }) t l = when_ok c.enter.result _ c.enter.ensures.ok (sym c.if-is_err.ensures.value) in
     let is : (c.enter.new.self).coordinator ≡ c.begin.new.self = ap (λ (y : ServerState _). y.coordinator) entered in
     record {

@@ -11,14 +11,14 @@ use Rattle.alp_node.proofs.server_state.ServerState.ease.Goals as goal
 
 pub swap-requires-clause-there : goal.swap-requires-clause-there
 swap-requires-clause-there g c none =
-    let blank : Live = record { client = c.in-Some.found.now.client; who = c.in-Some.found.now.who; part = c.new.result; locks = c.in-Some.found.now.locks } in
+    let blank : Live = c.blank-blank.result in
     let wrong : None ≡ Some blank = sym none ∙ ap (λ (m : LiveMap). map.get m c.args.trans) c.swap-live.ensures.after ∙ put_there c.args.self.now.lives c.args.trans blank in
     cc
 
 pub swap-requires-clause-few : goal.swap-requires-clause-few
 swap-requires-clause-few g c =
-    let blank : Live = record { client = c.in-Some.found.now.client; who = c.in-Some.found.now.who; part = c.new.result; locks = c.in-Some.found.now.locks } in
-    subst (λ (m : LiveMap). AreFewTotals (totals_of m)) (sym c.swap-live.ensures.after) (blank_few c.args.self.now.lives c.args.trans c.swap-live.result blank c.swap-live.ensures.before c.new.ensures.counts c.requires.few)
+    let blank : Live = c.blank-blank.result in
+    subst (λ (m : LiveMap). AreFewTotals (totals_of m)) (sym c.swap-live.ensures.after) (blank_few c.args.self.now.lives c.args.trans c.swap-live.result blank c.swap-live.ensures.before c.blank-blank.ensures.idle c.requires.few)
 
 pub swap-requires-clause-part : goal.swap-requires-clause-part
 swap-requires-clause-part g c =
@@ -30,7 +30,7 @@ returns g c =
     let k = c.args.self.now in
     let t = c.args.trans in
     let l : Live = c.swap-live.result in
-    let blank : Live = record { client = c.in-Some.found.now.client; who = c.in-Some.found.now.who; part = c.new.result; locks = c.in-Some.found.now.locks } in
+    let blank : Live = c.blank-blank.result in
     let there : map.get k.lives t ≡ Some l = c.swap-live.ensures.before in
     let now : Live = record l { part = record (l.part) { counts = record (l.part.counts) { places = c.places_left-live.result } } } in
     let places : c.places_left-live.result ≡ l.part.counts.places - shared_in l.part.intents.puts c.args.blocks.now = c.places_left-live.ensures ∙ ap (λ (x : Cells). l.part.counts.places - shared_in x c.args.blocks.now) c.puts.ensures in

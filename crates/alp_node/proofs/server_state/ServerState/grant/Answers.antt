@@ -11,14 +11,14 @@ use Rattle.alp_node.proofs.server_state.ServerState.grant.Goals as goal
 
 pub swap-requires-clause-there : goal.swap-requires-clause-there
 swap-requires-clause-there g c none =
-    let blank : Live = record { client = c.in-Some-get.found.now.client; who = c.in-Some-get.found.now.who; part = c.new.result; locks = c.in-Some-get.found.now.locks } in
+    let blank : Live = c.blank-blank.result in
     let wrong : None ≡ Some blank = sym none ∙ ap (λ (m : LiveMap). map.get m c.args.trans) c.swap-live.ensures.after ∙ put_there c.args.self.now.lives c.args.trans blank in
     cc
 
 pub swap-requires-clause-few : goal.swap-requires-clause-few
 swap-requires-clause-few g c =
-    let blank : Live = record { client = c.in-Some-get.found.now.client; who = c.in-Some-get.found.now.who; part = c.new.result; locks = c.in-Some-get.found.now.locks } in
-    subst (λ (m : LiveMap). AreFewTotals (totals_of m)) (sym c.swap-live.ensures.after) (blank_few c.args.self.now.lives c.args.trans c.swap-live.result blank c.swap-live.ensures.before c.new.ensures.counts c.requires.few)
+    let blank : Live = c.blank-blank.result in
+    subst (λ (m : LiveMap). AreFewTotals (totals_of m)) (sym c.swap-live.ensures.after) (blank_few c.args.self.now.lives c.args.trans c.swap-live.result blank c.swap-live.ensures.before c.blank-blank.ensures.idle c.requires.few)
 
 pub swap-requires-clause-part : goal.swap-requires-clause-part
 swap-requires-clause-part g c =
@@ -31,7 +31,7 @@ returns g c =
     let t = c.args.trans in
     let n : ℕ = c.in-Some.locks in
     let l : Live = c.swap-live.result in
-    let blank : Live = record { client = c.in-Some-get.found.now.client; who = c.in-Some-get.found.now.who; part = c.new.result; locks = c.in-Some-get.found.now.locks } in
+    let blank : Live = c.blank-blank.result in
     let lives : c.swap.new.self ≡ map.insert k.lives t (record l { locks = n }) = c.swap.ensures.after ∙ ap (λ (m : LiveMap). map.insert m t (record l { locks = n })) c.swap-live.ensures.after ∙ put_twice k.lives t blank (record l { locks = n }) in
     (λ i. record k { waits = c.grant.ensures i; lives = lives i })
     ∙ ap (λ (x : Option Live). record k { waits = grant_of t k.waits; lives = lock_if k.lives t n x }) (sym c.swap-live.ensures.before)

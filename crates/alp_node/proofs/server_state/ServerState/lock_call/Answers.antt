@@ -16,7 +16,7 @@ use Rattle.alp_calls.specs.Parts.{Answered, GivesOnly}
 use Rattle.alp_calls.proofs.PartLaws.{sees_files}
 use Rattle.alp_coord.specs.Coordinators.{count_of}
 use Rattle.alp_node.specs.Asks.{IsAsked, AreGiven, asks_made, asks_given, makes_file, is_made, plan_for, count_made, plan_of, with_plan, acts_of}
-use Rattle.alp_node.specs.Calls.{next_file, given_of, Performed}
+use Rattle.alp_node.specs.Calls.{name_in, next_file, given_of, Performed}
 use Rattle.alp_node.specs.Rooms.{locks_given}
 use Rattle.alp_node.specs.Shapes.{counts_then, too_locked}
 use Rattle.alp_node.specs.declared.lock_counts.LockCounts.{LockCounts}
@@ -35,7 +35,7 @@ use Rattle.alp_node.proofs.CountedLemmas.{answered_quiet, IsCountRefusal, answer
 use Rattle.alp_node.proofs.GivenLemmas.{counts_none, reply_given}
 use Rattle.alp_node.proofs.GrantLemmas.{plan_given, plan_is, count_given, free_given, given_below, granted_ready}
 use Rattle.alp_node.proofs.LockCallLemmas.{locks_stepped, acts_up, acts_caused}
-use Rattle.alp_node.proofs.BesideLemmas.{AreNamed, AreOthers, idle_told}
+use Rattle.alp_node.proofs.BesideLemmas.{AreNamed, HasNoCall, idle_told}
 use Rattle.alp_node.proofs.KeptLemmas.{same_live}
 use Rattle.alp_node.proofs.WaitLemmas.{named_all, none_waiting, asks_none, idle_in, not_like}
 use Rattle.alp_node.proofs.LockKeptLemmas.{lock_stepped}
@@ -68,6 +68,9 @@ perform-requires-clause-ready g c l there =
       whole = c.requires.formed.0;
       shaped = shape_shaped c.args.self.now.server c.args.self.now.epoch c.args.self.now.given (length l.part.opens.items) c.args.call.now (c.requires.shape l there);
     }
+
+pub perform-requires-clause-caller : goal.perform-requires-clause-caller
+perform-requires-clause-caller g c = c.requires.ready.2.callers c.args.trans
 
 pub perform-requires-clause-few : goal.perform-requires-clause-few
 perform-requires-clause-few g c = few_totals c.args.self.now.lives c.requires.ready.2.most (λ t l there. (c.requires.ready.2.within t l there).part)
@@ -130,13 +133,13 @@ returns-in-Some-too_locked g c =
     let own : l.client ≡ turn.client = subst (IsOf turn.client) there c.requires.own in
     let n : LockCounts = counts_then l.locks (holding k.locks.held t) c.args.needs call in
     let named : AreNamed k.waits = named_all k.server k.epoch k.given (count_of k.coordinator) k.sizes k.lives k.waits c.requires.ready.2.waits.calls in
-    let away : AreOthers t k.waits = none_waiting k.server k.epoch k.given (count_of k.coordinator) k.sizes k.lives turn.client t l k.waits there own c.requires.idle c.requires.ready.2.waits.calls in
+    let away : HasNoCall turn.client t k.waits = none_waiting k.server k.epoch k.given (count_of k.coordinator) k.sizes k.lives turn.client t l k.waits there own c.requires.idle c.requires.ready.2.waits.calls in
     let f = c.in-Some-too_locked.refusal in
     let many : too_locked k.sizes.area l.part.counts.cells n.made ≡ Some f = ap (λ (y : LockCounts). too_locked k.sizes.area l.part.counts.cells y.made) (sym c.lock_counts-counts.ensures) ∙ sym c.too_locked.ensures ∙ c.in-Some-too_locked.is in
     let counted : IsCountRefusal f = too_locked_is k.sizes.area l.part.counts.cells n.made f many in
     let refuse = c.refuse in
     refused_step G k refuse.new.self turn call refuse.result f (counted.quiet k.server) c.requires.turn c.requires.up refuse.ensures.kept refuse.ensures.answer
-    (λ told a h. locks_stepped a (G.faults k.vault) (G.faults k.vault) (G.held k.vault) k turn t l call c.args.needs f refuse.result h c.requires.ready.2.raised c.requires.turn c.requires.up there own (idle_told a turn.client t k.waits h.waits named away) (c.requires.ready.2.within t l there)
+    (λ told a h. locks_stepped a (G.faults k.vault) (G.faults k.vault) (G.held k.vault) k turn t l call c.args.needs f refuse.result h c.requires.ready.2.raised c.requires.turn c.requires.up there own (idle_told a turn.client t k.waits h.waits named away.idle) (c.requires.ready.2.within t l there)
     c.requires.served (asked_told (G.tells k.vault) (G.held k.vault).cells (holding k.locks.held t) l.part call c.args.needs (c.requires.asked l there) told) (c.requires.shape l there) many c.requires.named refuse.ensures.answer)
     counted.inside
 
@@ -184,7 +187,7 @@ returns-in-Ok g c =
     let l : Live = c.in-Some.live.now in
     let there : map.get k.lives t ≡ Some l = sym c.in-Some.ensures in
     let own : l.client ≡ turn.client = subst (IsOf turn.client) there c.requires.own in
-    let away : AreOthers t k.waits = none_waiting k.server k.epoch k.given (count_of k.coordinator) k.sizes k.lives turn.client t l k.waits there own c.requires.idle c.requires.ready.2.waits.calls in
+    let away : HasNoCall turn.client t k.waits = none_waiting k.server k.epoch k.given (count_of k.coordinator) k.sizes k.lives turn.client t l k.waits there own c.requires.idle c.requires.ready.2.waits.calls in
     let asked : IsAsked (G.tells k.vault) (G.held k.vault).cells (holding k.locks.held t) l.part call ns = c.requires.asked l there in
     let n : LockCounts = counts_then l.locks (holding k.locks.held t) ns call in
     let n_is : c.lock_counts-counts.result ≡ n = c.lock_counts-counts.ensures in
@@ -197,12 +200,12 @@ returns-in-Ok g c =
     subst (λ (y : List Act). Performed (G.tells k.vault) (G.held k.vault).cells k N t l call n y (Ok z)) acts_are
     (subst (λ (y : LockCounts). Performed (G.tells k.vault) (G.held k.vault).cells k N t l call y c.in_ok-acts.acts (Ok z)) n_is (c.in-Ok.ensures.performed l there)) in
     let is : x ≡ told_answer (Some r) (acts_of t rises) = ap (λ (y : Given). y.answer) did.outcome.is in
-    let given : Answered (G.tells k.vault) (G.held k.vault).cells l.part did.part l.who (next_file k) call did.room r = did.outcome.given in
+    let given : Answered (G.tells k.vault) (G.held k.vault).cells l.part did.part (name_in l.who) (next_file k) call did.room r = did.outcome.given in
     let left = c.in-Ok.ensures.looked.0 in
     let shape = c.requires.shape l there in
     let of_file = shape_given k.server k.epoch k.given (length l.part.opens.items) call shape in
     let files : AreGiven k.server k.epoch k.given ns = asked_given k.server k.epoch k.given (G.tells k.vault) (G.held k.vault).cells (holding k.locks.held t) l.part call ns asked (c.requires.ready.2.opened t l there) of_file in
-    let keeps : IsKeepable k.clock r = answered_keeps k.clock (G.tells k.vault) (G.held k.vault).cells l.part did.part l.who (next_file k) call did.room r given in
+    let keeps : IsKeepable k.clock r = answered_keeps k.clock (G.tells k.vault) (G.held k.vault).cells l.part did.part (name_in l.who) (next_file k) call did.room r given in
     let made_is : c.is_made.result ≡ is_made r = c.is_made.ensures in
     let taken : plan_for c.is_made.result c.in_ok-asked.asked c.in_ok-made.made ≡ plan_of k.locks t (asks_given (next_file k) call ns r) =
     (λ i. plan_for (made_is i) (asked_is i) (c.in_ok-made.ensures i)) ∙ plan_given k.locks t (next_file k) call ns r in
@@ -228,7 +231,7 @@ returns-in-Ok g c =
     ))
     (reply_given k.server (G.faults k.vault) (G.faults M.vault) (G.allowance M.vault) M.is_down r (acts_of t rises) x is
     (counts_none k.server (G.faults k.vault) (G.faults M.vault) M.is_down (Some r)
-    (answered_quiet k.server (G.tells k.vault) (G.held k.vault).cells l.part did.part l.who (next_file k) call did.room r given) faults (ap (λ (y : ServerState _). y.is_down) kept_is ∙ c.requires.up)) (ap (λ (y : ServerState _). y.is_down) kept_is ∙ c.requires.up ∙ sym (acts_up t rises))
+    (answered_quiet k.server (G.tells k.vault) (G.held k.vault).cells l.part did.part (name_in l.who) (next_file k) call did.room r given) faults (ap (λ (y : ServerState _). y.is_down) kept_is ∙ c.requires.up)) (ap (λ (y : ServerState _). y.is_down) kept_is ∙ c.requires.up ∙ sym (acts_up t rises))
     (acts_caused (G.faults k.vault) (G.faults M.vault) (G.allowance M.vault) t rises))
     (λ m h. (
     let serves = G.serves N.vault in
@@ -240,11 +243,11 @@ returns-in-Ok g c =
     let opens = opens_then k.server k.epoch k.given h.raised call r of_file only l.part.opens.items did.part.opens.items given.opens (h.opened t l there) in
     let granted = granted_ready (m + 1) (G.serves k.vault) (record k { sessions = counted_in k.sessions turn r }) (plan_of k.locks t (asks_given (next_file k) call ns r)) (count_after k.given r)
     (count_grows k.given r) fewer refl (free_given m (G.serves k.vault) k t call ns r h free_asked)
-    (idle_in k.server k.epoch k.given k.lives k.waits t k.locks.waiting (asks_none t k.waits away) h.waits.queued) (λ high_id high. given_below k.server k.epoch k.given high_id call ns r files high) (counted_ready m (G.serves k.vault) k turn r c.requires.turn keeps h) in
+    (idle_in k.server k.epoch k.given k.lives k.waits t k.locks.waiting (asks_none t k.waits away.others) h.waits.queued) (λ high_id high. given_below k.server k.epoch k.given high_id call ns r files high) (counted_ready m (G.serves k.vault) k turn r c.requires.turn keeps h) in
     subst (λ (y : Sessions). IsReady (m + 1) (G.serves M.vault) (record M { sessions = y })) (sym c.count.ensures)
     (subst (λ (y : ServerState _). IsReady (m + 1) (G.serves y.vault) (record y { sessions = counted_in y.sessions turn r })) (sym kept_is)
     (part_ready (m + 1) (G.serves k.vault) serves (record k { sessions = counted_in k.sessions turn r; given = count_after k.given r; locks = with_plan k.locks (plan_of k.locks t (asks_given (next_file k) call ns r)) })
-    t l did.part b N.vault (m + 1) c.in-Ok.ensures.looked.1 c.requires.up there low (le_refl (m + 1)) opens within (not_like t l now k.waits away) granted))
+    t l did.part b N.vault (m + 1) c.in-Ok.ensures.looked.1 c.requires.up there low (le_refl (m + 1)) opens within (not_like t l now k.waits away.others) granted))
     ))
     (λ on. subst (λ (y : Answer). HasTurned (Some order.Next) k (record M { sessions = c.count.new.self }) (event.Call turn.client k.epoch turn.number call) y.kept) (sym is)
     (counts_on k (record M { sessions = c.count.new.self }) turn c.requires.turn call r keeps.inside
@@ -264,9 +267,9 @@ returns-in-Err g c =
     let there : map.get k.lives t ≡ Some l = sym c.in-Some.ensures in
     let own : l.client ≡ turn.client = subst (IsOf turn.client) there c.requires.own in
     let named : AreNamed k.waits = named_all k.server k.epoch k.given (count_of k.coordinator) k.sizes k.lives k.waits c.requires.ready.2.waits.calls in
-    let away : AreOthers t k.waits = none_waiting k.server k.epoch k.given (count_of k.coordinator) k.sizes k.lives turn.client t l k.waits there own c.requires.idle c.requires.ready.2.waits.calls in
+    let away : HasNoCall turn.client t k.waits = none_waiting k.server k.epoch k.given (count_of k.coordinator) k.sizes k.lives turn.client t l k.waits there own c.requires.idle c.requires.ready.2.waits.calls in
     let did = c.in-Err.ensures.performed l there in
     let look = c.in-Err.ensures.looked in
     let w = c.without_answer in
-    without_step G k (map.insert k.lives t (record l { part = did.part; locks = l.locks })) N.vault N w.new.self turn t c.args.call.now c.in-Err.fault w.result did.kept look c.requires.turn c.requires.up c.requires.named (λ a h. idle_told a turn.client t k.waits h.waits named away)
+    without_step G k (map.insert k.lives t (record l { part = did.part; locks = l.locks })) N.vault N w.new.self turn t c.args.call.now c.in-Err.fault w.result did.kept look c.requires.turn c.requires.up c.requires.named (λ a h. idle_told a turn.client t k.waits h.waits named away.idle)
     (part_unseen G k turn t l N.vault there own (looks_left G k.vault N.vault c.in-Err.fault look) c.requires.up did.part did.sound did.outcome) w.ensures.failed w.ensures.stopped w.ensures.memory

@@ -15,8 +15,8 @@ use Rattle.alp_node.specs.declared.dead.DeadPart.{DeadPart}
 use Rattle.alp_node.specs.declared.server_state.ServerState.{ServerState}
 use Rattle.alp_node.proofs.EndingLemmas.{timeout_stepped, let_go_aside}
 use Rattle.alp_node.proofs.FinishLemmas.{idle_stepped}
-use Rattle.alp_node.proofs.ReadyLemmas.{buried_ready, stepped_ready}
-use Rattle.alp_node.proofs.ReleaseLemmas.{let_go_of, timed_ready, grants_go_on, grants_caused}
+use Rattle.alp_node.proofs.ReadyLemmas.{stepped_ready}
+use Rattle.alp_node.proofs.ReleaseLemmas.{let_go_of, late_ready, grants_go_on, grants_caused}
 use Rattle.alp_node.proofs.TransactionLemmas.{lets_end}
 use Rattle.alp_node.proofs.StepLemmas.{silent_step}
 use Rattle.alp_node.proofs.server_state.ServerState.time_out.Goals as goal
@@ -39,7 +39,7 @@ returns g c =
     let faults = G.faults k.vault in
     let t = c.args.trans in
     let l = c.in-Some.live.now in
-    let dead : List DeadPart = k.dead ++ (record { client = l.client; trans = t }) ∷ [] in
+    let dead : List DeadPart = k.dead ++ (record { client = l.client; trans = t; cause = cause.TimedOut }) ∷ [] in
     let z = c.end.new.self in
     let after : ServerState g.row.V.Denot = record (let_go k t) { dead = dead; coordinator = z } in
     let released : c.release.new.self ≡ record (let_go k t) { dead = dead } = c.release.ensures.after ∙ ap (λ (ds : List DeadPart). let_go (record k { dead = ds }) t) c.in_ok-add.ensures.ok ∙ let_go_aside k t dead in
@@ -53,7 +53,7 @@ returns g c =
     (ap (λ (y : ServerState _). y.sizes) same ∙ ap (λ (y : ServerState _). y.sizes) (let_go_of k t)) (ap (λ (y : ServerState _). y.epoch) same ∙ ap (λ (y : ServerState _). y.epoch) (let_go_of k t)) c.requires.up
     (ap (λ (y : ServerState _). y.is_down) same ∙ ap (λ (y : ServerState _). y.is_down) (let_go_of k t) ∙ c.requires.up) so (grants_go_on (granted_behind k t)) (λ m n b. grants_caused m n b (granted_behind k t))
     (λ n h. subst (λ (y : ServerState _). IsReady (n + 1) (G.serves k.vault) y) (sym same)
-    (stepped_ready n (G.serves k.vault) after (buried_ready n (G.serves k.vault) (record (let_go k t) { coordinator = z }) dead (timed_ready n k t z (G.serves k.vault) (lets_end k.coordinator z t cause.TimedOut k.clock along ends h.times) h))))
+    (stepped_ready n (G.serves k.vault) after (late_ready n k t z (G.serves k.vault) l.client cause.TimedOut refl (lets_end k.coordinator z t cause.TimedOut k.clock along ends h.times) h)))
     (λ a h. subst (λ (y : ServerState _). Stepped a faults faults (G.held k.vault) y (event.Timeout t) c.silence-2.result) (sym same)
     (timeout_stepped a faults faults (G.held k.vault) k t c.requires.ready.0 (G.serves k.vault) h c.requires.ready.2 l c.silence-2.result z along ends c.requires.up (sym c.in-Some.ensures) so))
     (ap (λ (y : ServerState _). y.clock) same ∙ ap (λ (y : ServerState _). y.clock) (let_go_of k t)) (ap (λ (y : ServerState _). y.sessions) same ∙ ap (λ (y : ServerState _). y.sessions) (let_go_of k t))
