@@ -1,0 +1,4 @@
+pub mod RankLemmas
+pub mod SeatLemmas
+pub mod LinkLemmas
+pub mod LoneLemmas

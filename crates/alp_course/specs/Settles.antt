@@ -1,0 +1,42 @@
+-- How a run is settled.
+use Rattle.std.specs.Prelude.{◌≡◌, ℕ, zero, suc, Bool, true, false, List, [], ◌∷◌, ◌++◌, Option, None, Some}
+use Rattle.alp_base.specs.declared.ids.TransId.{TransId}
+use Rattle.alp_course.specs.Happens.{timed_out, ticked, restarted, lifts, finds}
+use Rattle.alp_course.specs.Courses.{Occurrence, at, rests}
+use Rattle.alp_course.specs.Languages.{Language, Just, Then, Each}
+use Rattle.alp_course.specs.Carries.{IsCarried}
+
+-- nobody stops the disk of this server any more; where the server is down it starts again, after a crash with pick 0
+abbrev pub lifting : ℕ → Bool → List Occurrence
+lifting n true = at n (lifts true) ∷ at n (restarted 0) ∷ []
+lifting n false = at n (lifts false) ∷ []
+
+abbrev pub IsLifted : ℕ → Language
+IsLifted n xs = (is_down : Bool) × (xs ≡ lifting n is_down)
+
+-- the least transaction that has an open part at this server times out, until there is none
+pub data AreTimedOut (n : ℕ) : List Occurrence → Type 0 where
+  none_open : AreTimedOut n (at n (finds None) ∷ [])
+  one_open : (t : TransId) (xs : List Occurrence) → AreTimedOut n xs → AreTimedOut n (at n (finds (Some t)) ∷ at n (timed_out t) ∷ xs)
+
+abbrev pub IsTicked : ℕ → Language
+IsTicked n = Just (at n ticked ∷ [])
+
+-- a tick at each server, and all messages are carried
+abbrev pub IsRound : (servers : ℕ) → Language
+IsRound servers = Then (Each IsTicked servers) (IsCarried servers)
+
+-- behind a round all are at rest, or there are further ones
+abbrev pub Further : Bool → Language → Language
+Further true A xs = xs ≡ rests true ∷ []
+Further false A xs = Then (Just (rests false ∷ [])) A xs
+
+-- at most so many rounds, each further one only where not all is at rest
+abbrev pub AreRounds : (servers most : ℕ) → Language
+AreRounds servers zero xs = xs ≡ []
+AreRounds servers (suc k) xs = (is_rest : Bool) × Then (IsRound servers) (Further is_rest (AreRounds servers k)) xs
+
+-- Nobody stops a disk any more, and each server that is down starts again. Then each transaction times out where it has an open part.
+-- Then there are rounds, at least one and at most eight.
+abbrev pub IsSettling : (servers : ℕ) → Language
+IsSettling servers = Then (Each IsLifted servers) (Then (Each AreTimedOut servers) (AreRounds servers 8))

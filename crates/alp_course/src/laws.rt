@@ -1,0 +1,13 @@
+//! What holds of each run, whatever happens in it.
+ghost use Rattle.alp_course.specs.Links.{Linking};
+ghost use Rattle.alp_course.specs.Lone.{Alone};
+
+/// The journals of a run are linked: ranks rise along each of them, and each message that arrives was sent before.
+pub fn journals_are_linked()
+    ensures { Linking }
+{}
+
+/// Where there is one server, all that occurs happens at it, and its journal records just that.
+pub fn one_server_runs_alone()
+    ensures { Alone }
+{}

@@ -1,0 +1,6 @@
+//! What happens in a run of several servers: the journals of its servers, the messages between them, and the lines of its script.
+#![tactic(auto)]
+
+mod laws;
+
+pub use laws::{journals_are_linked, one_server_runs_alone};
