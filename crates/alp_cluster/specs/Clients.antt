@@ -174,4 +174,3 @@ pub record HasSaid {V : Type 0} (s : States V) (k : ℕ) (c : Client) (xs : List
 -- a client's list is short of the last number that a call may have
 abbrev pub IsShort : List items.Item → Type 0
 IsShort xs = length xs + 4 < 2 ^ 32
-

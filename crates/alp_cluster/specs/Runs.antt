@@ -29,6 +29,16 @@ abbrev pub is_stop_line : Line → Bool
 is_stop_line (line.Stop server calls) = true
 is_stop_line l = false
 
+-- a line by which something happens at one server, or all is settled
+abbrev pub happens_at_once : Line → Bool
+happens_at_once (line.Timeout server client) = true
+happens_at_once (line.Tick server) = true
+happens_at_once (line.Force server) = true
+happens_at_once (line.Stop server calls) = true
+happens_at_once (line.Restart server pick) = true
+happens_at_once line.Settle = true
+happens_at_once l = false
+
 -- none of the lines lets a disk be stopped
 abbrev pub StopNone : List NumberedLine → Type 0
 StopNone ls = AllByRecursion (λ (l : NumberedLine). is_stop_line l.line ≡ false) ls

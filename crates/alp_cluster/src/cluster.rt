@@ -81,7 +81,9 @@ impl<V: Vault> Cluster<V> {
         ensures still { OnErr result (self.new.parties.stations.all.items ≡ self.old.parties.stations.all.items) }
     {
         let Parties {
-            alloc, stations, ..
+            alloc,
+            stations,
+            ..
         } = &mut self.parties;
         if stations.all.reserve(1).is_err() {
             return Err((node, OutOfMemory));

@@ -5,7 +5,7 @@ mod carrying;
 mod cluster;
 mod exchange;
 mod fault;
-mod lines;
+mod parties;
 mod restarts;
 mod server;
 mod settling;

@@ -1,7 +1,6 @@
 //! The parties of a run: its servers, and the clients of the script. They exchange frames.
-ghost use Rattle.std.specs.Prelude.{◌≡◌, ◌≤◌, [], ◌∷◌, ◌++◌, List, ℕ, OnOk, IfOk, IfSome, Option, None, length};
+ghost use Rattle.std.specs.Prelude.{◌≡◌, ◌≤◌, [], ◌∷◌, ◌++◌, List, ℕ, OnOk, IfOk, IfSome, Option, Some, None, length, true, false};
 ghost use Rattle.alp_base.specs.declared.ids.TransId.{TransId as ATrans};
-ghost use Rattle.alp_fields.specs.Forms.{whole};
 ghost use Rattle.alp_journal.specs.declared.log.Item.{Item as AnItem};
 ghost use Rattle.alp_lines.specs.Forms.{IsForm};
 ghost use Rattle.alp_lines.specs.Named.{client_named};
@@ -13,12 +12,12 @@ ghost use Rattle.alp_session.specs.Crowds.{client_at, request_next, times_out, a
 ghost use Rattle.alp_session.specs.Frames.{mark_of as mark_said};
 ghost use Rattle.alp_session.specs.declared.waiting.Next.TheVariants as next;
 ghost use Rattle.alp_course.specs.Languages.{Just};
-ghost use Rattle.alp_course.specs.Plays.{CarriesAt, timeouts_due};
+ghost use Rattle.alp_course.specs.Plays.{CarriesAt, GivesLine, timeouts_due};
 ghost use Rattle.alp_course.specs.Carries.{CarriesIf};
 ghost use Rattle.alp_course.specs.Turns.{turns_text};
 ghost use Rattle.alp_cluster.specs.Clients.{InStep};
 ghost use Rattle.alp_cluster.specs.Fills.{OnEnd};
-ghost use Rattle.alp_cluster.specs.Runs.{is_stop_line};
+ghost use Rattle.alp_cluster.specs.Runs.{is_stop_line, happens_at_once};
 ghost use Rattle.alp_cluster.specs.Stations.{AreOn, Did, DidSome, HaveGone};
 ghost use Rattle.alp_cluster.specs.Steps.{IsOwnNext, Exchanged, DidLine, DidOfLine, ExchangesNone, AddsEvents, AddsSomeEvents};
 
@@ -171,7 +170,8 @@ impl<V: Vault> Parties<V> {
     fn play_message(&mut self, line: &Line) -> Result<(), RunFault>
         requires step { InStep V.Vault self.old.clients self.old.stations }
         requires ours { names_ours (length self.old.stations.all.items) line.now ≡ true }
-        requires event { IsMessageLine line.now }
+        requires event { client_named line.now ≡ None }
+        requires other { happens_at_once line.now ≡ false }
         ensures gone { HaveGone V.Vault (Unit {0}) self.old.stations self.new.stations result }
         ensures did { OnOk result (Did V.Vault (GivesLine (length self.old.stations.all.items) self.old.clients line.now) self.old.stations self.new.stations) }
         ensures ended { OnEnd result (λ f. DidSome V.Vault (GivesLine (length self.old.stations.all.items) self.old.clients line.now) f self.old.stations self.new.stations) }

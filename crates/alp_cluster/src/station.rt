@@ -140,12 +140,7 @@ impl<V: Vault> Station<V> {
     }
 
     // The server is handed the frame.
-    fn hand_here(
-        &mut self,
-        alloc: Global,
-        client: u8,
-        frame: &[u8],
-    ) -> Result<Handed, RunFault>
+    fn hand_here(&mut self, alloc: Global, client: u8, frame: &[u8]) -> Result<Handed, RunFault>
         requires stands { (n : NodeState V) × (self.old.server ≡ standing n) × IsOn V.Vault n }
         requires client { (1 ≤ client) × (client ≤ 16) }
         ensures gone { LeavesVault V.Vault (Unit {0}) self.old self.new result }

@@ -22,10 +22,10 @@ use Rattle.alp_posts.specs.Posts.{AreServers, IsTable, post_at, with_post}
 use Rattle.alp_posts.proofs.MessageLemmas.{sent_by}
 use Rattle.alp_posts.proofs.TableLemmas.{same_post, other_post, still_table}
 use Rattle.alp_course.specs.Happens.{Happening, sent_it, timed_out, ticked, forced, stop_set, restarted, lifts, finds, Stand, IsEntryOf, IsNone, ComesTo, Takes, Happens}
-use Rattle.alp_course.specs.Courses.{Course, Seat, no_seat, seat_at, seat_after, last_rank, ranks_with, IsSeat, IsAt, Occurrence, at, looks, brings, loses, repeats, rests, next_message, taking, Arrives, IsBrought, IsLost, IsRepeated, Occurs, AreCourse, ends, goes, first_seat}
+use Rattle.alp_course.specs.Courses.{Course, Seat, no_seat, seat_at, seat_after, last_rank, ranks_with, IsSeat, IsAt, Occurrence, at, looks, brings, loses, repeats, rests, next_message, taking, Arrives, IsBrought, IsLost, IsRepeated, Occurs, AreCourse, first_seat}
 use Rattle.alp_course.specs.Links.{server_log, log_of, AreNumbered, AreIdle, IsFirst, Linking}
 use Rattle.alp_course.proofs.RankLemmas.{unwrap_get, get_below, below_or, AreRising, none_rising, old_rank, new_rank, still_rising}
-use Rattle.alp_course.proofs.SeatLemmas.{as_many, seat_there, each_seat, still_seat, seat_number, still_numbered, IsOf, its, none, of_course, of_seat}
+use Rattle.alp_course.proofs.SeatLemmas.{as_many, seat_there, each_seat, still_seat, seat_number, still_numbered, IsOf, its, nobodys, of_course, of_seat}
 
 -- ---- what was sent
 
@@ -35,12 +35,12 @@ stands_in a (b ∷ acts) zero h = inl (let same : b ≡ a = cc in sym same)
 stands_in a (b ∷ acts) (suc i) h = inr (stands_in a acts i h)
 
 -- this server sent that message to that server, at an entry of at most this rank
-record IsSentBy (s : Seat) (to : ℕ) (m : Message) (most : ℕ) : Type 0 where
-  place : ℕ
-  entry : Entry
-  stands : slice_get s.journal place ≡ Some entry
-  sent : IsIn (act.Sent to m) entry.acts
-  low : get_or s.ranks place 0 ≤ most
+pub record IsSentBy (s : Seat) (to : ℕ) (m : Message) (most : ℕ) : Type 0 where
+  pub place : ℕ
+  pub entry : Entry
+  pub stands : slice_get s.journal place ≡ Some entry
+  pub sent : IsIn (act.Sent to m) entry.acts
+  pub low : get_or s.ranks place 0 ≤ most
 
 get_left : {X : Type 0} (xs ys : List X) (i : ℕ) → i < length xs → slice_get (xs ++ ys) i ≡ slice_get xs i
 get_left [] ys i less = absurd (omega (arith, less))
@@ -79,24 +79,24 @@ higher s to m a b up h = (let low : get_or s.ranks h.place 0 ≤ a = h.low in re
 -- ---- what arrived
 
 -- where the entry is of a message that arrives, its sender sent it, at no higher rank than this
-abbrev AsSent : Course → (n most : ℕ) → Entry → Type 0
+abbrev pub AsSent : Course → (n most : ℕ) → Entry → Type 0
 AsSent r n most e = (from : ℕ) (m : Message) → e.event ≡ event.Arrive from m → IsSeat r from × IsSentBy (seat_at r from) n m most
 
 -- of each entry of a server, below its own rank
-abbrev AllSent : Course → ℕ → Seat → Type 0
+abbrev pub AllSent : Course → ℕ → Seat → Type 0
 AllSent r n s = (i : ℕ) (e : Entry) → slice_get s.journal i ≡ Some e → (from : ℕ) (m : Message) → e.event ≡ event.Arrive from m → (most : ℕ) × (most < get_or s.ranks i 0) × IsSeat r from × IsSentBy (seat_at r from) n m most
 
 -- what was taken last was sent, at no higher rank than the sender had then
-abbrev LastSent : Course → (from to : ℕ) → Option (Message × ℕ) → Type 0
+abbrev pub LastSent : Course → (from to : ℕ) → Option (Message × ℕ) → Type 0
 LastSent r from to last = IfSome last (λ x. IsSentBy (seat_at r from) to x.0 x.1)
 
-record Holds (r : Course) : Type 0 where
-  few : length r.seats ≤ 8
-  numbered : AreNumbered 1 r.seats
-  table : IsTable r.posts
-  rising : (n : ℕ) → 1 ≤ n → AreRising (seat_at r n).ranks (seat_at r n).journal
-  sent : (n : ℕ) → 1 ≤ n → AllSent r n (seat_at r n)
-  posts : (from to : ℕ) → IsSeat r from → IsSeat r to → LastSent r from to (post_at r.posts from to).last
+pub record Holds (r : Course) : Type 0 where
+  pub few : length r.seats ≤ 8
+  pub numbered : AreNumbered 1 r.seats
+  pub table : IsTable r.posts
+  pub rising : (n : ℕ) → 1 ≤ n → AreRising (seat_at r n).ranks (seat_at r n).journal
+  pub sent : (n : ℕ) → 1 ≤ n → AllSent r n (seat_at r n)
+  pub posts : (from to : ℕ) → IsSeat r from → IsSeat r to → LastSent r from to (post_at r.posts from to).last
 
 -- ---- entries that bring no message
 
@@ -157,10 +157,10 @@ module _ (r after : Course) (n seen : ℕ) (Makes : Seat → List Entry → Stan
   later_sent : (from to : ℕ) (m : Message) (most : ℕ) → IsSeat r from → IsSentBy (seat_at r from) to m most → IsSentBy (seat_at after from) to m most
   later_sent from to m most s old =
       each_seat r after n now a.here a.seats (λ k t. IsSentBy (seat_at r k) to m most → IsSentBy t to m most)
-      (λ sent. still_sent (seat_at r n) to m most seen a.entries a.stand (h.rising n a.here.first) sent) (λ k some sent. sent) from s.first old
+      (λ sent. still_sent (seat_at r n) to m most seen a.entries a.stand (h.rising n a.here.first) sent) (λ k some away sent. sent) from s.first old
 
   all_rising : (k : ℕ) → 1 ≤ k → AreRising (seat_at after k).ranks (seat_at after k).journal
-  all_rising = each_seat r after n now a.here a.seats (λ k t. AreRising t.ranks t.journal) (still_rising (seat_at r n).ranks seen (seat_at r n).journal a.entries (h.rising n a.here.first)) (λ k some. h.rising k some)
+  all_rising = each_seat r after n now a.here a.seats (λ k t. AreRising t.ranks t.journal) (still_rising (seat_at r n).ranks seen (seat_at r n).journal a.entries (h.rising n a.here.first)) (λ k some away. h.rising k some)
 
   later : (k most : ℕ) (s : Seat) (i from : ℕ) (m : Message) → (most < get_or s.ranks i 0) × IsSeat r from × IsSentBy (seat_at r from) k m most → (most < get_or s.ranks i 0) × IsSeat after from × IsSentBy (seat_at after from) k m most
   later k most s i from m known = (known.0, later_seat from known.1, later_sent from k m most known.1 known.2)
@@ -186,7 +186,7 @@ module _ (r after : Course) (n seen : ℕ) (Makes : Seat → List Entry → Stan
 
   all_sent : (k : ℕ) → 1 ≤ k → AllSent after k (seat_at after k)
   all_sent = each_seat r after n now a.here a.seats (λ k t. AllSent after k t) own_sent
-      (λ k some i e stands from m is.
+      (λ k some away i e stands from m is.
       let (most, low, s, sent) = h.sent k some i e stands from m is in
       (most, low, later_seat from s, later_sent from k m most s sent))
 
@@ -255,12 +255,15 @@ arrives_at r after from to m seen h s sent a = goes_on r after to seen (λ s es 
   where
     by_down : (b : Bool) (es : List Entry) → ComesTo (seat_at r to).stand b (event.Arrive from m) es a.stand → AllByRecursion (AsSent r to seen) es
     by_down true es c = subst (AllByRecursion (AsSent r to seen)) (sym c.0) tt
-    by_down false es c = subst (AllByRecursion (AsSent r to seen)) (sym c.one) ((λ f x is. (
-        let same : event.Arrive from m ≡ event.Arrive f x = sym c.event ∙ is in
-        let one : from ≡ f = cc in
-        let two : m ≡ x = cc in
-        subst (λ (k : ℕ). IsSeat r k × IsSentBy (seat_at r k) to x seen) one (s, subst (λ (y : Message). IsSentBy (seat_at r from) to y seen) two sent)
-        )), tt)
+    by_down false es c = subst (AllByRecursion (AsSent r to seen)) (sym c.one) (
+      (λ f x is. (
+          let same : event.Arrive from m ≡ event.Arrive f x = sym c.event ∙ is in
+          let one : from ≡ f = cc in
+          let two : m ≡ x = cc in
+          subst (λ (k : ℕ). IsSeat r k × IsSentBy (seat_at r k) to x seen) one (s, subst (λ (y : Message). IsSentBy (seat_at r from) to y seen) two sent)
+          )),
+      tt,
+    )
 
 brought : (r after : Course) (from to : ℕ) → Holds r → IsSeat r from → IsSeat r to → IsBrought r from to (next_message r from to) after → Holds after
 brought r after from to h s t = go (next_message r from to) refl
@@ -295,8 +298,8 @@ occurs_on r after (repeats from to) h a = repeated r after from to h a.0.sender 
 occurs_on r after (rests is_rest) h a = subst Holds (sym a.1) h
 
 course_on : (r after : Course) (xs : List Occurrence) → Holds r → AreCourse r xs after → Holds after
-course_on r after [] h (ends) = h
-course_on r after (x ∷ xs) h (goes mid y ys first rest) = course_on mid after xs (occurs_on r mid x h first) rest
+course_on r after [] h a = subst Holds (sym a) h
+course_on r after (x ∷ xs) h a = course_on a.0 after xs (occurs_on r a.0 x h a.1) a.2
 
 -- ---- from the start on
 
@@ -306,7 +309,7 @@ idle_at (s ∷ ss) zero h = (ap (λ (t : Seat). t.journal) h.0, ap (λ (t : Seat
 idle_at (s ∷ ss) (suc i) h = idle_at ss i h.1
 
 nothing_stands : {X : Type 0} (xs : List X) (i : ℕ) (x : X) → xs ≡ [] → slice_get xs i ≡ Some x → ⊥
-nothing_stands xs i x none is = (let wrong : None ≡ Some x = sym (ap (λ (ys : List _). slice_get ys i) none) ∙ is in cc)
+nothing_stands {X = X} xs i x empty is = (let wrong : None ≡ Some x = sym (ap (λ (ys : List X). slice_get ys i) empty) ∙ is in cc)
 
 first_holds : (r : Course) → IsFirst r → Holds r
 first_holds r f = record {
@@ -326,7 +329,7 @@ module _ (r : Course) (handed : Handed) (h : Holds r) where
   abbrev log : Log
   log = log_of r handed
 
-  nobody_there : {X : Type 0} (i : ℕ) (x : X) → slice_get {A = X} [] i ≡ Some x → ⊥
+  nobody_there : {X : Type 0} (i : ℕ) (x : X) → slice_get {X = X} [] i ≡ Some x → ⊥
   nobody_there i x is = cc
 
   rises : (n : ℕ) (l : ServerLog) → IsOf r n l → (i k : ℕ) (f : Entry) → slice_get l.journal k ≡ Some f → i < k → unwrap_or (slice_get l.ranks i) 0 < unwrap_or (slice_get l.ranks k) 0
@@ -339,7 +342,7 @@ module _ (r : Course) (handed : Handed) (h : Holds r) where
       let one : unwrap_or (slice_get seat.ranks i) 0 ≡ get_or seat.ranks i 0 = unwrap_get seat.ranks i 0 in
       let two : unwrap_or (slice_get seat.ranks k) 0 ≡ get_or seat.ranks k 0 = unwrap_get seat.ranks k 0 in
       omega (arith, up, one, two)
-  rises n l none i k f stands low = absurd (nobody_there k f stands)
+  rises n l nobodys i k f stands low = absurd (nobody_there k f stands)
 
   was_sent : (from to : ℕ) (m : Message) (most rank : ℕ) → IsSeat r from → IsSentBy (seat_at r from) to m most → most < rank → WasSent log from to m rank
   was_sent from to m most rank s sent low =
@@ -360,7 +363,7 @@ module _ (r : Course) (handed : Handed) (h : Holds r) where
       let at : unwrap_or (slice_get (seat_at r n).ranks i) 0 ≡ get_or (seat_at r n).ranks i 0 = unwrap_get (seat_at r n).ranks i 0 in
       let below : most < get_or (seat_at r n).ranks i 0 = low in
       was_sent from n m most (unwrap_or (slice_get (seat_at r n).ranks i) 0) t sent (omega (arith, at, below))
-  arrived n l none i from e m stands is = absurd (nobody_there i e stands)
+  arrived n l nobodys i from e m stands is = absurd (nobody_there i e stands)
 
   pub linked : IsLinked log
   linked = record {

@@ -1,10 +1,10 @@
 -- A run of one server.
 use Rattle.std.specs.Prelude.{Bool, slice_set}
-use Rattle.std.proofs.Common.{◌≡◌, ℕ, ◌+◌, ◌-◌, ◌≤◌, List, [], ◌∷◌, ◌++◌, length, refl, sym, ◌∙◌, ap, subst, arith}
+use Rattle.std.proofs.Common.{◌≡◌, ℕ, ◌+◌, ◌-◌, ◌≤◌, List, [], ◌∷◌, ◌++◌, length, get_or, refl, sym, ◌∙◌, ap, subst, arith}
 use Rattle.std.proofs.lemmas.List.{append-nil, append_assoc}
 use Rattle.alp_journal.specs.declared.entry.Entry.{Entry}
 use Rattle.alp_course.specs.Happens.{Happening, Stand, Happens, AreRecorded}
-use Rattle.alp_course.specs.Courses.{Course, Seat, Occurrence, at, looks, brings, loses, repeats, rests, seat_at, seat_after, no_seat, ranks_with, IsSeat, IsAt, AreTwo, Occurs, AreCourse, ends, goes}
+use Rattle.alp_course.specs.Courses.{Course, Seat, Occurrence, at, looks, brings, loses, repeats, rests, seat_at, seat_after, no_seat, ranks_with, IsSeat, IsAt, AreTwo, Occurs, AreCourse}
 use Rattle.alp_course.specs.Lone.{happenings_of, HasGoneOn, Alone}
 use Rattle.alp_course.proofs.RankLemmas.{none_with, with_append}
 
@@ -40,9 +40,6 @@ no_two r s from to single h = h.apart (first_alone r s from single h.sender ∙ 
 
 -- ---- all of it
 
-After : Course → Seat → List Occurrence → Type 0
-After after s xs = (t : Seat) × (after.seats ≡ t ∷ []) × HasGoneOn s t (happenings_of xs)
-
 module _ (r mid after : Course) (xs : List Occurrence) (s : Seat) (single : r.seats ≡ s ∷ []) where
   here_then : (n : ℕ) (h : Happening) → IsAt r n 0 (λ t es w. Happens t.tells t.stand h es w) mid → ((t : Seat) → mid.seats ≡ t ∷ [] → (z : Seat) × (after.seats ≡ z ∷ []) × HasGoneOn t z (happenings_of xs))
       → (z : Seat) × (after.seats ≡ z ∷ []) × HasGoneOn s z (h ∷ happenings_of xs)
@@ -51,21 +48,19 @@ module _ (r mid after : Course) (xs : List Occurrence) (s : Seat) (single : r.se
       let same : seat_at r n ≡ s = ap (seat_at r) first ∙ one_seat r s single in
       let made : Happens s.tells s.stand h a.entries a.stand = subst (λ (t : Seat). Happens t.tells t.stand h a.entries a.stand) same a.made in
       let now : mid.seats ≡ seat_after s 0 a.entries a.stand ∷ [] =
-          a.seats ∙ (λ i. slice_set (single i) (first i - 1) (seat_after (same i) 0 a.entries a.stand)) in
+      a.seats ∙ (λ i. slice_set (single i) (first i - 1) (seat_after (same i) 0 a.entries a.stand)) in
       let (z, is, on) = rest (seat_after s 0 a.entries a.stand) now in
       (z, is, on_then s h a.entries a.stand z (happenings_of xs) made on)
 
-pub alone : Alone
-alone r after [] s single (ends) = (s, single, on_none s)
-alone r after (x ∷ xs) s single (goes mid y ys first rest) = go x first
-  where
-    still : mid ≡ r → (t : Seat) × (after.seats ≡ t ∷ []) × HasGoneOn s t (happenings_of xs)
-    still same = alone mid after xs s (ap (λ (c : Course). c.seats) same ∙ single) rest
+here_only : (r mid after : Course) (x : Occurrence) (xs : List Occurrence) (s : Seat) → r.seats ≡ s ∷ [] → Occurs r x mid → ((t : Seat) → mid.seats ≡ t ∷ [] → (z : Seat) × (after.seats ≡ z ∷ []) × HasGoneOn t z (happenings_of xs))
+    → (z : Seat) × (after.seats ≡ z ∷ []) × HasGoneOn s z (happenings_of (x ∷ xs))
+here_only r mid after (at n h) xs s single a rest = here_then r mid after xs s single n h a rest
+here_only r mid after (looks from to waits) xs s single a rest = absurd (no_two r s from to single a.0)
+here_only r mid after (brings from to) xs s single a rest = absurd (no_two r s from to single a.0)
+here_only r mid after (loses from to) xs s single a rest = absurd (no_two r s from to single a.0)
+here_only r mid after (repeats from to) xs s single a rest = absurd (no_two r s from to single a.0)
+here_only r mid after (rests is_rest) xs s single a rest = rest s (ap (λ (c : Course). c.seats) a.1 ∙ single)
 
-    go : (x : Occurrence) → Occurs r x mid → (t : Seat) × (after.seats ≡ t ∷ []) × HasGoneOn s t (happenings_of (x ∷ xs))
-    go (at n h) a = here_then r mid after xs s single n h a (λ t now. alone mid after xs t now rest)
-    go (looks from to waits) a = absurd (no_two r s from to single a.0)
-    go (brings from to) a = absurd (no_two r s from to single a.0)
-    go (loses from to) a = absurd (no_two r s from to single a.0)
-    go (repeats from to) a = absurd (no_two r s from to single a.0)
-    go (rests is_rest) a = still a.1
+pub alone : Alone
+alone r after [] s single h = (s, ap (λ (c : Course). c.seats) h ∙ single, on_none s)
+alone r after (x ∷ xs) s single h = here_only r h.0 after x xs s single h.1 (λ t now. alone h.0 after xs t now h.2)

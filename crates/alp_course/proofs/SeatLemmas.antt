@@ -27,10 +27,10 @@ module _ (r after : Course) (n : ℕ) (x : Seat) (here : IsSeat r n) (seats : af
       ap (λ (ss : List Seat). get_or ss (m - 1) no_seat) seats ∙ get_or-set_other r.seats (n - 1) (m - 1) x no_seat (λ same. away (omega (arith, same, some, here.first)))
 
   -- what holds of it and of all others as they were holds of all
-  pub each_seat : (P : ℕ → Seat → Type 0) → P n x → ((m : ℕ) → 1 ≤ m → P m (seat_at r m)) → (m : ℕ) → 1 ≤ m → P m (seat_at after m)
+  pub each_seat : (P : ℕ → Seat → Type 0) → P n x → ((m : ℕ) → 1 ≤ m → m ≢ n → P m (seat_at r m)) → (m : ℕ) → 1 ≤ m → P m (seat_at after m)
   each_seat P now before m some = elim (cases_eq m n) [
     | inl same ↦ subst (λ (k : ℕ). P k (seat_at after k)) (sym same) (subst (P n) (sym seat_there) now)
-    | inr away ↦ subst (P m) (sym (seat_elsewhere m some away)) (before m some)
+    | inr away ↦ subst (P m) (sym (seat_elsewhere m some away)) (before m some away)
   ]
 
   pub still_seat : (m : ℕ) → IsSeat r m → IsSeat after m
@@ -94,12 +94,12 @@ of_nobody r handed n h out = ap (λ (o : Option ServerLog). unwrap_or o (nobody 
 -- what the log has of a server: what the course has of it, or of nobody
 pub data IsOf (r : Course) (n : ℕ) : ServerLog → Type 0 where
   its : IsSeat r n → IsOf r n (server_log (seat_at r n))
-  none : IsOf r n (nobody n)
+  nobodys : IsOf r n (nobody n)
 
 pub of_course : (r : Course) (handed : Handed) (n : ℕ) → AreNumbered 1 r.seats → IsOf r n (of (log_of r handed) n)
 of_course r handed n h = go (below_or n 1) (below_or (length r.seats) n)
   where
     go : (n < 1) ⊎ (1 ≤ n) → (length r.seats < n) ⊎ (n ≤ length r.seats) → IsOf r n (of (log_of r handed) n)
-    go (inl low) far = subst (IsOf r n) (sym (of_nobody r handed n h (inl low))) none
-    go (inr some) (inl far) = subst (IsOf r n) (sym (of_nobody r handed n h (inr (omega (arith, far))))) none
+    go (inl low) far = subst (IsOf r n) (sym (of_nobody r handed n h (inl low))) nobodys
+    go (inr some) (inl far) = subst (IsOf r n) (sym (of_nobody r handed n h (inr (omega (arith, far))))) nobodys
     go (inr some) (inr near) = (let s : IsSeat r n = record { first = some; last = near } in subst (IsOf r n) (sym (of_seat r handed n h s)) (its s))

@@ -1,7 +1,8 @@
 -- How messages are carried by themselves: in sweeps over all pairs of servers, until a sweep finds none that waits.
-use Rattle.std.specs.Prelude.{◌≡◌, ℕ, ◌==◌, Bool, true, false, List, [], ◌∷◌, ◌++◌}
+use Rattle.std.specs.Prelude.{◌≡◌, ℕ, ◌-◌, ◌==◌, Bool, true, false, List, [], ◌∷◌, ◌++◌, ◌+◌, length}
 use Rattle.std.specs.List.{list_any}
-use Rattle.alp_course.specs.Courses.{Occurrence, at, looks, brings, loses, repeats, rests}
+use Rattle.alp_journal.specs.Answered.{entries_limit}
+use Rattle.alp_course.specs.Courses.{Course, Seat, IsSeat, seat_at, Occurrence, at, looks, brings, loses, repeats, rests}
 use Rattle.alp_course.specs.Languages.{Language, Nothing, Each}
 
 -- all messages of one server that wait for another are brought, and those that come behind them too
@@ -41,3 +42,20 @@ pub data IsCarried (servers : ℕ) : List Occurrence → Type 0 where
 abbrev pub CarriesIf : (servers : ℕ) → Bool → Language
 CarriesIf servers true = IsCarried servers
 CarriesIf servers false = Nothing
+
+-- ---- how long it may go on
+
+-- so many entries the steps of all servers may still make
+abbrev pub room_in : Seat → ℕ
+room_in s = entries_limit - length s.journal
+
+abbrev pub room_of : List Seat → ℕ
+room_of [] = 0
+room_of (s ∷ ss) = room_in s + room_of ss
+
+abbrev pub room_left : Course → ℕ
+room_left r = room_of r.seats
+
+-- what is said of the place of its next entry
+abbrev pub ArePlaced : Course → Type 0
+ArePlaced r = (n : ℕ) → IsSeat r n → (seat_at r n).stand.place ≡ length (seat_at r n).journal

@@ -39,9 +39,13 @@ pub record Course : Type 0 where
 abbrev pub seat_at : Course → ℕ → Seat
 seat_at r n = get_or r.seats (n - 1) no_seat
 
-pub record IsSeat (r : Course) (n : ℕ) : Type 0 where
+-- a server of this number is one of so many
+pub record IsOneOf (servers n : ℕ) : Type 0 where
   pub first : 1 ≤ n
-  pub last : n ≤ length r.seats
+  pub last : n ≤ servers
+
+abbrev pub IsSeat : Course → ℕ → Type 0
+IsSeat r n = IsOneOf (length r.seats) n
 
 -- no message was taken yet
 abbrev pub none_taken : List Post → Type 0
@@ -143,6 +147,6 @@ Occurs r (repeats from to) after = AreTwo r from to × IsRepeated r from to (pos
 Occurs r (rests is_rest) after = (TellAll r → AreRest is_rest r.seats) × (after ≡ r)
 
 -- all of it occurs, one after the other
-pub data AreCourse : Course → List Occurrence → Course → Type 0 where
-  ends : (r : Course) → AreCourse r [] r
-  goes : (r mid after : Course) (x : Occurrence) (xs : List Occurrence) → Occurs r x mid → AreCourse mid xs after → AreCourse r (x ∷ xs) after
+abbrev pub AreCourse : Course → List Occurrence → Course → Type 0
+AreCourse r [] after = after ≡ r
+AreCourse r (x ∷ xs) after = (mid : Course) × Occurs r x mid × AreCourse mid xs after

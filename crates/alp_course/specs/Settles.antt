@@ -1,8 +1,8 @@
 -- How a run is settled.
-use Rattle.std.specs.Prelude.{◌≡◌, ℕ, zero, suc, Bool, true, false, List, [], ◌∷◌, ◌++◌, Option, None, Some}
+use Rattle.std.specs.Prelude.{◌≡◌, ℕ, zero, suc, Bool, true, false, List, [], ◌∷◌, length, Option, None, Some}
 use Rattle.alp_base.specs.declared.ids.TransId.{TransId}
 use Rattle.alp_course.specs.Happens.{timed_out, ticked, restarted, lifts, finds}
-use Rattle.alp_course.specs.Courses.{Occurrence, at, rests}
+use Rattle.alp_course.specs.Courses.{Occurrence, at, rests, Course, Seat, IsSeat, seat_at, AreCourse}
 use Rattle.alp_course.specs.Languages.{Language, Just, Then, Each}
 use Rattle.alp_course.specs.Carries.{IsCarried}
 
@@ -40,3 +40,17 @@ AreRounds servers (suc k) xs = (is_rest : Bool) × Then (IsRound servers) (Furth
 -- Then there are rounds, at least one and at most eight.
 abbrev pub IsSettling : (servers : ℕ) → Language
 IsSettling servers = Then (Each IsLifted servers) (Then (Each AreTimedOut servers) (AreRounds servers 8))
+
+-- ---- servers that are up
+
+-- it is up, and nobody stops its disk
+pub record IsUpIn (s : Seat) : Type 0 where
+  pub up : s.stand.is_down ≡ false
+  pub free : s.stand.is_fused ≡ false
+
+abbrev pub AreUp : Course → Type 0
+AreUp r = (n : ℕ) → IsSeat r n → IsUpIn (seat_at r n)
+
+-- Behind a settling all servers are up, and nobody stops a disk.
+abbrev pub Lifting : Type 0
+Lifting = (r after : Course) (xs : List Occurrence) → IsSettling (length r.seats) xs → AreCourse r xs after → AreUp after

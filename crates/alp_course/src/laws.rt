@@ -1,6 +1,7 @@
 //! What holds of each run, whatever happens in it.
 ghost use Rattle.alp_course.specs.Links.{Linking};
 ghost use Rattle.alp_course.specs.Lone.{Alone};
+ghost use Rattle.alp_course.specs.Settles.{Lifting};
 
 /// The journals of a run are linked: ranks rise along each of them, and each message that arrives was sent before.
 pub fn journals_are_linked()
@@ -10,4 +11,9 @@ pub fn journals_are_linked()
 /// Where there is one server, all that occurs happens at it, and its journal records just that.
 pub fn one_server_runs_alone()
     ensures { Alone }
+{}
+
+/// Behind a settling all servers are up, and nobody stops a disk.
+pub fn settled_servers_are_up()
+    ensures { Lifting }
 {}

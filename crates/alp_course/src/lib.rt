@@ -3,4 +3,4 @@
 
 mod laws;
 
-pub use laws::{journals_are_linked, one_server_runs_alone};
+pub use laws::{journals_are_linked, one_server_runs_alone, settled_servers_are_up};
