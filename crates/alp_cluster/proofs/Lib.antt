@@ -10,16 +10,6 @@ pub mod CallLemmas
 pub mod ComeLemmas
 pub mod HeardLemmas
 pub mod OwnLemmas
-pub mod GoLemmas
-pub mod ExchangeLemmas
-pub mod LineLemmas
 pub mod GoneLemmas
-pub mod FillLemmas
 pub mod CalmLemmas
 pub mod TakenLemmas
-pub mod LiveLemmas
-pub mod RestartLemmas
-pub mod RestLemmas
-pub mod RunLemmas
-pub mod EventLemmas
-pub mod StandLemmas

@@ -186,6 +186,8 @@ pub record HasStepped {V : Type 0} (G : Ghosts V) (old new : NodeState V) (e : E
   pub on : IsOn G new
   pub up : old.kept.is_down ≡ false
   pub room : HasRoom old
+  pub server : new.kept.server ≡ old.kept.server
+  pub servers : new.kept.servers ≡ old.kept.servers
   pub opening : new.opening ≡ old.opening
   pub start : start_in G new ≡ start_in G old
   pub epoch : new.kept.epoch ≡ old.kept.epoch

@@ -1,5 +1,5 @@
 -- The servers of a run, and the messages between them.
-use Rattle.std.specs.Prelude.{◌≡◌, ℕ, ◌+◌, ◌-◌, ◌≤◌, List, [], length, map as list_map, slice_get, slice_set, Option, None, Some, IfSome, Result}
+use Rattle.std.specs.Prelude.{◌≡◌, ℕ, ◌+◌, ◌-◌, ◌≤◌, List, [], ◌∷◌, length, map as list_map, slice_get, slice_set, Option, None, Some, IfSome, Result}
 use Rattle.alp_journal.specs.declared.entry.Entry.{Entry}
 use Rattle.alp_journal.specs.declared.event.Event.{Event}
 use Rattle.alp_journal.specs.declared.event.Event.TheVariants as event
@@ -109,9 +109,9 @@ Crashes G (at n (restarted pick)) before after = StartsAgainAt G n pick before a
 Crashes G x before after = Unit {0}
 
 -- all this occurred at them, one after the other
-pub data Passes {V : Type 0} (G : Ghosts V) : Stations V → List Occurrence → Stations V → Type 0 where
-  rest : (s : Stations V) → Passes G s [] s
-  pass : (s mid after : Stations V) (x : Occurrence) (xs : List Occurrence) → Occurs (course_of G s) x (course_of G mid) → Crashes G x s mid → Passes G mid xs after → Passes G s (x ∷ xs) after
+abbrev pub Passes : {V : Type 0} → Ghosts V → Stations V → List Occurrence → Stations V → Type 0
+Passes {V} G s [] after = after ≡ s
+Passes {V} G s (x ∷ xs) after = (mid : Stations V) × Occurs (course_of G s) x (course_of G mid) × Crashes G x s mid × Passes G mid xs after
 
 -- They are the servers that they were, and what calls they had come to they have come to still.
 pub record AreLater {V : Type 0} (G : Ghosts V) (before after : Stations V) : Type 0 where
