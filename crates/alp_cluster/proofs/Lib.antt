@@ -13,3 +13,6 @@ pub mod OwnLemmas
 pub mod GoneLemmas
 pub mod CalmLemmas
 pub mod TakenLemmas
+pub mod GoLemmas
+pub mod RestartLemmas
+pub mod ExchangeLemmas
