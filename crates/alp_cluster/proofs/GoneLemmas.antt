@@ -12,7 +12,7 @@ use Rattle.alp_base.specs.declared.allowance.Allowance.TheVariants.{Free, Left, 
 use Rattle.alp_node.specs.declared.start.StartFault.TheVariants as start_fault
 use Rattle.alp_vault.specs.declared.vault.Vault.{Ghosts}
 use Rattle.alp_cluster.specs.Fills.{OnEnd, OnEndBy}
-use Rattle.alp_cluster.specs.Servers.{HasGoneBy, IsFailure, IsToldFault, AreCountedIn, OnFull}
+use Rattle.alp_cluster.specs.Servers.{HasGoneBy, HasGone, IsFailure, IsToldFault, AreCountedIn, OnFull}
 use Rattle.alp_cluster.specs.declared.fault.RunFault.{RunFault}
 use Rattle.alp_cluster.specs.declared.fault.RunFault.TheVariants as fault
 
@@ -115,6 +115,24 @@ module _ {V : Type 0} (G : Ghosts V) (N : ℕ → Type 0) where
 
 pub gone_among : {V T : Type 0} (G : Ghosts V) (N M : ℕ → Type 0) (P : Type 0) (u v : V) (r : Result T RunFault) → ((n : ℕ) → N n → M n) → HasGoneBy G N P u v r → HasGoneBy G M P u v r
 gone_among G N M P u v r make h = record { same = h.same; later = h.later; failed = failure_among N M (G.server u) (G.faults u) (G.faults v) r make h.failed; told = h.told; free = h.free; counted = h.counted }
+
+-- ---- of one server alone
+
+module _ {V : Type 0} (G : Ghosts V) where
+  pub one_nothing : {T : Type 0} (P : Type 0) (v : V) (r : Result T RunFault) → IsFailure (λ m. m ≡ G.server v) (G.server v) r (G.faults v) (G.faults v) → IsToldFault (G.server v) r → AreCountedIn (G.server v) r (G.faults v) (G.faults v) → HasGone G P v v r
+  one_nothing P v r failed told counted = gone_nothing G (λ m. m ≡ G.server v) P v r failed told counted
+
+  pub one_ok : {T U : Type 0} (P : Type 0) (u v : V) (x : T) (y : U) → HasGone {T = T} G P u v (Ok x) → HasGone {T = U} G P u v (Ok y)
+  one_ok P u v x y h = gone_ok G (λ m. m ≡ G.server u) P u v x y h
+
+  pub one_memory : {T U : Type 0} (P : Type 0) (u v : V) (x : T) → HasGone {T = T} G P u v (Ok x) → HasGone {T = U} G P u v (Err fault.OutOfMemory)
+  one_memory {T} {U} P u v x h = gone_memory {T = T} {U = U} G (λ m. m ≡ G.server u) P u v x h
+
+  pub one_err : {T U : Type 0} (P : Type 0) (u v : V) (f : RunFault) → HasGone {T = T} G P u v (Err f) → HasGone {T = U} G P u v (Err f)
+  one_err {T} {U} P u v f h = gone_err {T = T} {U = U} G (λ m. m ≡ G.server u) P u v f h
+
+  pub one_handed : {T U : Type 0} (P : Type 0) (u v : V) (f : RunFault) (r : Result U RunFault) → HasGone {T = T} G P u v (Err f) → r ≡ Err f → HasGone {T = U} G P u v r
+  one_handed {T} {U} P u v f r h is = gone_handed {T = T} {U = U} G (λ m. m ≡ G.server u) P u v f r h is
 
 -- ---- where a script ended a call
 

@@ -16,3 +16,7 @@ pub mod TakenLemmas
 pub mod GoLemmas
 pub mod RestartLemmas
 pub mod ExchangeLemmas
+pub mod DidLemmas
+pub mod StationsLemmas
+pub mod FillLemmas
+pub mod EventLemmas

@@ -200,7 +200,6 @@ impl<V: Vault> Station<V> {
         requires stands { (n : NodeState V) × Keeps V.Vault self.old n }
         ensures gone { (P : Type 0) → LeavesVault {T = Unit {0}} V.Vault P self.old self.new (Ok tt) }
         ensures went { (n : NodeState V) → Keeps V.Vault self.old n → (tells : Bool) → WentBy V.Vault 0 (λ w es v. Happens tells w (lifts result) es v) self.old self.new n }
-        ensures free { self.new.is_fused ≡ false }
     {
         self.is_fused = false;
         match &mut self.server {
@@ -242,8 +241,7 @@ impl<V: Vault> Station<V> {
         requires stands { (n : NodeState V) × Keeps V.Vault self.old n }
         ensures gone { LeavesVault V.Vault (Unit {0}) self.old self.new result }
         ensures went { OnOk result ((n : NodeState V) → Keeps V.Vault self.old n → (tells : Bool) → WentBy V.Vault 0 (λ w es v. Happens tells w (restarted pick) es v) self.old self.new n) }
-        ensures up { OnOk result ((n : NodeState V) → self.new.server ≡ standing n → n.kept.is_down ≡ false) }
-        ensures free { OnOk result (self.new.is_fused ≡ false) }
+        ensures again { OnOk result ((n : NodeState V) → Keeps V.Vault self.old n → (m : NodeState V) × (self.new.server ≡ standing m) × StartsAgain V.Vault pick n m) }
         ensures ended { OnEnd result (λ f. (n : NodeState V) → Keeps V.Vault self.old n → EndsHere V.Vault pick f n self.new.server) }
     {
         self.push_rank(0)?;
