@@ -126,13 +126,13 @@ module _ {V : Type 0} (G : Ghosts V) where
   one_ok P u v x y h = gone_ok G (λ m. m ≡ G.server u) P u v x y h
 
   pub one_memory : {T U : Type 0} (P : Type 0) (u v : V) (x : T) → HasGone {T = T} G P u v (Ok x) → HasGone {T = U} G P u v (Err fault.OutOfMemory)
-  one_memory {T} {U} P u v x h = gone_memory {T = T} {U = U} G (λ m. m ≡ G.server u) P u v x h
+  one_memory {T} {U} P u v x h = gone_memory G (λ m. m ≡ G.server u) {T = T} {U = U} P u v x h
 
   pub one_err : {T U : Type 0} (P : Type 0) (u v : V) (f : RunFault) → HasGone {T = T} G P u v (Err f) → HasGone {T = U} G P u v (Err f)
-  one_err {T} {U} P u v f h = gone_err {T = T} {U = U} G (λ m. m ≡ G.server u) P u v f h
+  one_err {T} {U} P u v f h = gone_err G (λ m. m ≡ G.server u) P u v f h
 
   pub one_handed : {T U : Type 0} (P : Type 0) (u v : V) (f : RunFault) (r : Result U RunFault) → HasGone {T = T} G P u v (Err f) → r ≡ Err f → HasGone {T = U} G P u v r
-  one_handed {T} {U} P u v f r h is = gone_handed {T = T} {U = U} G (λ m. m ≡ G.server u) P u v f r h is
+  one_handed {T} {U} P u v f r h is = gone_handed G (λ m. m ≡ G.server u) P u v f r h is
 
 -- ---- where a script ended a call
 

@@ -20,3 +20,4 @@ pub mod DidLemmas
 pub mod StationsLemmas
 pub mod FillLemmas
 pub mod EventLemmas
+pub mod StationLemmas

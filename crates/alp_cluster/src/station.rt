@@ -112,6 +112,7 @@ impl<V: Vault> Station<V> {
         ensures gone { LeavesVault V.Vault (Unit {0}) self.old self.new result }
         ensures filled { OnFull result ((n : NodeState V) → self.old.server ≡ standing n → (m : NodeState V) × (self.new.server ≡ standing m) × HasNoRoom n m) }
         ensures came { OnOk result ((n : NodeState V) → self.old.server ≡ standing n → (m : NodeState V) × (self.new.server ≡ standing m) × HasComeTo V.Vault n m event) }
+        ensures stands { (n : NodeState V) × (self.new.server ≡ standing n) }
         ensures ranks { self.new.ranks ≡ self.old.ranks }
         ensures fused { self.new.is_fused ≡ self.old.is_fused }
     {
@@ -146,6 +147,7 @@ impl<V: Vault> Station<V> {
         ensures gone { LeavesVault V.Vault (Unit {0}) self.old self.new result }
         ensures filled { OnFull result ((n : NodeState V) → self.old.server ≡ standing n → (m : NodeState V) × (self.new.server ≡ standing m) × IsSome (whole request frame.now) × HasNoRoom n m) }
         ensures handed { IfOk result (λ h. (n : NodeState V) → self.old.server ≡ standing n → (m : NodeState V) × (self.new.server ≡ standing m) × IsHanded V.Vault n m client frame.now (whole request frame.now) h) }
+        ensures stands { (n : NodeState V) × (self.new.server ≡ standing n) }
         ensures ranks { self.new.ranks ≡ self.old.ranks }
         ensures fused { self.new.is_fused ≡ self.old.is_fused }
     {
@@ -178,7 +180,7 @@ impl<V: Vault> Station<V> {
     /// The disk of the server passes so many further changing calls, and then stops. A server that is down has none to pass.
     pub(crate) fn stop(&mut self, calls: u32)
         requires stands { (n : NodeState V) × Keeps V.Vault self.old n }
-        ensures gone { (P : Type 0) → (P → ⊥) → LeavesVault {T = Unit {0}} V.Vault P self.old self.new (Ok tt) }
+        ensures gone { LeavesVault {T = Unit {0}} V.Vault ⊥ self.old self.new (Ok tt) }
         ensures went { (n : NodeState V) → Keeps V.Vault self.old n → (tells : Bool) → WentBy V.Vault 0 (λ w es v. Happens tells w (stop_set calls) es v) self.old self.new n }
     {
         match &mut self.server {
@@ -198,7 +200,7 @@ impl<V: Vault> Station<V> {
     /// Nobody stops the disk any more. Tells whether the server is down.
     pub(crate) fn lift(&mut self) -> bool
         requires stands { (n : NodeState V) × Keeps V.Vault self.old n }
-        ensures gone { (P : Type 0) → LeavesVault {T = Unit {0}} V.Vault P self.old self.new (Ok tt) }
+        ensures gone { LeavesVault {T = Unit {0}} V.Vault (Unit {0}) self.old self.new (Ok tt) }
         ensures went { (n : NodeState V) → Keeps V.Vault self.old n → (tells : Bool) → WentBy V.Vault 0 (λ w es v. Happens tells w (lifts result) es v) self.old self.new n }
     {
         self.is_fused = false;

@@ -77,7 +77,7 @@ impl<V: Vault> Stations<V> {
     pub(crate) fn stop(&mut self, server: u8, calls: u32)
         requires on { AreOn V.Vault self.old }
         requires server { IsOneOf self.old server }
-        ensures gone { (P : Type 0) → (P → ⊥) → HaveGone {T = Unit {0}} V.Vault P self.old self.new (Ok tt) }
+        ensures gone { HaveGone {T = Unit {0}} V.Vault ⊥ self.old self.new (Ok tt) }
         ensures did { Did V.Vault (Just (at server (stop_set calls) ∷ [])) self.old self.new }
     {
         self.all[server as usize - 1].stop(calls);
@@ -87,7 +87,7 @@ impl<V: Vault> Stations<V> {
     pub(crate) fn lift(&mut self, server: u8) -> bool
         requires on { AreOn V.Vault self.old }
         requires server { IsOneOf self.old server }
-        ensures gone { (P : Type 0) → HaveGone {T = Unit {0}} V.Vault P self.old self.new (Ok tt) }
+        ensures gone { HaveGone {T = Unit {0}} V.Vault (Unit {0}) self.old self.new (Ok tt) }
         ensures did { Did V.Vault (Just (at server (lifts result) ∷ [])) self.old self.new }
     {
         self.all[server as usize - 1].lift()

@@ -36,7 +36,7 @@ from_append b (e ∷ es) fs =
 
 -- ---- the last one
 
-last_behind : (xs : List ℕ) (y : ℕ) (ys : List ℕ) → last_rank (xs ++ y ∷ ys) ≡ last_rank (y ∷ ys)
+pub last_behind : (xs : List ℕ) (y : ℕ) (ys : List ℕ) → last_rank (xs ++ y ∷ ys) ≡ last_rank (y ∷ ys)
 last_behind [] y ys = refl
 last_behind (x ∷ []) y ys = refl
 last_behind (x ∷ z ∷ xs) y ys = last_behind (z ∷ xs) y ys
