@@ -21,3 +21,7 @@ pub mod StationsLemmas
 pub mod FillLemmas
 pub mod EventLemmas
 pub mod StationLemmas
+pub mod MessageLemmas
+pub mod LineLemmas
+pub mod LiveLemmas
+pub mod RunLemmas

@@ -13,11 +13,10 @@ use Rattle.alp_vault.specs.declared.vault.Vault.{Ghosts}
 use Rattle.alp_course.specs.Courses.{Course, Occurrence, AreCourse}
 use Rattle.alp_course.specs.Links.{IsFirst}
 use Rattle.alp_course.specs.Plays.{Due, sent_of, IsCut, Plays, BeginsLine, ArePlayed}
-use Rattle.alp_course.specs.Settles.{IsSettling}
+use Rattle.alp_course.specs.Settles.{IsSettling, AreUp}
 use Rattle.alp_course.specs.Turns.{Turn, lists_in, own_in, sent_in, turns_text}
 use Rattle.alp_cluster.specs.Clients.{InStep, HasSaid}
 use Rattle.alp_cluster.specs.Fills.{IsEndFor}
-use Rattle.alp_cluster.specs.Settled.{AreUp}
 use Rattle.alp_cluster.specs.Stations.{AreOn, EndsFor, course_of, openings_of, state_at}
 use Rattle.alp_cluster.specs.declared.fault.RunFault.{RunFault}
 use Rattle.alp_cluster.specs.declared.stations.Stations.{Stations}
@@ -71,7 +70,7 @@ pub record HasPlayed {V : Type 0} (G : Ghosts V) (servers : ℕ) (lines : List N
 pub record HasPlayedOut {V : Type 0} (G : Ghosts V) (servers : ℕ) (lines : List NumberedLine) (last : Stations V) (vs : List (Vec Item Global)) (printed : List ℕ) : Type 0 where
   pub on : AreOn G last
   pub count : length last.all.items ≡ servers
-  pub up : AreUp G last
+  pub up : AreUp (course_of G last)
   pub turns : List Turn
   pub hs : List Occurrence
   pub played : ArePlayed servers lines turns hs

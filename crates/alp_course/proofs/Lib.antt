@@ -7,3 +7,4 @@ pub mod WordLemmas
 pub mod RoomLemmas
 pub mod UpLemmas
 pub mod PlayLemmas
+pub mod TurnLemmas
