@@ -11,7 +11,8 @@ use Rattle.alp_journal.specs.declared.message.Message.{Message}
 use Rattle.alp_journal.specs.declared.message.Message.TheVariants as msg
 use Rattle.alp_node.specs.Halts.{IsTimelyMessage, MaySay}
 use Rattle.alp_node.specs.NodeStates.{NodeState}
-use Rattle.alp_node.specs.Nodes.{Envelope, sent_by, sent_in}
+use Rattle.alp_journal.specs.declared.message.Envelope.{Envelope}
+use Rattle.alp_node.specs.Nodes.{sent_by, sent_in}
 use Rattle.alp_posts.specs.Messages.{messages_to, IsSent, HasGrown}
 use Rattle.alp_posts.specs.Post.{Post, nothing_taken, shown_all, took}
 use Rattle.alp_posts.specs.Posts.{AreServers, IsTable, Fits, place_of, post_at, with_post}

@@ -1,0 +1,4 @@
+use Rattle.alp_cluster.proofs.MessageLemmas
+use Rattle.alp_cluster.proofs.LineLemmas
+use Rattle.alp_cluster.proofs.RunLemmas
+use Rattle.alp_cluster.proofs.LiveLemmas
