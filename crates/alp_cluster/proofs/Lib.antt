@@ -25,3 +25,6 @@ pub mod MessageLemmas
 pub mod LineLemmas
 pub mod LiveLemmas
 pub mod RunLemmas
+pub mod CarryLemmas
+pub mod SweepLemmas
+pub mod SettleLemmas

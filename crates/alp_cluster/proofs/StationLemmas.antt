@@ -115,7 +115,8 @@ module _ {V : Type 0} (G : Ghosts V) where
   came_by seen e x y n m keeps served stands came fused ranks =
       let Makes : Stand → List Entry → Stand → Type 0 = λ w es v. ComesTo w w.is_down e es v in
       let g : GoesBy G x.is_fused x.is_fused Makes n m = event_goes G n m e keeps.on served came x.is_fused keeps.free in
-      went seen Makes x y n m keeps stands (fused_goes x.is_fused y.is_fused Makes n m fused g) (few_come (stand_of G x.is_fused n) n.kept.is_down e g.entries (stand_of G x.is_fused m) g.made) ranks
+      let h : GoesBy G x.is_fused y.is_fused Makes n m = fused_goes x.is_fused y.is_fused Makes n m fused g in
+      went seen Makes x y n m keeps stands h (few_come (stand_of G x.is_fused n) n.kept.is_down e h.entries (stand_of G y.is_fused m) h.made) ranks
 
   -- its journal had no room
   pub still_by : (seen : ℕ) (x y : Station V) (n m : NodeState V) → Keeps G x n → HasNoRoom n m → y.server ≡ standing m → y.is_fused ≡ x.is_fused → y.ranks.items ≡ take (length m.journal) (x.ranks.items ++ (max (last_rank x.ranks.items) seen + 1) ∷ [])

@@ -65,16 +65,16 @@ timeout_falls r after n t a up placed =
 
 -- ---- a message that waits is brought
 
-record IsLess (r after : Course) : Type 0 where
-  less : room_left after < room_left r
-  placed : ArePlaced after
+pub record IsLess (r after : Course) : Type 0 where
+  pub less : room_left after < room_left r
+  pub placed : ArePlaced after
 
 both_true : (a b : Bool) → (a && not b) ≡ true → (a ≡ true) × (b ≡ false)
 both_true true true h = cc
 both_true true false h = (refl, refl)
 both_true false b h = cc
 
-brought_less : (r after : Course) (from to : ℕ) → is_waiting r from to ≡ true → Occurs r (brings from to) after → ArePlaced r → IsLess r after
+pub brought_less : (r after : Course) (from to : ℕ) → is_waiting r from to ≡ true → Occurs r (brings from to) after → ArePlaced r → IsLess r after
 brought_less r after from to waits a placed = go (next_message r from to) (both_true (is_some (next_message r from to)) (seat_at r to).stand.is_down waits).0 a.1
   where
     up : (seat_at r to).stand.is_down ≡ false
