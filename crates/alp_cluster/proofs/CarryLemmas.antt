@@ -132,7 +132,7 @@ module _ {V : Type 0} (G : Ghosts V) where
       cut = cut_just (brings from to);
       goes = go_none G s on;
       ends = record {
-        step = subst (λ (o : Option Message). IsSome o) (sym next) tt;
+        step = subst (λ (o : Option Message). IsSome o) (sym next) refl;
         up = ap (λ (r : Course). (seat_at r to).stand.is_down) (sym course) ∙ room.up;
         full = subst (λ (r : Course). entries_limit ≤ (seat_at r to).stand.place) course room.full;
       };
@@ -146,7 +146,7 @@ module _ {V : Type 0} (G : Ghosts V) where
       due = to_come (repeats from to);
       cut = cut_just (repeats from to);
       goes = go_none G s on;
-      ends = record { step = subst (λ (o : Option (Message × ℕ)). IsSome o) (sym last) tt; up = room.up; full = room.full };
+      ends = record { step = subst (λ (o : Option (Message × ℕ)). IsSome o) (sym last) refl; up = room.up; full = room.full };
       left = room.still;
     }
 

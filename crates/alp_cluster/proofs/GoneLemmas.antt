@@ -161,3 +161,15 @@ full_map P Q r make h = end_map r (λ g. (g ≡ fault.JournalFull) × P) (λ g. 
 -- memory was wanting, which no script brings about
 pub end_memory : {T : Type 0} (r : Result T RunFault) (P : RunFault → Type 0) → r ≡ Err fault.OutOfMemory → OnEnd r P
 end_memory {T = T} r P is = subst (λ (q : Result T RunFault). OnEnd q P) (sym is) tt
+
+-- what holds of any fault holds of one of those
+end_by_any : (e : RunFault) (P : RunFault → Type 0) → P e → OnEndBy e P
+end_by_any (fault.DiskFault server) P h = tt
+end_by_any fault.OutOfMemory P h = tt
+end_by_any fault.JournalFull P h = h
+end_by_any (fault.Start server (start_fault.Vault f)) P h = tt
+end_by_any (fault.Start server start_fault.BadNote) P h = tt
+end_by_any (fault.Start server start_fault.EpochEnd) P h = h
+
+pub end_any : {T : Type 0} (e : RunFault) (r : Result T RunFault) (P : RunFault → Type 0) → r ≡ Err e → P e → OnEnd r P
+end_any {T = T} e r P is h = subst (λ (q : Result T RunFault). OnEnd q P) (sym is) (end_by_any e P h)

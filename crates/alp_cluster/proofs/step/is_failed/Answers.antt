@@ -1,3 +1,2 @@
-use Rattle.alp_cluster.proofs.StationLemmas
-use Rattle.alp_cluster.proofs.CarryLemmas
-use Rattle.alp_cluster.proofs.LiveLemmas
+use Rattle.alp_cluster.proofs.SweepLemmas
+use Rattle.alp_cluster.proofs.SettleLemmas

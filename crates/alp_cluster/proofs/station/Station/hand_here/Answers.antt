@@ -1,5 +1,5 @@
 use Rattle.std.proofs.Common.{◌≡◌, refl, subst}
-use Rattle.std.proofs.lemmas.Result.{if_ok_weaker}
+use Rattle.std.proofs.lemmas.Result.{IfOk-weaker}
 use Rattle.alp_fields.specs.Forms.{whole}
 use Rattle.alp_rpc.specs.Frames.{request}
 use Rattle.alp_node.specs.NodeStates.{NodeState}
@@ -18,7 +18,7 @@ returns-clause-filled g c =
 pub returns-clause-handed : goal.returns-clause-handed
 returns-clause-handed g c =
     let is : c.args.self.now.server ≡ standing c.in-Some-Up.node = c.in-Some-Up.is in
-    if_ok_weaker c.hand.result
+    IfOk-weaker c.hand.result _ _
     (λ h handed n stood. (
       c.hand.new.node,
       refl,
