@@ -87,7 +87,7 @@ module _ {V : Type 0} (G : Ghosts V) where
       -- the next one is still there to be taken
       pub still_next : (x : Station V) → AreOn G s → slice_get s.all.items (from - 1) ≡ Some x → next_message (course_of G mid) from to ≡ next_message (course_of G s) from to
       still_next x on there =
-          let here : slice_get mid.all.items (from - 1) ≡ Some x = came.sender (λ same. two.apart same) ∙ there in
+          let here : slice_get mid.all.items (from - 1) ≡ Some x = came.sender two.sender.first (λ same. two.apart same) ∙ there in
           let seat : seat_at (course_of G mid) from ≡ seat_at (course_of G s) from = seat_is G mid came.later.on from (one_later s mid from came.later two.sender) x here ∙ sym (seat_is G s on from two.sender x there) in
           (λ i. slice_get (messages_to to (seat i).journal) (post_at (came.arrives.posts i) from to).taken)
 

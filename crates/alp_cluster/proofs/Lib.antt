@@ -28,3 +28,5 @@ pub mod RunLemmas
 pub mod CarryLemmas
 pub mod SweepLemmas
 pub mod SettleLemmas
+pub mod HandLemmas
+pub mod GatherLemmas

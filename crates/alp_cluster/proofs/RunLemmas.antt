@@ -184,7 +184,7 @@ at_place P (x ∷ ls) (suc i) l all h is = at_place P ls i l all.1 (omega arith)
 
 -- ---- before the first line
 
-new_list : (vs : List (Vec Item Global)) (k : ℕ) → AllByRecursion (λ (v : Vec Item Global). v.items ≡ []) vs → lists_in vs k ≡ []
+pub new_list : (vs : List (Vec Item Global)) (k : ℕ) → AllByRecursion (λ (v : Vec Item Global). v.items ≡ []) vs → lists_in vs k ≡ []
 new_list [] k h = refl
 new_list (v ∷ vs) zero h = h.0
 new_list (v ∷ vs) (suc k) h = new_list vs k h.1
@@ -193,7 +193,7 @@ none_at : (n : ℕ) → session_of n new_client ≡ None
 none_at n = ap (option_map come_in) (get-empty nat_cmp n)
 
 -- nobody knows a session, and nobody was told a thing
-new_session : (m k : ℕ) → session_of m (client_at new_crowd k) ≡ None
+pub new_session : (m k : ℕ) → session_of m (client_at new_crowd k) ≡ None
 new_session m k = go 17 k
   where
     go : (n k : ℕ) → session_of m (get_or (replicate n new_client) k new_client) ≡ None
@@ -201,7 +201,7 @@ new_session m k = go 17 k
     go (suc n) zero = none_at m
     go (suc n) (suc k) = go n k
 
-new_told : (k : ℕ) → (client_at new_crowd k).told.ts ≡ 0
+pub new_told : (k : ℕ) → (client_at new_crowd k).told.ts ≡ 0
 new_told k = go 17 k
   where
     go : (n k : ℕ) → (get_or (replicate n new_client) k new_client).told.ts ≡ 0
@@ -209,7 +209,7 @@ new_told k = go 17 k
     go (suc n) zero = refl
     go (suc n) (suc k) = go n k
 
-new_begun : (k : ℕ) → (client_at new_crowd k).begun ≡ None
+pub new_begun : (k : ℕ) → (client_at new_crowd k).begun ≡ None
 new_begun k = go 17 k
   where
     go : (n k : ℕ) → (get_or (replicate n new_client) k new_client).begun ≡ None
@@ -218,7 +218,7 @@ new_begun k = go 17 k
     go (suc n) (suc k) = go n k
 
 -- and nobody sent a thing
-new_frames : (k : ℕ) → (client_at new_crowd k).frames ≡ no_frames
+pub new_frames : (k : ℕ) → (client_at new_crowd k).frames ≡ no_frames
 new_frames k = go 17 k
   where
     go : (n k : ℕ) → (get_or (replicate n new_client) k new_client).frames ≡ no_frames
@@ -227,8 +227,8 @@ new_frames k = go 17 k
     go (suc n) (suc k) = go n k
 
 -- what holds of every frame holds of those that it keeps
-no_last : (P : Addressed → Type 0) (c : Client) → c.frames ≡ no_frames → IfSome c.frames.last P
+pub no_last : (P : Addressed → Type 0) (c : Client) → c.frames ≡ no_frames → IfSome c.frames.last P
 no_last P c is = subst (λ (f : Frames). IfSome f.last P) (sym is) tt
 
-no_before : (P : Addressed → Type 0) (c : Client) → c.frames ≡ no_frames → IfSome c.frames.before P
+pub no_before : (P : Addressed → Type 0) (c : Client) → c.frames ≡ no_frames → IfSome c.frames.before P
 no_before P c is = subst (λ (f : Frames). IfSome f.before P) (sym is) tt

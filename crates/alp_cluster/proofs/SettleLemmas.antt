@@ -46,7 +46,7 @@ module _ {V : Type 0} (G : Ghosts V) where
   -- ---- what is open at a server
 
   pub found : (n : ℕ) (least : Option TransId) (s : Stations V) → AreOn G s → IsOneOf s n → FindsOpen G n least s → Did G (Just (at n (finds least) ∷ [])) s s
-  found n least s on here open = did_just G (at n (finds least)) s s (go_one G (at n (finds least)) s s (later_none G s on) occurs tt)
+  found n least s on here is_open = did_just G (at n (finds least)) s s (go_one G (at n (finds least)) s s (later_none G s on) occurs tt)
     where
       x : Station V
       x = (is_there s.all.items (n - 1) (let some : 1 ≤ n = here.first in let last : n ≤ length s.all.items = here.last in omega (arith, some, last))).0
@@ -65,35 +65,35 @@ module _ {V : Type 0} (G : Ghosts V) where
         here = seat_here G s on n here x there;
         entries = [];
         stand = seat.stand;
-        made = (open, (refl, refl));
+        made = (is_open, (refl, refl));
         seats = sym (ap (slice_set (course_of G s).seats (n - 1)) same ∙ set-get_or (course_of G s).seats (n - 1) no_seat);
         posts = refl;
       }
 
   pub none_timed : (n : ℕ) (s : Stations V) → AreOn G s → IsOneOf s n → FindsOpen G n None s → Did G (AreTimedOut n) s s
-  none_timed n s on here open =
-      did_map G (Just (at n (finds None) ∷ [])) (AreTimedOut n) s s (λ xs is. subst (AreTimedOut n) (sym is) none_open) (found n None s on here open)
+  none_timed n s on here is_open =
+      did_map G (Just (at n (finds None) ∷ [])) (AreTimedOut n) s s (λ xs is. subst (AreTimedOut n) (sym is) none_open) (found n None s on here is_open)
 
   -- it times out, and so on
   timing : (n : ℕ) (t : TransId) (xs : List Occurrence) → Then (Just (at n (finds (Some t)) ∷ [])) (Then (Just (at n (timed_out t) ∷ [])) (AreTimedOut n)) xs → AreTimedOut n xs
   timing n t xs h =
       subst (AreTimedOut n) (sym (h.are ∙ (λ i. h.first i ++ (h.second.are ∙ ap (λ (ys : List Occurrence). ys ++ h.second.back) h.second.first) i))) (one_open t h.second.back h.second.second)
 
-  module _ (n : ℕ) (t : TransId) (s b : Stations V) (on : AreOn G s) (here : IsOneOf s n) (open : FindsOpen G n (Some t) s) where
+  module _ (n : ℕ) (t : TransId) (s b : Stations V) (on : AreOn G s) (here : IsOneOf s n) (is_open : FindsOpen G n (Some t) s) where
     pub one_timed : (c : Stations V) → Did G (Just (timeouts_at n (Some t))) s b → Did G (AreTimedOut n) b c → Did G (AreTimedOut n) s c
     one_timed c d k =
         did_map G (Then (Just (at n (finds (Some t)) ∷ [])) (Then (Just (at n (timed_out t) ∷ [])) (AreTimedOut n))) (AreTimedOut n) s c (timing n t)
-        (did_then G (Just (at n (finds (Some t)) ∷ [])) (Then (Just (at n (timed_out t) ∷ [])) (AreTimedOut n)) s s c (found n (Some t) s on here open) (did_then G (Just (at n (timed_out t) ∷ [])) (AreTimedOut n) s b c d k))
+        (did_then G (Just (at n (finds (Some t)) ∷ [])) (Then (Just (at n (timed_out t) ∷ [])) (AreTimedOut n)) s s c (found n (Some t) s on here is_open) (did_then G (Just (at n (timed_out t) ∷ [])) (AreTimedOut n) s b c d k))
 
     pub timed_cut : (f : RunFault) → DidSome G (Just (timeouts_at n (Some t))) f s b → DidSome G (AreTimedOut n) f s b
     timed_cut f d =
         some_map G (Then (Just (at n (finds (Some t)) ∷ [])) (Then (Just (at n (timed_out t) ∷ [])) (AreTimedOut n))) (AreTimedOut n) f s b (timing n t)
-        (some_second G (Just (at n (finds (Some t)) ∷ [])) (Then (Just (at n (timed_out t) ∷ [])) (AreTimedOut n)) f s s b (found n (Some t) s on here open) (some_first G (Just (at n (timed_out t) ∷ [])) (AreTimedOut n) f s b (timed_has n) d))
+        (some_second G (Just (at n (finds (Some t)) ∷ [])) (Then (Just (at n (timed_out t) ∷ [])) (AreTimedOut n)) f s s b (found n (Some t) s on here is_open) (some_first G (Just (at n (timed_out t) ∷ [])) (AreTimedOut n) f s b (timed_has n) d))
 
     pub later_timed_cut : (f : RunFault) (c : Stations V) → Did G (Just (timeouts_at n (Some t))) s b → DidSome G (AreTimedOut n) f b c → DidSome G (AreTimedOut n) f s c
     later_timed_cut f c d k =
         some_map G (Then (Just (at n (finds (Some t)) ∷ [])) (Then (Just (at n (timed_out t) ∷ [])) (AreTimedOut n))) (AreTimedOut n) f s c (timing n t)
-        (some_second G (Just (at n (finds (Some t)) ∷ [])) (Then (Just (at n (timed_out t) ∷ [])) (AreTimedOut n)) f s s c (found n (Some t) s on here open) (some_second G (Just (at n (timed_out t) ∷ [])) (AreTimedOut n) f s b c d k))
+        (some_second G (Just (at n (finds (Some t)) ∷ [])) (Then (Just (at n (timed_out t) ∷ [])) (AreTimedOut n)) f s s c (found n (Some t) s on here is_open) (some_second G (Just (at n (timed_out t) ∷ [])) (AreTimedOut n) f s b c d k))
 
     -- there is less room behind it
     pub timed_less : IsUpAt G n s → Did G (Just (timeouts_at n (Some t))) s b → room_left (course_of G b) < room_left (course_of G s)

@@ -30,7 +30,7 @@ pub record AreApart {V : Type 0} (s : Stations V) (from to : ℕ) : Type 0 where
 pub record HasArrived {V : Type 0} (G : Ghosts V) (from to : ℕ) (m : Message) (seen : ℕ) (before after : Stations V) : Type 0 where
   pub later : AreLater G before after
   pub posts : after.posts ≡ before.posts
-  pub sender : from ≢ to → slice_get after.all.items (from - 1) ≡ slice_get before.all.items (from - 1)
+  pub sender : 1 ≤ from → from ≢ to → slice_get after.all.items (from - 1) ≡ slice_get before.all.items (from - 1)
   pub arrives : Arrives (course_of G before) from to m seen (course_of G after)
 
 -- that server is up, and its journal has no room for another entry

@@ -1,2 +1,0 @@
-use Rattle.alp_cluster.proofs.SweepLemmas
-use Rattle.alp_cluster.proofs.SettleLemmas
