@@ -86,6 +86,10 @@ module _ {V : Type 0} (G : Ghosts V) where
   pub leaves_of : {T : Type 0} (P : Type 0) (x y : Station V) (n : NodeState V) (v : V) (r : Result T RunFault) → x.server ≡ standing n → HasVault y.server v → HasGone G P n.kept.vault v r → LeavesVault G P x y r
   leaves_of {T} P x y n v r is has gone = λ k stood. (v, has, subst (λ (z : NodeState V). HasGone G P z.kept.vault v r) (one_of x.server n k is stood) gone)
 
+  pub leaves_server : {T : Type 0} (P : Type 0) (x : Station V) (o : Option (Server V)) (n : NodeState V) (v : V) (r : Result T RunFault) → x.server ≡ standing n → HasVault o v → HasGone G P n.kept.vault v r
+      → (k : NodeState V) → x.server ≡ standing k → (u : V) × HasVault o u × HasGone G P k.kept.vault u r
+  leaves_server {T} P x o n v r is has gone = λ k stood. (v, has, subst (λ (z : NodeState V). HasGone G P z.kept.vault v r) (one_of x.server n k is stood) gone)
+
   -- ---- it went on
 
   -- by entries of which there is one at most, with the rank that there is in any case
@@ -173,5 +177,6 @@ module _ {V : Type 0} (G : Ghosts V) where
       }
 
   -- what is left of it, whether it did or not
-  pub again_leaves : (pick : ℕ) (x y : Station V) (n m : NodeState V) → x.server ≡ standing n → StartsAgain G pick n m → y.server ≡ standing m → LeavesVault {T = Unit {0}} G (Unit {0}) x y (Ok tt)
-  again_leaves pick x y n m stood again stands = leaves_of {T = Unit {0}} (Unit {0}) x y n m.kept.vault (Ok tt) stood (subst (λ (o : Option (Server V)). HasVault o m.kept.vault) (sym stands) refl) (again_gone G pick n m again (Unit {0}) tt)
+  pub again_leaves : (pick : ℕ) (x : Station V) (o : Option (Server V)) (n m : NodeState V) → x.server ≡ standing n → StartsAgain G pick n m → o ≡ standing m → (k : NodeState V) → x.server ≡ standing k
+      → (u : V) × HasVault o u × HasGone {T = Unit {0}} G (Unit {0}) k.kept.vault u (Ok tt)
+  again_leaves pick x o n m stood again stands = leaves_server {T = Unit {0}} (Unit {0}) x o n m.kept.vault (Ok tt) stood (subst (λ (q : Option (Server V)). HasVault q m.kept.vault) (sym stands) refl) (again_gone G pick n m again (Unit {0}) tt)

@@ -1,25 +1,25 @@
-use Rattle.std.specs.Prelude.{Bool, Ok}
+use Rattle.std.specs.Prelude.{Bool, Ok, Some}
 use Rattle.std.proofs.Common.{◌≡◌, refl, sym, ◌∙◌, ap, subst}
 use Rattle.alp_node.specs.NodeStates.{NodeState}
 use Rattle.alp_course.specs.Happens.{Happens, lifts}
 use Rattle.alp_cluster.specs.Servers.{IsOn, IsLifted}
 use Rattle.alp_cluster.specs.Station.{standing, WentBy}
 use Rattle.alp_cluster.proofs.RestartLemmas.{lifted_gone, lifted_down}
-use Rattle.alp_cluster.proofs.StationLemmas.{one_of, leaves_of, lift_went}
+use Rattle.alp_cluster.proofs.StationLemmas.{one_of, leaves_server, lift_went}
 use Rattle.alp_cluster.proofs.station.Station.lift.Goals as goal
 
 pub returns-clause-gone : goal.returns-clause-gone
 returns-clause-gone g c =
     let (n, keeps) = c.requires.stands in
-    let is : c.args.self.now.server ≡ standing c.in-Some-Up.node = c.in-Some-Up.is in
+    let is : c.args.self.now.server ≡ standing c.in-Some-Up.node = c.in-Some-Up.is ∙ ap Some c.in-Some-Up.field-0-is in
     let same : n ≡ c.in-Some-Up.node = one_of c.args.self.now.server n c.in-Some-Up.node keeps.stands is in
     let lifted : IsLifted g.V.Vault c.in-Some-Up.node c.stop_after.new.self = record { kept = c.knows.ensures; same = c.stop_after.ensures.same; faults = c.stop_after.ensures.faults; rest = c.stop_after.ensures.kept; free = c.stop_after.ensures.allowance } in
-    leaves_of g.V.Vault (Unit {0}) c.args.self.now _ c.in-Some-Up.node c.stop_after.new.self.kept.vault (Ok tt) is refl
+    leaves_server {T = Unit {0}} g.V.Vault (Unit {0}) c.args.self.now (standing c.stop_after.new.self) c.in-Some-Up.node c.stop_after.new.self.kept.vault (Ok tt) is refl
     (lifted_gone g.V.Vault c.in-Some-Up.node c.stop_after.new.self (subst (λ (z : NodeState _). IsOn g.V.Vault z) same keeps.on) lifted (Unit {0}) tt)
 
 pub returns-clause-went : goal.returns-clause-went
 returns-clause-went g c = λ n keeps tells.
-    let is : c.args.self.now.server ≡ standing c.in-Some-Up.node = c.in-Some-Up.is in
+    let is : c.args.self.now.server ≡ standing c.in-Some-Up.node = c.in-Some-Up.is ∙ ap Some c.in-Some-Up.field-0-is in
     let same : c.in-Some-Up.node ≡ n = one_of c.args.self.now.server c.in-Some-Up.node n is keeps.stands in
     let lifted : IsLifted g.V.Vault c.in-Some-Up.node c.stop_after.new.self = record { kept = c.knows.ensures; same = c.stop_after.ensures.same; faults = c.stop_after.ensures.faults; rest = c.stop_after.ensures.kept; free = c.stop_after.ensures.allowance } in
     let here : IsLifted g.V.Vault n c.stop_after.new.self = subst (λ (z : NodeState _). IsLifted g.V.Vault z c.stop_after.new.self) same lifted in

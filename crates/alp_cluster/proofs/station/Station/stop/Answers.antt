@@ -1,10 +1,10 @@
-use Rattle.std.specs.Prelude.{true, false, cond, Bool, Ok}
+use Rattle.std.specs.Prelude.{true, false, cond, Bool, Ok, Some}
 use Rattle.std.proofs.Common.{◌≡◌, refl, sym, ◌∙◌, ap, subst}
 use Rattle.alp_node.specs.NodeStates.{NodeState}
 use Rattle.alp_cluster.specs.Servers.{IsOn, HasStopSet}
 use Rattle.alp_cluster.specs.Station.{standing}
 use Rattle.alp_cluster.proofs.RestartLemmas.{stop_gone}
-use Rattle.alp_cluster.proofs.StationLemmas.{one_of, leaves_of, stop_went}
+use Rattle.alp_cluster.proofs.StationLemmas.{one_of, leaves_server, stop_went}
 use Rattle.alp_cluster.proofs.station.Station.stop.Goals as goal
 
 -- ---- it is down
@@ -13,11 +13,11 @@ pub returns-then-is_down-clause-gone : goal.returns-then-is_down-clause-gone
 returns-then-is_down-clause-gone g c =
     let (n, keeps) = c.requires.stands in
     let set : HasStopSet g.V.Vault c.args.calls n n = record { kept = keeps.on.kept; same = record { telling = refl; sizes = refl; number = refl; of_all = refl }; faults = refl; rest = refl; down = λ is. refl } in
-    leaves_of g.V.Vault ⊥ c.args.self.now c.args.self.now n n.kept.vault (Ok tt) keeps.stands (rw keeps.stands refl) (stop_gone g.V.Vault c.args.calls n n keeps.on set ⊥ tt (λ p. p))
+    leaves_server {T = Unit {0}} g.V.Vault ⊥ c.args.self.now c.args.self.now.server n n.kept.vault (Ok tt) keeps.stands (rw keeps.stands refl) (stop_gone g.V.Vault c.args.calls n n keeps.on set ⊥ tt (λ p. p))
 
 pub returns-then-is_down-clause-went : goal.returns-then-is_down-clause-went
 returns-then-is_down-clause-went g c = λ n keeps tells.
-    let is : c.args.self.now.server ≡ standing c.in-Some-Up.node = c.in-Some-Up.is in
+    let is : c.args.self.now.server ≡ standing c.in-Some-Up.node = c.in-Some-Up.is ∙ ap Some c.in-Some-Up.field-0-is in
     let same : c.in-Some-Up.node ≡ n = one_of c.args.self.now.server c.in-Some-Up.node n is keeps.stands in
     let down : n.kept.is_down ≡ true = ap (λ (z : NodeState _). z.kept.is_down) (sym same) ∙ sym c.is_down.ensures ∙ c.if-is_down.true in
     let set : HasStopSet g.V.Vault c.args.calls n n = record { kept = keeps.on.kept; same = record { telling = refl; sizes = refl; number = refl; of_all = refl }; faults = refl; rest = refl; down = λ is. refl } in
@@ -28,7 +28,7 @@ returns-then-is_down-clause-went g c = λ n keeps tells.
 pub returns-clause-gone : goal.returns-clause-gone
 returns-clause-gone g c =
     let (n, keeps) = c.requires.stands in
-    let is : c.args.self.now.server ≡ standing c.in-Some-Up.node = c.in-Some-Up.is in
+    let is : c.args.self.now.server ≡ standing c.in-Some-Up.node = c.in-Some-Up.is ∙ ap Some c.in-Some-Up.field-0-is in
     let same : c.in-Some-Up.node ≡ n = one_of c.args.self.now.server c.in-Some-Up.node n is keeps.stands in
     let up : c.in-Some-Up.node.kept.is_down ≡ false = sym c.is_down.ensures ∙ c.if-is_down.false in
     let set : HasStopSet g.V.Vault c.args.calls c.in-Some-Up.node c.stop_after.new.self = record {
@@ -38,12 +38,12 @@ returns-clause-gone g c =
       rest = c.stop_after.ensures.kept;
       down = λ is. (let wrong : true ≡ false = sym is ∙ up in cc);
     } in
-    leaves_of g.V.Vault ⊥ c.args.self.now _ c.in-Some-Up.node c.stop_after.new.self.kept.vault (Ok tt) is refl
+    leaves_server {T = Unit {0}} g.V.Vault ⊥ c.args.self.now (standing c.stop_after.new.self) c.in-Some-Up.node c.stop_after.new.self.kept.vault (Ok tt) is refl
     (stop_gone g.V.Vault c.args.calls c.in-Some-Up.node c.stop_after.new.self (subst (λ (z : NodeState _). IsOn g.V.Vault z) (sym same) keeps.on) set ⊥ tt (λ p. p))
 
 pub returns-clause-went : goal.returns-clause-went
 returns-clause-went g c = λ n keeps tells.
-    let is : c.args.self.now.server ≡ standing c.in-Some-Up.node = c.in-Some-Up.is in
+    let is : c.args.self.now.server ≡ standing c.in-Some-Up.node = c.in-Some-Up.is ∙ ap Some c.in-Some-Up.field-0-is in
     let same : n ≡ c.in-Some-Up.node = one_of c.args.self.now.server n c.in-Some-Up.node keeps.stands is in
     let up : c.in-Some-Up.node.kept.is_down ≡ false = sym c.is_down.ensures ∙ c.if-is_down.false in
     let set : HasStopSet g.V.Vault c.args.calls c.in-Some-Up.node c.stop_after.new.self = record {
