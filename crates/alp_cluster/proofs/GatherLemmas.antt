@@ -38,6 +38,12 @@ use Rattle.alp_cluster.specs.declared.stations.Stations.{Stations}
 use Rattle.alp_cluster.proofs.MessageLemmas.{unshown_at}
 use Rattle.alp_cluster.proofs.RunLemmas.{new_list, new_session, new_told, new_begun, new_frames, no_last, no_before}
 
+some_same : {X : Type 0} (y x : X) → Some y ≡ Some x → y ≡ x
+some_same y x is = cc
+
+nothing_there : {X : Type 0} (i : ℕ) (x : X) → slice_get [] i ≡ Some x → ⊥
+nothing_there i x is = cc
+
 module _ {V : Type 0} (G : Ghosts V) (servers : ℕ) where
   -- ---- one of them
 
@@ -54,17 +60,21 @@ module _ {V : Type 0} (G : Ghosts V) (servers : ℕ) where
   first_of : (number : ℕ) (n : NodeState V) (ns : List (NodeState V)) (x : Station V) (xs : List (Station V)) → AreStationsOf (n ∷ ns) (x ∷ xs) → AreNew G servers number (n ∷ ns) → Stood number x
   first_of number n ns x xs h k = record { node = n; server = h.0; ranks = h.1; fused = h.2; on = k.0; idle = k.1; number_is = k.2; count_is = k.3 }
 
-  one_there : (number : ℕ) (ns : List (NodeState V)) (xs : List (Station V)) → AreStationsOf ns xs → AreNew G servers number ns → (i : ℕ) (x : Station V) → slice_get xs i ≡ Some x → Stood (number + i) x
-  one_there number [] [] h k i x there = cc
-  one_there number [] (y ∷ ys) h k i x there = absurd h
-  one_there number (n ∷ ns) [] h k i x there = absurd h
-  one_there number (n ∷ ns) (y ∷ ys) h k zero x there =
-      let is : y ≡ x = cc in
+  first_case : (number : ℕ) (y x : Station V) → Some y ≡ Some x → Stood number y → Stood (number + 0) x
+  first_case number y x at one =
+      let is : y ≡ x = some_same y x at in
       let same : number ≡ number + 0 = omega arith in
-      subst (λ (m : ℕ). Stood m x) same (subst (Stood number) is (first_of number n ns y ys h k))
-  one_there number (n ∷ ns) (y ∷ ys) h k (suc i) x there =
-      let same : number + 1 + i ≡ number + suc i = omega arith in
-      subst (λ (m : ℕ). Stood m x) same (one_there (number + 1) ns ys h.3 k.4 i x there)
+      subst (λ (m : ℕ). Stood m x) same (subst (Stood number) is one)
+
+  later_case : (number i : ℕ) (x : Station V) → Stood (number + 1 + i) x → Stood (number + suc i) x
+  later_case number i x one = (let same : number + 1 + i ≡ number + suc i = omega arith in subst (λ (m : ℕ). Stood m x) same one)
+
+  one_there : (number : ℕ) (ns : List (NodeState V)) (xs : List (Station V)) → AreStationsOf ns xs → AreNew G servers number ns → (i : ℕ) (x : Station V) → slice_get xs i ≡ Some x → Stood (number + i) x
+  one_there number [] [] h k i x at = absurd (nothing_there i x at)
+  one_there number [] (y ∷ ys) h k i x at = absurd h
+  one_there number (n ∷ ns) [] h k i x at = absurd h
+  one_there number (n ∷ ns) (y ∷ ys) h k zero x at = first_case number y x at (first_of number n ns y ys h k)
+  one_there number (n ∷ ns) (y ∷ ys) h k (suc i) x at = later_case number i x (one_there (number + 1) ns ys h.3 k.4 i x at)
 
   module _ (number : ℕ) (x : Station V) (s : Stood number x) where
     manned_new : IsManned G servers number x
@@ -123,20 +133,20 @@ module _ {V : Type 0} (G : Ghosts V) (servers : ℕ) where
   -- ---- the run
 
   module _ (ns : List (NodeState V)) (p : Parties V) (vs : List (Vec Item Global)) (printed : List ℕ) (h : AreGathered ns p vs printed) (new : AreNew G servers 1 ns) (count : length ns ≡ servers) (some : 1 ≤ servers) (few : servers ≤ 8) where
-    s : Stations V
+    abbrev s : Stations V
     s = p.stations
 
     many : length s.all.items ≡ servers
     many = as_many ns s.all.items h.stations ∙ count
 
     there : (i : ℕ) (x : Station V) → slice_get s.all.items i ≡ Some x → Stood (i + 1) x
-    there i x at = (let same : 1 + i ≡ i + 1 = omega arith in subst (λ (m : ℕ). Stood m x) same (one_there 1 ns s.all.items h.stations new i x at))
+    there i x is = (let same : 1 + i ≡ i + 1 = omega arith in subst (λ (m : ℕ). Stood m x) same (one_there 1 ns s.all.items h.stations new i x is))
 
     gathered_on : AreOn G s
     gathered_on = record {
       some = omega (arith, many, some);
       few = omega (arith, many, few);
-      each = λ i x at. subst (λ (m : ℕ). IsManned G m (i + 1) x) (sym many) (manned_new (i + 1) x (there i x at));
+      each = λ i x is. subst (λ (m : ℕ). IsManned G m (i + 1) x) (sym many) (manned_new (i + 1) x (there i x is));
       fits = record { table = h.table; shown = λ from to two. record { more = journals_in (course_of G s) from; is = ap (λ (q : Post). q.shown ++ journals_in (course_of G s) from) (sym (h.untaken from to two)) } };
       timely = λ from to two. subst (λ (q : Post). IfSome q.last (λ z. IsTimelyMessage z.0)) (sym (h.untaken from to two)) tt;
     }

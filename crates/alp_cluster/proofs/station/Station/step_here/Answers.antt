@@ -10,7 +10,7 @@ use Rattle.alp_cluster.proofs.station.Station.step_here.Goals as goal
 pub returns-in_err-step-in-Some-Up-clause-filled : goal.returns-in_err-step-in-Some-Up-clause-filled
 returns-in_err-step-in-Some-Up-clause-filled g c =
     let is : c.args.self.now.server ≡ standing c.in-Some-Up.node = c.in-Some-Up.is ∙ ap Some c.in-Some-Up.field-0-is in
-    full_then _ _ c.in_err-step-in-Some-Up.field-0 c.from_residual.result c.in_err-step-in-Some-Up.ensures.filled (handed_on c.in_err-step-in-Some-Up.field-0 c.from_residual.result c.from_residual.ensures.0 c.from_residual.ensures.1)
+    full_then _ _ c.in_err-step-in-Some-Up.field-0.0 c.from_residual.result c.in_err-step-in-Some-Up.ensures.filled (handed_on c.in_err-step-in-Some-Up.field-0.0 c.from_residual.result c.from_residual.ensures.0 c.from_residual.ensures.1)
     (λ room n stood. (c.step.new.node, refl, subst (λ (z : NodeState _). HasNoRoom z c.step.new.node) (one_of c.args.self.now.server c.in-Some-Up.node n is stood) room))
 
 pub returns-clause-came : goal.returns-clause-came
@@ -19,8 +19,10 @@ returns-clause-came g c = λ n stood.
     (
       c.step.new.node,
       refl,
-      c.in_ok-step-in-Some-Up.field-0,
-      subst (λ (z : NodeState _). Steps g.V.Vault z.kept.is_down z c.step.new.node c.args.event c.in_ok-step-in-Some-Up.field-0) (one_of c.args.self.now.server c.in-Some-Up.node n is stood) c.in_ok-step-in-Some-Up.ensures.steps,
+      (
+        c.in_ok-step-in-Some-Up.field-0,
+        subst (λ (z : NodeState _). Steps g.V.Vault z.kept.is_down z c.step.new.node c.args.event c.in_ok-step-in-Some-Up.field-0) (one_of c.args.self.now.server c.in-Some-Up.node n is stood) c.in_ok-step-in-Some-Up.ensures.steps,
+      ),
     )
 
 pub returns-in_err-step-in-Some-Up-clause-stands : goal.returns-in_err-step-in-Some-Up-clause-stands

@@ -12,16 +12,19 @@ use Rattle.alp_cluster.proofs.station.Station.stop.Goals as goal
 pub returns-then-is_down-clause-gone : goal.returns-then-is_down-clause-gone
 returns-then-is_down-clause-gone g c =
     let (n, keeps) = c.requires.stands in
-    let set : HasStopSet g.V.Vault c.args.calls n n = record { kept = keeps.on.kept; same = record { telling = refl; sizes = refl; number = refl; of_all = refl }; faults = refl; rest = refl; down = λ is. refl } in
-    leaves_server {T = Unit {0}} g.V.Vault ⊥ c.args.self.now c.args.self.now.server n n.kept.vault (Ok tt) keeps.stands (rw keeps.stands refl) (stop_gone g.V.Vault c.args.calls n n keeps.on set ⊥ tt (λ p. p))
+    let is : c.args.self.now.server ≡ standing c.in-Some-Up.node = c.in-Some-Up.is ∙ ap Some c.in-Some-Up.field-0-is in
+    let on : IsOn g.V.Vault c.in-Some-Up.node = subst (λ (z : NodeState _). IsOn g.V.Vault z) (one_of c.args.self.now.server n c.in-Some-Up.node keeps.stands is) keeps.on in
+    let set : HasStopSet g.V.Vault c.args.calls c.in-Some-Up.node c.in-Some-Up.node = record { kept = on.kept; same = record { telling = refl; sizes = refl; number = refl; of_all = refl }; faults = refl; rest = refl; down = λ e. refl } in
+    leaves_server g.V.Vault {T = Unit {0}} ⊥ c.args.self.now (standing c.in-Some-Up.node) c.in-Some-Up.node c.in-Some-Up.node.kept.vault (Ok tt) is refl (stop_gone g.V.Vault c.args.calls c.in-Some-Up.node c.in-Some-Up.node on set ⊥ tt (λ p. p))
 
 pub returns-then-is_down-clause-went : goal.returns-then-is_down-clause-went
 returns-then-is_down-clause-went g c = λ n keeps tells.
     let is : c.args.self.now.server ≡ standing c.in-Some-Up.node = c.in-Some-Up.is ∙ ap Some c.in-Some-Up.field-0-is in
     let same : c.in-Some-Up.node ≡ n = one_of c.args.self.now.server c.in-Some-Up.node n is keeps.stands in
     let down : n.kept.is_down ≡ true = ap (λ (z : NodeState _). z.kept.is_down) (sym same) ∙ sym c.is_down.ensures ∙ c.if-is_down.true in
-    let set : HasStopSet g.V.Vault c.args.calls n n = record { kept = keeps.on.kept; same = record { telling = refl; sizes = refl; number = refl; of_all = refl }; faults = refl; rest = refl; down = λ is. refl } in
-    stop_went g.V.Vault c.args.calls tells c.args.self.now c.args.self.now n n keeps set keeps.stands (sym (ap (λ (b : Bool). cond b c.args.self.now.is_fused true) down)) refl
+    let set : HasStopSet g.V.Vault c.args.calls n n = record { kept = keeps.on.kept; same = record { telling = refl; sizes = refl; number = refl; of_all = refl }; faults = refl; rest = refl; down = λ e. refl } in
+    stop_went g.V.Vault c.args.calls tells c.args.self.now (record { server = standing c.in-Some-Up.node; ranks = c.args.self.now.ranks; is_fused = c.args.self.now.is_fused }) n n keeps set (ap standing same)
+    (sym (ap (λ (b : Bool). cond b c.args.self.now.is_fused true) down)) refl
 
 -- ---- it is up
 
@@ -38,7 +41,7 @@ returns-clause-gone g c =
       rest = c.stop_after.ensures.kept;
       down = λ is. (let wrong : true ≡ false = sym is ∙ up in cc);
     } in
-    leaves_server {T = Unit {0}} g.V.Vault ⊥ c.args.self.now (standing c.stop_after.new.self) c.in-Some-Up.node c.stop_after.new.self.kept.vault (Ok tt) is refl
+    leaves_server g.V.Vault {T = Unit {0}} ⊥ c.args.self.now (standing c.stop_after.new.self) c.in-Some-Up.node c.stop_after.new.self.kept.vault (Ok tt) is refl
     (stop_gone g.V.Vault c.args.calls c.in-Some-Up.node c.stop_after.new.self (subst (λ (z : NodeState _). IsOn g.V.Vault z) (sym same) keeps.on) set ⊥ tt (λ p. p))
 
 pub returns-clause-went : goal.returns-clause-went
