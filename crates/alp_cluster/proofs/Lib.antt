@@ -30,3 +30,4 @@ pub mod SweepLemmas
 pub mod SettleLemmas
 pub mod HandLemmas
 pub mod GatherLemmas
+pub mod AtLemmas
