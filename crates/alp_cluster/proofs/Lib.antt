@@ -31,3 +31,4 @@ pub mod SettleLemmas
 pub mod HandLemmas
 pub mod GatherLemmas
 pub mod AtLemmas
+pub mod TakeLemmas
