@@ -32,3 +32,4 @@ pub mod HandLemmas
 pub mod GatherLemmas
 pub mod AtLemmas
 pub mod TakeLemmas
+pub mod BringLemmas
