@@ -11,7 +11,7 @@ use Rattle.alp_cluster.proofs.TakeLemmas.{gone_same, rank_is}
 use Rattle.alp_cluster.proofs.stations.Stations.carry.Goals as goal
 
 pub returns-in_default-clause-gone : goal.returns-in_default-clause-gone
-returns-in_default-clause-gone g c = gone_same g.V.Vault (Unit {0}) c.args.self.now c.next_message.new.self tt c.next_message.ensures.all
+returns-in_default-clause-gone g c = gone_same g.V.Vault (Unit {0}) c.args.self.now c.next_message.new.self (tt {0}) c.next_message.ensures.all
 
 pub returns-in_default-clause-did : goal.returns-in_default-clause-did
 returns-in_default-clause-did g c =
@@ -19,8 +19,8 @@ returns-in_default-clause-did g c =
 
 pub returns-in_err-arrive-clause-gone : goal.returns-in_err-arrive-clause-gone
 returns-in_err-arrive-clause-gone g c =
-    all_on g.V.Vault (Unit {0}) c.args.self.now c.next_message.new.self c.arrive.new.self tt c.in_err-arrive.field-0.0 c.from_residual.result c.next_message.ensures.on
-    (gone_same g.V.Vault (Unit {0}) c.args.self.now c.next_message.new.self tt c.next_message.ensures.all) c.in_err-arrive.ensures.gone
+    all_on g.V.Vault (Unit {0}) c.args.self.now c.next_message.new.self c.arrive.new.self (tt {0}) c.in_err-arrive.field-0.0 c.from_residual.result c.next_message.ensures.on
+    (gone_same g.V.Vault (Unit {0}) c.args.self.now c.next_message.new.self (tt {0}) c.next_message.ensures.all) c.in_err-arrive.ensures.gone
     (handed_on c.in_err-arrive.field-0.0 c.from_residual.result c.from_residual.ensures.0 c.from_residual.ensures.1)
 
 pub returns-in_err-arrive-clause-ended : goal.returns-in_err-arrive-clause-ended
@@ -34,9 +34,9 @@ returns-in_err-arrive-clause-ended g c =
 
 pub returns-clause-gone : goal.returns-clause-gone
 returns-clause-gone g c =
-    let shown = gone_same g.V.Vault (Unit {0}) c.args.self.now c.next_message.new.self tt c.next_message.ensures.all in
-    let came = gone_both g.V.Vault (Unit {0}) c.args.self.now c.next_message.new.self c.arrive.new.self tt _ c.next_message.ensures.on shown c.in_ok-arrive.ensures.gone in
-    gone_both g.V.Vault (Unit {0}) c.args.self.now c.arrive.new.self c.take.new.self tt _ c.in_ok-arrive.ensures.came.later.on came (gone_same g.V.Vault (Unit {0}) c.arrive.new.self c.take.new.self tt c.take.ensures.all)
+    let shown = gone_same g.V.Vault (Unit {0}) c.args.self.now c.next_message.new.self (tt {0}) c.next_message.ensures.all in
+    let came = gone_both g.V.Vault (Unit {0}) c.args.self.now c.next_message.new.self c.arrive.new.self (tt {0}) _ c.next_message.ensures.on shown c.in_ok-arrive.ensures.gone in
+    gone_both g.V.Vault (Unit {0}) c.args.self.now c.arrive.new.self c.take.new.self (tt {0}) _ c.in_ok-arrive.ensures.came.later.on came (gone_same g.V.Vault (Unit {0}) c.arrive.new.self c.take.new.self (tt {0}) c.take.ensures.all)
 
 pub returns-clause-did : goal.returns-clause-did
 returns-clause-did g c =
