@@ -1,6 +1,6 @@
 -- The server at a place of a run.
-use Rattle.std.specs.Prelude.{not, Bool, true, false, slice_get, Some, Result, Ok, Err, OnOk}
-use Rattle.std.proofs.Common.{◌≡◌, ℕ, ◌-◌, ◌<◌, ◌≤◌, List, length, get_or, refl, sym, ◌∙◌, ap, arith}
+use Rattle.std.specs.Prelude.{slice_get, Some, Result, Ok, Err, OnOk}
+use Rattle.std.proofs.Common.{◌≡◌, ℕ, ◌-◌, ◌<◌, ◌≤◌, List, length, get_or, sym, ◌∙◌, ap, arith}
 use Rattle.alp_node.specs.NodeStates.{NodeState}
 use Rattle.alp_node.specs.declared.start.StartFault.TheVariants as start_fault
 use Rattle.alp_vault.specs.declared.vault.Vault.{Ghosts}
@@ -41,7 +41,3 @@ at_number {V = V} G s on server here x there n keeps =
     let both : standing mine.node ≡ standing n = sym mine.keeps.stands ∙ keeps.stands in
     let same : mine.node ≡ n = cc in
     ap (λ (k : NodeState V). k.kept.server) (sym same) ∙ mine.number_is
-
-pub not_false : (b : Bool) → not b ≡ false → b ≡ true
-not_false true h = refl
-not_false false h = (let wrong : true ≡ false = h in cc)

@@ -5,7 +5,6 @@ use Rattle.alp_course.specs.Courses.{at}
 use Rattle.alp_course.specs.Happens.{lifts}
 use Rattle.alp_course.specs.Languages.{Just}
 use Rattle.alp_cluster.specs.Stations.{Did}
-use Rattle.alp_cluster.proofs.AtLemmas.{not_false}
 use Rattle.alp_cluster.proofs.DidLemmas.{gone_both}
 use Rattle.alp_cluster.proofs.GoneLemmas.{end_map}
 use Rattle.alp_cluster.proofs.SettleLemmas.{lifted_again, lifted_cut}
@@ -16,12 +15,12 @@ returns-clause-gone g c = gone_both g.V.Vault (Unit {0}) c.args.self.now c.lift.
 
 pub returns-clause-did : goal.returns-clause-did
 returns-clause-did g c =
-    let down : c.lift.result ≡ true = not_false c.lift.result c.if-not-lift.false in
+    let down : c.lift.result ≡ true = c.if-not-lift.false in
     let lifted = subst (λ (b : Bool). Did g.V.Vault (Just (at c.args.server (lifts b) ∷ [])) c.args.self.now c.lift.new.self) down c.lift.ensures.did in
     on_ok_weaker c.restart.result (λ again. lifted_again g.V.Vault c.args.server c.args.self.now c.lift.new.self c.restart.new.self lifted again) c.restart.ensures.did
 
 pub returns-clause-ended : goal.returns-clause-ended
 returns-clause-ended g c =
-    let down : c.lift.result ≡ true = not_false c.lift.result c.if-not-lift.false in
+    let down : c.lift.result ≡ true = c.if-not-lift.false in
     let lifted = subst (λ (b : Bool). Did g.V.Vault (Just (at c.args.server (lifts b) ∷ [])) c.args.self.now c.lift.new.self) down c.lift.ensures.did in
     end_map c.restart.result _ _ (λ f some. lifted_cut g.V.Vault c.args.server f c.args.self.now c.lift.new.self c.restart.new.self lifted some) c.restart.ensures.ended
