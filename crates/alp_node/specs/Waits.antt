@@ -149,6 +149,5 @@ pub record IsOfCalls (server epoch given : ℕ) (lives : LiveMap) (ws : List Wai
 -- each of them is so, and so is the table's queue; and so far file calls alone wait
 pub record AreWaiting (server epoch given drawn : ℕ) (sizes : Sizes) (lives : LiveMap) (ws : List WaitingCall) (queue : List Waiter) : Type 0 where
   pub calls : AllByRecursion (IsWaitingCall server epoch given drawn sizes lives) ws
-  pub files : AllByRecursion (λ (w : WaitingCall). is_some w.counts ≡ true) ws
   pub apart : AreApart ws
   pub queued : AllByRecursion (IsOfCalls server epoch given lives ws) queue
