@@ -47,6 +47,10 @@ is_file_on t w = is_some w.counts && same_trans w.trans t
 abbrev pub is_at : ℕ → ℕ → WaitingCall → Bool
 is_at client number w = w.client == client && w.number == number
 
+-- it is the client's Join or Finish with this number
+abbrev pub is_other_at : ℕ → ℕ → WaitingCall → Bool
+is_other_at client number w = is_at client number w && is_none w.counts
+
 abbrev pub has_waiting : ℕ → TransId → List WaitingCall → Bool
 has_waiting client t ws = list_any (is_of client t) ws
 
@@ -80,8 +84,8 @@ grant_of t ws = list_map (grant_one t) ws
 abbrev pub without_calls_of : ℕ → TransId → List WaitingCall → List WaitingCall
 without_calls_of client t ws = filter (λ w. not (is_of client t w)) ws
 
-abbrev pub without_call_at : ℕ → ℕ → List WaitingCall → List WaitingCall
-without_call_at client number ws = filter (λ w. not (is_at client number w)) ws
+abbrev pub without_other_at : ℕ → ℕ → List WaitingCall → List WaitingCall
+without_other_at client number ws = filter (λ w. not (is_other_at client number w)) ws
 
 -- of a client's calls those that are of no dead part, and all of the others'
 abbrev pub outlives : ℕ → List DeadPart → WaitingCall → Bool
@@ -132,10 +136,9 @@ pub record IsWaitingCall (server epoch given drawn : ℕ) (sizes : Sizes) (lives
   pub named : IsNamed w
   pub file : (n : LockCounts) → w.counts ≡ Some n → IsFileCall server epoch given drawn sizes lives w n
 
--- no two file calls are of one transaction, and no two calls of one part
-pub record IsOfOther (w v : WaitingCall) : Type 0 where
-  pub files : (is_some w.counts && is_file_on w.trans v) ≡ false
-  pub parts : is_of w.client w.trans v ≡ false
+-- no two file calls are of one transaction
+abbrev pub IsOfOther : WaitingCall → WaitingCall → Type 0
+IsOfOther w v = (is_some w.counts && is_file_on w.trans v) ≡ false
 
 abbrev pub AreApart : List WaitingCall → Type 0
 AreApart [] = Unit {0}
