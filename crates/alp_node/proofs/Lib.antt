@@ -7,6 +7,8 @@ pub mod ReadyLemmas
 pub mod SeatLemmas
 pub mod GivenLemmas
 pub mod TransactionLemmas
+pub mod PairedLemmas
+pub mod NotedLemmas
 pub mod CountLemmas
 pub mod TotalLemmas
 pub mod LockCountLemmas

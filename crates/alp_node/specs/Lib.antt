@@ -1,8 +1,9 @@
 pub mod Sessions
 pub mod Orders
+pub mod Noted
 pub mod Durable
+pub mod Paired
 pub mod Transactions
-pub mod Decisions
 pub mod ServerState
 pub mod Asks
 pub mod Shapes

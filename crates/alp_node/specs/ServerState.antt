@@ -50,7 +50,7 @@ use Rattle.alp_node.specs.Sessions.{session_at}
 use Rattle.alp_node.specs.Totals.{LiveMap, totals_of, HaveRoom}
 use Rattle.alp_node.specs.Transactions.{IsCoordinatorOf, AreDecidedBy}
 use Rattle.alp_node.specs.Turns.{IsKeepable}
-use Rattle.alp_node.specs.Waits.{waiting_calls, AreWaiting}
+use Rattle.alp_node.specs.Waits.{waiting_calls, AreWaiting, AreVotersIdle}
 use Rattle.alp_turns.specs.Queues.{queue_of}
 use Rattle.alp_node.specs.declared.dead.DeadPart.{DeadPart}
 use Rattle.alp_node.specs.declared.lives.Live.{Live}
@@ -178,10 +178,10 @@ pub record AreJoinsHere (server epoch steps : ℕ) (joins : Joins) : Type 0 wher
 
 -- Whatever its vault tells: its vault serves just while it is up, the table's locks agree, nobody is woken and not taken, those who
 -- wait in it do so for calls that the server keeps, and these may be performed once they have their locks. The table knows each live
--- transaction; live parts, transactions of this server and joins of others' go together; each live part is within its limits and is not
--- among the dead, there are no more transactions than a server may have, and the log has room to apply those that voted. Nobody has a
--- file open or holds a lock on one that was not made yet, each session keeps what it may, no transaction was decided later than the
--- clock, and no count went further than so many steps.
+-- transaction; live parts, transactions of this server and joins of others' go together, and no file call waits of a part that voted;
+-- each live part is within its limits and is not among the dead, there are no more transactions than a server may have, and the log
+-- has room to apply those that voted. Nobody has a file open or holds a lock on one that was not made yet, each session keeps what it
+-- may, no transaction was decided later than the clock, and no count went further than so many steps.
 pub record IsReady {V : Type 0} (steps : ℕ) (serves : Bool) (k : ServerState V) : Type 0 where
   pub serving : k.is_down ≡ false → IsTrue serves
   pub halted : k.is_down ≡ true → serves ≡ false
@@ -192,6 +192,7 @@ pub record IsReady {V : Type 0} (steps : ℕ) (serves : Bool) (k : ServerState V
   pub seat : (server_of k.coordinator ≡ k.server) × (epoch_of k.coordinator ≡ k.epoch)
   pub joins : AreJoinsHere k.server k.epoch steps k.joins
   pub paired : ArePaired k.servers k.server k.coordinator k.joins k.lives
+  pub idle : AreVotersIdle k.joins.lives k.waits
   pub opens : (t : TransId) (l : Live) → map.get k.lives t ≡ Some l → l.part.last ≤ steps
   pub opened : (t : TransId) (l : Live) → map.get k.lives t ≡ Some l → list_all (λ o. is_given k.server k.epoch k.given o.file) l.part.opens.items ≡ true
   pub alive : AreAlive k.dead k.lives k.joins.lives

@@ -2,6 +2,7 @@
 use Rattle.std.specs.Prelude.{◌≡◌, ℕ, ◌<◌, ◌≤◌, Bool, true, false, not, ◌==◌, ◌&&◌, ◌||◌, List, [], ◌∷◌, filter, find, length, Option, None, Some, is_some, is_none, if◌then◌else◌, map as list_map}
 use Rattle.std.specs.List.{list_any, AllByRecursion}
 use Rattle.std.specs.FinMap as map
+use Rattle.alp_base.specs.declared.ids.JoinNo.{JoinNo}
 use Rattle.alp_base.specs.declared.ids.TransId.{TransId}
 use Rattle.alp_base.specs.declared.faults.Sizes.{Sizes}
 use Rattle.alp_base.specs.declared.key.Resource.TheVariants.{Whole}
@@ -10,7 +11,14 @@ use Rattle.alp_files.specs.declared.call.Call.{Call}
 use Rattle.alp_journal.specs.Counts.{log_need}
 use Rattle.alp_journal.specs.Desk.{Waiting, file_trans, part_trans}
 use Rattle.alp_journal.specs.Ids.{same_trans}
+use Rattle.alp_journal.specs.Coordinator.{client_of}
+use Rattle.alp_journal.specs.State.{is_this}
 use Rattle.alp_queue.specs.declared.waiter.Waiter.{Waiter}
+use Rattle.alp_coord.specs.Coordinators.{fate_in}
+use Rattle.alp_coord.specs.declared.coordinator.Coordinator.{Coordinator}
+use Rattle.alp_worker.specs.declared.joins.Joins.{Joins}
+use Rattle.alp_worker.specs.declared.live.LiveJoin.{LiveJoin}
+use Rattle.alp_worker.specs.Lives.{is_open, join_at, part_of}
 use Rattle.alp_node.specs.Dead.{cause_in}
 use Rattle.alp_node.specs.Shapes.{shape_of, ReadsSome}
 use Rattle.alp_node.specs.Totals.{LiveMap}
@@ -82,17 +90,16 @@ outlives client ds w = not (w.client == client) || is_none (cause_in ds client w
 abbrev pub without_dead : ℕ → List DeadPart → List WaitingCall → List WaitingCall
 without_dead client ds ws = filter (outlives client ds) ws
 
--- the live part is the client's
-abbrev pub has_part : ℕ → Option Live → Bool
-has_part client None = false
-has_part client (Some l) = l.client == client
+-- the client has a live part of the transaction: it runs here for the client, or is finishing, or the client has a live join of it
+abbrev pub has_part : ℕ → Coordinator → Joins → TransId → Bool
+has_part client c k t = is_this client (client_of (fate_in c t)) || is_some (part_of client t k.lives)
 
 -- of a client's calls those that are of a live part, and all of the others'
-abbrev pub stays : ℕ → LiveMap → WaitingCall → Bool
-stays client lives w = not (w.client == client) || has_part client (map.get lives w.trans)
+abbrev pub stays : ℕ → Coordinator → Joins → WaitingCall → Bool
+stays client c k w = not (w.client == client) || has_part client c k w.trans
 
-abbrev pub live_calls : ℕ → LiveMap → List WaitingCall → List WaitingCall
-live_calls client lives ws = filter (stays client lives) ws
+abbrev pub live_calls : ℕ → Coordinator → Joins → List WaitingCall → List WaitingCall
+live_calls client c k ws = filter (stays client c k) ws
 
 -- ---- what is so of them between two steps, whatever the vault tells
 
@@ -113,11 +120,12 @@ pub record IsWithinLimits (server epoch given : ℕ) (sizes : Sizes) (w : Waitin
   pub locks : n.made ≤ 1024
   pub log : log_need l.part.counts.cells n.made ≤ sizes.area
 
--- a file call is one of the grammar, of a transaction that was begun, and within the limits of its part as long as that is live
+-- A file call is one of the grammar, and within the limits of its part as long as that is live. A transaction of this server was begun
+-- of which one waits.
 pub record IsFileCall (server epoch given drawn : ℕ) (sizes : Sizes) (lives : LiveMap) (w : WaitingCall) (n : LockCounts) : Type 0 where
   pub formed : IsFormed w.call
   pub some : ReadsSome w.call
-  pub begun : w.trans.counter ≤ drawn
+  pub begun : w.trans.server ≡ server → w.trans.counter ≤ drawn
   pub limits : (l : Live) → map.get lives w.trans ≡ Some l → IsWithinLimits server epoch given sizes w n l
 
 pub record IsWaitingCall (server epoch given drawn : ℕ) (sizes : Sizes) (lives : LiveMap) (w : WaitingCall) : Type 0 where
@@ -146,8 +154,12 @@ pub record IsOfCalls (server epoch given : ℕ) (lives : LiveMap) (ws : List Wai
   pub asks : asks_for ws x.trans ≡ true
   pub beyond : (n : ℕ) → given < n → map.get x.after (Whole (record { server = server; epoch = epoch; counter = n })) ≡ None
 
--- each of them is so, and so is the table's queue; and so far file calls alone wait
+-- each of them is so, and so is the table's queue
 pub record AreWaiting (server epoch given drawn : ℕ) (sizes : Sizes) (lives : LiveMap) (ws : List WaitingCall) (queue : List Waiter) : Type 0 where
   pub calls : AllByRecursion (IsWaitingCall server epoch given drawn sizes lives) ws
   pub apart : AreApart ws
   pub queued : AllByRecursion (IsOfCalls server epoch given lives ws) queue
+
+-- no file call waits of a transaction whose part here voted
+abbrev pub AreVotersIdle : List LiveJoin → List WaitingCall → Type 0
+AreVotersIdle ls ws = (j : JoinNo) (x : LiveJoin) → join_at ls j ≡ Some x → is_open x.stage ≡ false → has_file_on x.trans ws ≡ false
