@@ -200,7 +200,7 @@ pub fated_noted : (server servers epoch : ℕ) (lives : LiveMap) (joins : Joins)
 fated_noted server servers epoch lives joins before after notes h n = record {
   epoch = n.epoch;
   ready = n.ready;
-  decided = λ t. n.decided t ∙ sym (h.fates t).noted;
+  decided = λ t fits. n.decided t fits ∙ sym (h.fates t).noted;
   format = n.format;
 }
 

@@ -67,8 +67,8 @@ says_on s m n h k = record {
 pub notes_along : (s m : State) (epoch : ℕ) (notes : Notes) → SaysAsBefore s m → AreNotesOf s epoch notes → AreNotesOf m epoch notes
 notes_along s m epoch notes h k = record {
   clock = k.clock ∙ (λ i. record { epoch = epoch; clock = h.kept (~ i) });
-  ready = λ j. h.ready j (ready_at notes j) (k.ready j);
-  decided = λ t. k.decided t ∙ sym (h.decided t);
+  ready = λ j fits. h.ready j (ready_at notes j) (k.ready j fits);
+  decided = λ t fits. k.decided t fits ∙ sym (h.decided t);
   format = λ name value is. subst (λ (n : ℕ). is_server_note n m.servers name value ≡ true) (sym h.server) (subst (λ (n : ℕ). is_server_note s.holder.server n name value ≡ true) (sym h.servers) (k.format name value is));
 }
 
