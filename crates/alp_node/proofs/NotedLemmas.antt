@@ -128,7 +128,7 @@ module _ (m now : LiveMap) where
   pub noted_on : (server servers epoch : ℕ) (joins : Joins) (c : Coordinator) (notes : Notes) → AreVotersAlike m now joins.lives → AreNoted server servers epoch m joins c notes → AreNoted server servers epoch now joins c notes
   noted_on server servers epoch joins c notes alike h = record {
     epoch = h.epoch;
-    ready = λ j. at j (join_at joins.lives j) refl (ready_at notes j) (h.ready j);
+    ready = λ j fits. at j (join_at joins.lives j) refl (ready_at notes j) (h.ready j fits);
     decided = h.decided;
     format = h.format;
   }
@@ -146,7 +146,7 @@ module _ (m now : LiveMap) where
 -- another coordinator, of which the same decisions stand
 pub noted_decided : (server servers epoch : ℕ) (m : LiveMap) (joins : Joins) (before after : Coordinator) (notes : Notes) → ((t : TransId) → decision_kept (fate_in after t) ≡ decision_kept (fate_in before t)) → AreNoted server servers epoch m joins before notes
     → AreNoted server servers epoch m joins after notes
-noted_decided server servers epoch m joins before after notes same h = record { epoch = h.epoch; ready = h.ready; decided = λ t. h.decided t ∙ sym (same t); format = h.format }
+noted_decided server servers epoch m joins before after notes same h = record { epoch = h.epoch; ready = h.ready; decided = λ t fits. h.decided t fits ∙ sym (same t); format = h.format }
 
 -- ---- by what the journal says
 
@@ -155,8 +155,8 @@ pub notes_on : (s m : State) (epoch : ℕ) (notes : Notes) → m.holder.kept ≡
     → ((j : JoinNo) (x : Option ReadyPart) → IsReadyNote s.holder.lives (s.phases j) x → IsReadyNote m.holder.lives (m.phases j) x) → AreNotesOf s epoch notes → AreNotesOf m epoch notes
 notes_on s m epoch notes kept server servers fates ready h = record {
   clock = h.clock ∙ ap (λ (n : ℕ). record { epoch = epoch; clock = n }) (sym kept);
-  ready = λ j. ready j (ready_at notes j) (h.ready j);
-  decided = λ t. h.decided t ∙ sym (fates t);
+  ready = λ j fits. ready j (ready_at notes j) (h.ready j fits);
+  decided = λ t fits. h.decided t fits ∙ sym (fates t);
   format = subst (λ (n : ℕ). AreServerNotes n m.servers notes) (sym server) (subst (λ (n : ℕ). AreServerNotes s.holder.server n notes) (sym servers) h.format);
 }
 

@@ -7,6 +7,8 @@ use Rattle.alp_base.specs.declared.ids.JoinNo.{JoinNo}
 use Rattle.alp_base.specs.declared.ids.TransId.{TransId}
 use Rattle.alp_base.specs.declared.key.Resource.{Resource}
 use Rattle.alp_fields.specs.ClockNote.{clock_kept}
+use Rattle.alp_fields.specs.DecisionNote.{decision_name}
+use Rattle.alp_fields.specs.ReadyNote.{ready_name}
 use Rattle.alp_fields.specs.declared.ready_note.ReadyPart.{ReadyPart}
 use Rattle.alp_files.specs.Changes.{edits_of}
 use Rattle.alp_files.specs.Edits.{edits_map}
@@ -46,8 +48,8 @@ IsReadyNote lives phase x = x ≡ None
 -- outcome is not known; each decision that a part on another server has not applied. Nothing else stands.
 pub record AreNotesOf (s : State) (epoch : ℕ) (notes : Notes) : Type 0 where
   pub clock : clock_kept notes ≡ record { epoch = epoch; clock = s.holder.kept }
-  pub ready : (j : JoinNo) → IsReadyNote s.holder.lives (s.phases j) (ready_at notes j)
-  pub decided : (t : TransId) → decision_at notes t ≡ decision_kept (s.fates t)
+  pub ready : (j : JoinNo) → ready_name.Fits j → IsReadyNote s.holder.lives (s.phases j) (ready_at notes j)
+  pub decided : (t : TransId) → decision_name.Fits t → decision_at notes t ≡ decision_kept (s.fates t)
   pub format : AreServerNotes s.holder.server s.servers notes
 
 -- the vault has the cells that the journal says, and its notes, of that epoch

@@ -89,8 +89,8 @@ IsNotedJoin lives (Some l) x = IsNotedAs lives l l.stage x
 
 pub record AreNoted (server servers epoch : ℕ) (lives : LiveMap) (joins : Joins) (c : Coordinator) (notes : Notes) : Type 0 where
   pub epoch : (clock_kept notes).epoch ≡ epoch
-  pub ready : (j : JoinNo) → IsNotedJoin lives (join_at joins.lives j) (ready_at notes j)
-  pub decided : (t : TransId) → decision_at notes t ≡ decision_kept (fate_in c t)
+  pub ready : (j : JoinNo) → ready_name.Fits j → IsNotedJoin lives (join_at joins.lives j) (ready_at notes j)
+  pub decided : (t : TransId) → decision_name.Fits t → decision_at notes t ≡ decision_kept (fate_in c t)
   pub format : AreServerNotes server servers notes
 
 abbrev pub AreNotesFor : {V : Type 0} → ServerState V → Notes → Type 0
