@@ -18,16 +18,16 @@ use Rattle.alp_node.specs.Rooms.{IsWithin}
 use Rattle.alp_node.specs.ServerState.{IsReady}
 use Rattle.alp_node.specs.declared.server_state.ServerState.{ServerState}
 use Rattle.alp_node.specs.Totals.{LiveMap, totals_of, HaveRoom}
-use Rattle.alp_node.specs.Transactions.{owner_of}
+use Rattle.alp_node.specs.Noted.{size_of, size_in, HasReadyRoom}
 use Rattle.alp_node.specs.declared.lives.Live.{Live}
 use Rattle.alp_node.specs.declared.waits.WaitingCall.{WaitingCall}
-use Rattle.alp_node.specs.Dead.{cause_in}
 use Rattle.alp_node.proofs.WaitLemmas.{IsLikePart, IsLikeThen, like_itself, waiting_parts}
 use Rattle.alp_node.proofs.KeysOnce.{AreOnce}
 use Rattle.alp_node.proofs.KeptLemmas.{same_live}
 use Rattle.alp_node.proofs.MapLemmas.{get_put, put_length}
 use Rattle.alp_node.proofs.TotalLemmas.{among, swapped_room}
-use Rattle.alp_node.proofs.TransactionLemmas.{own_alike}
+use Rattle.alp_node.proofs.NotedLemmas.{voters_same, room_on}
+use Rattle.alp_node.proofs.PairedLemmas.{AreTheirs, whose_of, paired_on, alive_on}
 
 -- ---- one part
 

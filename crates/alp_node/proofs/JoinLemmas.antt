@@ -15,7 +15,7 @@ use Rattle.alp_vault.specs.Contents.{Contents}
 use Rattle.alp_vault.specs.declared.vault.Vault.{Ghosts}
 use Rattle.alp_journal.specs.declared.event.Event.TheVariants as event
 use Rattle.alp_journal.specs.Answers.{AtWork, part_at}
-use Rattle.alp_journal.specs.Answered.{is_fault_reply}
+use Rattle.alp_journal.specs.Answered.{is_read_fault}
 use Rattle.alp_journal.specs.Desk.{Session, Waiting, waiting_of}
 use Rattle.alp_journal.specs.Holder.{Life}
 use Rattle.alp_journal.specs.Account.{Account, state_of}
@@ -97,7 +97,7 @@ module _ {V : Type 0} (a : Account) (before now : ℕ) (held : Contents) (k : Se
 
 -- a step by which the client's dead parts go
 pub buried_step : {V : Type 0} (G : Ghosts V) (k new : ServerState V) (turn : Turn) (t : TransId) (x : Answer) (r : Reply) → new ≡ record (buried k turn.client) { sessions = counted_in k.sessions turn r } → IsTurn k.sessions turn → k.is_down ≡ false
-    → (is_fault_reply k.server (Some r) || says_shut (Some r)) ≡ false → IsKeepable k.clock r → TellsRun None r → x ≡ told_answer (Some r) []
+    → (is_read_fault (Some r) || says_shut (Some r)) ≡ false → IsKeepable k.clock r → TellsRun None r → x ≡ told_answer (Some r) []
     → (IsTrue (G.tells k.vault) → (a : Account) → IsAs a (G.held k.vault) k
     → Stepped a (G.faults k.vault) (G.faults k.vault) (G.held k.vault) (record (buried k turn.client) { sessions = counted_in k.sessions turn r }) (event.Call turn.client k.epoch turn.number (call.Join t)) x)
     → IsStep G k new (event.Call turn.client k.epoch turn.number (call.Join t)) (Ok x)

@@ -10,6 +10,7 @@ use Rattle.alp_files.specs.declared.open.Open.{Open}
 use Rattle.alp_files.specs.declared.refusal.Cause.{Cause}
 use Rattle.alp_files.specs.declared.reply.Reply.{Reply}
 use Rattle.alp_journal.specs.Counts.{log_need}
+use Rattle.alp_journal.specs.declared.act.Act.{Act}
 use Rattle.alp_journal.specs.Ids.{same_trans}
 use Rattle.alp_journal.specs.Moves.{is_stop}
 use Rattle.alp_journal.proofs.IdLemmas.{same_trans-itself, same_trans-true}
@@ -34,7 +35,7 @@ use Rattle.alp_node.specs.ServerState.{AreAlive, IsReady}
 use Rattle.alp_node.specs.Steps.{IsTurn, counted_in, ended}
 use Rattle.alp_node.specs.Totals.{LiveMap}
 use Rattle.alp_node.specs.Turns.{IsKeepable}
-use Rattle.alp_node.specs.Waits.{is_file_on, count_asked, locks_in, locks_of, has_file_on, grant_of, without_calls_of, IsWithinLimits, IsFileCall, IsWaitingCall, IsOfCalls}
+use Rattle.alp_node.specs.Waits.{is_file_on, count_asked, locks_in, locks_of, has_file_on, grant_of, without_calls_of, IsWithinLimits, IsFileCall, IsWaitingCall, IsOfCalls, AreVotersIdle}
 use Rattle.alp_node.specs.declared.dead.DeadPart.{DeadPart}
 use Rattle.alp_node.specs.declared.lives.Live.{Live}
 use Rattle.alp_node.specs.declared.server_state.ServerState.{ServerState}
@@ -44,8 +45,8 @@ use Rattle.alp_node.proofs.DeadLemmas.{part_left, alive_still, dead_then}
 use Rattle.alp_node.proofs.LockedLemmas.{locked_each, locked_length, locked_live, locked_none, granted_locks, locked_theirs, locked_voters}
 use Rattle.alp_node.proofs.MapLemmas.{get_gone, tied_same, gone_length}
 use Rattle.alp_node.proofs.ReadyLemmas.{LetsPart, gone_kept, gone_ready, counted_ready, buried_ready, without_ready, live_others, turned}
-use Rattle.alp_node.proofs.NotedLemmas.{room_on}
-use Rattle.alp_node.proofs.PairedLemmas.{paired_on, alive_on}
+use Rattle.alp_node.proofs.NotedLemmas.{AreVotersAlike, HasNoVoter, voters_same, voters_then, voters_gone, room_on}
+use Rattle.alp_node.proofs.PairedLemmas.{own_unjoined, paired_on, alive_on}
 use Rattle.alp_node.proofs.WaitLemmas.{find_each, counts_there, file_counts, file_at, call_later, IsLikePart, like_itself, grant_call, grant_apart, grant_asks, idle_granted, called_unvoted}
 use Rattle.alp_node.proofs.WithinLemmas.{log_most}
 
@@ -232,6 +233,28 @@ let_go_parts P k t all = granted_parts P (released k.locks t).woken (record k { 
     left u l true is = let wrong : None ≡ Some l = is in cc
     left u l false is = all u l is
 
+-- the parts that voted have the sizes that they had
+voters_granted : {V : Type 0} (ls : List LiveJoin) (ts : List TransId) (k : ServerState V) → AreVotersIdle ls k.waits → AreVotersAlike k.lives (granted_all k ts).lives ls
+voters_granted ls [] k idle = voters_same k.lives k.lives ls (λ u. refl)
+voters_granted ls (t ∷ ts) k idle =
+    voters_then k.lives (granted_one k t).lives (granted_all (granted_one k t) ts).lives ls (one (locks_of t k.waits) refl) (voters_granted ls ts (granted_one k t) (still (locks_of t k.waits)))
+  where
+    one : (x : Option ℕ) → locks_of t k.waits ≡ x → AreVotersAlike k.lives (granted_if k t x).lives ls
+    one None e = voters_same k.lives k.lives ls (λ u. refl)
+    one (Some m) e = locked_voters k.lives t m ls (called_unvoted ls k.waits t idle (calls_there t k.waits m e))
+
+    still : (x : Option ℕ) → AreVotersIdle ls (granted_if k t x).waits
+    still None = idle
+    still (Some m) = idle_granted t ls k.waits idle
+
+pub let_go_alike : {V : Type 0} (n : ℕ) (serves : Bool) (k : ServerState V) (t : TransId) → IsReady n serves k → HasNoVoter k.joins.lives t → AreVotersAlike k.lives (let_go k t).lives k.joins.lives
+let_go_alike n serves k t h none =
+    voters_then k.lives (map.remove k.lives t) (let_go k t).lives k.joins.lives (voters_gone k.lives t k.joins.lives none)
+    (voters_granted k.joins.lives (released k.locks t).woken (record k { lives = map.remove k.lives t; locks = record (released k.locks t) { woken = [] } }) h.idle)
+
+pub let_go_voters : {V : Type 0} (n : ℕ) (serves : Bool) (k : ServerState V) (t : TransId) → IsReady n serves k → t.server ≡ k.server → AreVotersAlike k.lives (let_go k t).lives k.joins.lives
+let_go_voters n serves k t h own = let_go_alike n serves k t h (λ j x is voted. own_unjoined k.servers k.server k.coordinator k.joins k.lives h.paired t own j x is)
+
 pub let_go_most : {V : Type 0} (k : ServerState V) (t : TransId) → map.len (let_go k t).lives ≤ map.len k.lives
 let_go_most k t =
     let same : map.len (let_go k t).lives ≡ map.len (map.remove k.lives t) = granted_length (released k.locks t).woken (record k { lives = map.remove k.lives t; locks = record (released k.locks t) { woken = [] } }) in
@@ -329,3 +352,12 @@ grants_go_on (t ∷ ts) = grants_go_on ts
 pub grants_caused : (before now : ℕ) (allowance : Allowance) (ts : List TransId) → HaveCauses before now allowance (grant_acts ts)
 grants_caused before now allowance [] = tt
 grants_caused before now allowance (t ∷ ts) = grants_caused before now allowance ts
+
+-- nor by what comes behind them
+pub grants_go_with : (ts : List TransId) (more : List Act) → list_any is_stop more ≡ false → list_any is_stop (grant_acts ts ++ more) ≡ false
+grants_go_with [] more none = none
+grants_go_with (t ∷ ts) more none = grants_go_with ts more none
+
+pub grants_caused_with : (before now : ℕ) (allowance : Allowance) (ts : List TransId) (more : List Act) → HaveCauses before now allowance more → HaveCauses before now allowance (grant_acts ts ++ more)
+grants_caused_with before now allowance [] more h = h
+grants_caused_with before now allowance (t ∷ ts) more h = grants_caused_with before now allowance ts more h

@@ -207,8 +207,8 @@ returns g c =
           commit_stepped a (G.faults k.vault) (G.faults v) (G.held k.vault) (G.held v) k turn t live v mid z c.requires.ready.0 (G.serves k.vault) h c.requires.ready.2 c.requires.turn c.requires.up c.requires.clock c.requires.here there own
           (waits_none a (G.held k.vault) k turn.client t live c.requires.ready.0 (G.serves k.vault) h c.requires.ready.2 there own c.requires.idle) fits first finished second decided x blocks (c.in_ok-blocks.ensures told live there) (stored.cells told) stored.notes so;
       given =
-          reply_given k.server (G.faults k.vault) (G.faults v) (G.allowance v) (let_go k t).is_down (reply.Committed stamp) acts x so
-          (counts_none k.server (G.faults k.vault) (G.faults v) (let_go k t).is_down (Some (reply.Committed stamp)) refl stored.ended.1 (ap (λ (y : ServerState _). y.is_down) (let_go_of k t) ∙ c.requires.up))
+          reply_given (G.faults k.vault) (G.faults v) (G.allowance v) (let_go k t).is_down (reply.Committed stamp) acts x so
+          (counts_none (G.faults k.vault) (G.faults v) (let_go k t).is_down (Some (reply.Committed stamp)) refl stored.ended.1 (ap (λ (y : ServerState _). y.is_down) (let_go_of k t) ∙ c.requires.up))
           (ap (λ (y : ServerState _). y.is_down) (let_go_of k t) ∙ c.requires.up ∙ sym (grants_go_on (granted_behind k t))) (grants_caused (G.faults k.vault) (G.faults v) (G.allowance v) (granted_behind k t));
       ready = λ n h.
           eased_ready (n + 1) (G.serves v) (record (let_go k t) { sessions = counted_in k.sessions turn (reply.Committed stamp); clock = k.clock + 1; coordinator = z; vault = v }) blocks (map.keys k.lives)
