@@ -4,3 +4,4 @@ mod StableSorts
 pub mod RiseLemmas
 pub mod BackLemmas
 pub mod NotedLemmas
+pub mod NoteViews
