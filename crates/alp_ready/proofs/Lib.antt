@@ -5,3 +5,4 @@ pub mod RiseLemmas
 pub mod BackLemmas
 pub mod NotedLemmas
 pub mod NoteViews
+pub mod NoteSizes
