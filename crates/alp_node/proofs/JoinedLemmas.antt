@@ -58,7 +58,8 @@ use Rattle.std.specs.Option.{option_map}
 use Rattle.std.proofs.lemmas.Bool.{or_parts}
 use Rattle.alp_node.specs.Arrivals.{join_of}
 use Rattle.alp_node.specs.Asks.{is_given}
-use Rattle.alp_node.specs.Noted.{AreNoted, IsNotedAs, IsNotedJoin, HasReadyRoom, ready_room, ready_at, size_in}
+use Rattle.alp_ready.specs.NoteLooks.{ready_at}
+use Rattle.alp_node.specs.Noted.{AreNoted, IsNotedAs, IsNotedJoin, HasReadyRoom, ready_room, size_in}
 use Rattle.alp_node.specs.Paired.{is_in, ArePaired}
 use Rattle.alp_node.specs.Releases.{with_trans}
 use Rattle.alp_node.specs.Rooms.{IsWithin}

@@ -84,3 +84,9 @@ pub mod GoneLemmas
 pub mod EndingLemmas
 pub mod OutcomeLemmas
 pub mod JoinLemmas
+mod NoteLaw
+mod FatedLemmas
+mod SayLemmas
+mod ArrivalLemmas
+mod JoinMoves
+mod JoinedLemmas

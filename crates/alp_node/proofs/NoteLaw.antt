@@ -39,7 +39,8 @@ use Rattle.alp_journal.specs.State.{State, state_deed, has_part}
 use Rattle.alp_journal.proofs.IdLemmas.{same_trans-true, same_join-true, all-append}
 use Rattle.alp_journal.proofs.Origins.{all-cond}
 use Rattle.alp_node.specs.Durable.{IsKeptIf, IsReadyNote, AreNotesOf}
-use Rattle.alp_node.specs.Noted.{ready_at, decision_kept}
+use Rattle.alp_ready.specs.NoteLooks.{ready_at}
+use Rattle.alp_node.specs.Noted.{decision_kept}
 use Rattle.alp_vault.specs.Volumes.{is_server_note}
 
 -- ---- what the notes say

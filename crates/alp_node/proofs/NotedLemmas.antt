@@ -31,7 +31,8 @@ use Rattle.alp_worker.specs.Lives.{is_open, is_at, join_at, phase_in, AreOnce}
 use Rattle.alp_worker.specs.Rooms.{sum_of}
 use Rattle.alp_worker.specs.Walks.{ready_in}
 use Rattle.alp_node.specs.Durable.{IsKeptIf, IsReadyNote, AreNotesOf}
-use Rattle.alp_node.specs.Noted.{ready_at, decision_kept, size_of, size_in, ready_room, HasSize, IsNotedAs, IsNotedJoin, AreNoted}
+use Rattle.alp_ready.specs.NoteLooks.{ready_at}
+use Rattle.alp_node.specs.Noted.{decision_kept, size_of, size_in, ready_room, HasSize, IsNotedAs, IsNotedJoin, AreNoted}
 use Rattle.alp_node.specs.Totals.{LiveMap}
 use Rattle.alp_node.specs.declared.lives.Live.{Live}
 use Rattle.alp_node.proofs.MapLemmas.{get_put, get_gone}

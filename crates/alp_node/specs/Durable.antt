@@ -25,7 +25,8 @@ use Rattle.alp_journal.specs.Holder.{Life}
 use Rattle.alp_journal.specs.Moves.{tried}
 use Rattle.alp_journal.specs.Participant.{Phase, Ready}
 use Rattle.alp_journal.specs.State.{State, state_deed}
-use Rattle.alp_node.specs.Noted.{ready_at, decision_at, decision_kept}
+use Rattle.alp_ready.specs.NoteLooks.{ready_at, decision_at}
+use Rattle.alp_node.specs.Noted.{decision_kept}
 
 -- ---- what is held
 

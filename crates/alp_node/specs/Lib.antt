@@ -27,3 +27,5 @@ pub mod NodeStates
 pub mod Nodes
 pub mod DownStates
 pub mod Downs
+pub mod Arrivals
+pub mod Says

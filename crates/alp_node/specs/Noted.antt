@@ -1,18 +1,17 @@
 -- The notes of a server by what it keeps, whatever its vault tells: one of its epoch; one of each part that voted and whose outcome is
 -- not known; one of each decision that a part on another server has not applied. Nothing else stands.
 use Rattle.std.specs.Prelude.{◌≡◌, ℕ, ◌≤◌, List, ◌∷◌, length, Option, None, Some, map as list_map}
-use Rattle.std.specs.Option.{option_and_then}
 use Rattle.std.specs.FinMap as map
 use Rattle.alp_base.specs.Notes.{Notes}
 use Rattle.alp_base.specs.declared.faults.Sizes.{Sizes}
 use Rattle.alp_base.specs.declared.ids.JoinNo.{JoinNo}
 use Rattle.alp_base.specs.declared.ids.TransId.{TransId}
-use Rattle.alp_fields.specs.Forms.{whole}
 use Rattle.alp_fields.specs.ClockNote.{clock_kept}
-use Rattle.alp_fields.specs.ReadyNote.{ready_name, ready_form}
-use Rattle.alp_fields.specs.DecisionNote.{decision_name, decision_form}
+use Rattle.alp_fields.specs.ReadyNote.{ready_name}
+use Rattle.alp_fields.specs.DecisionNote.{decision_name}
 use Rattle.alp_fields.specs.declared.ready_note.ReadyPart.{ReadyPart}
 use Rattle.alp_fields.specs.declared.decision_note.Decision.{Decision}
+use Rattle.alp_ready.specs.NoteLooks.{ready_at, decision_at}
 use Rattle.alp_vault.specs.Volumes.{AreServerNotes, changed_cells}
 use Rattle.alp_journal.specs.Coordinator.{Fate, Committed}
 use Rattle.alp_journal.specs.Counts.{ready_sum}
@@ -31,14 +30,7 @@ use Rattle.alp_node.specs.declared.lives.Live.{Live}
 use Rattle.alp_node.specs.declared.server_state.ServerState.{ServerState}
 use Rattle.alp_node.specs.Totals.{LiveMap}
 
--- ---- what one note keeps
-
--- the part of that join, where a note keeps one
-abbrev pub ready_at : Notes → JoinNo → Option ReadyPart
-ready_at notes j = option_and_then (λ value. whole ready_form value) (map.get notes (ready_name.spell j))
-
-abbrev pub decision_at : Notes → TransId → Option Decision
-decision_at notes t = option_and_then (λ value. whole decision_form value) (map.get notes (decision_name.spell t))
+-- ---- decisions
 
 -- a decision with joins that is not forgotten
 abbrev pub decision_kept : Fate → Option Decision
