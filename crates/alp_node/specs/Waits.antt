@@ -8,6 +8,7 @@ use Rattle.alp_base.specs.declared.faults.Sizes.{Sizes}
 use Rattle.alp_base.specs.declared.key.Resource.TheVariants.{Whole}
 use Rattle.alp_files.specs.Locks.{IsFormed}
 use Rattle.alp_files.specs.declared.call.Call.{Call}
+use Rattle.alp_files.specs.declared.call.Call.TheVariants as call
 use Rattle.alp_journal.specs.Counts.{log_need}
 use Rattle.alp_journal.specs.Desk.{Waiting, file_trans, part_trans}
 use Rattle.alp_journal.specs.Ids.{same_trans}
@@ -50,6 +51,19 @@ is_at client number w = w.client == client && w.number == number
 -- it is the client's Join or Finish with this number
 abbrev pub is_other_at : ℕ → ℕ → WaitingCall → Bool
 is_other_at client number w = is_at client number w && is_none w.counts
+
+-- the transaction of a Finish, and of a Join
+abbrev pub finish_trans : Call → Option TransId
+finish_trans (call.Finish t commit) = Some t
+finish_trans c = None
+
+abbrev pub join_trans : Call → Option TransId
+join_trans (call.Join t) = Some t
+join_trans c = None
+
+-- such a call of the client on the transaction waits, by that number
+abbrev pub HasOtherAt : (Call → Option TransId) → ℕ → ℕ → TransId → List WaitingCall → Type 0
+HasOtherAt of client number t ws = (w : WaitingCall) × (find (is_at client number) ws ≡ Some w) × (w.counts ≡ None) × (file_trans w.call ≡ None) × (of w.call ≡ Some t)
 
 abbrev pub has_waiting : ℕ → TransId → List WaitingCall → Bool
 has_waiting client t ws = list_any (is_of client t) ws
