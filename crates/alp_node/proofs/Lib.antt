@@ -10,6 +10,7 @@ pub mod NotedLemmas
 pub mod NoteLaw
 pub mod NoteCalls
 pub mod ClearLemmas
+pub mod OtherLemmas
 pub mod FatedLemmas
 pub mod JoinMoves
 pub mod JoinedLemmas

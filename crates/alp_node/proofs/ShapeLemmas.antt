@@ -236,7 +236,7 @@ module _ {V : Type 0} (a : Account) (held : Contents) (k : ServerState V) (h : I
 
 -- a file call is refused for its shape
 pub shape_stepped : {V : Type 0} (a : Account) (before now : ℕ) (held : Contents) (k : ServerState V) (turn : Turn) (t : TransId) (c : Call) (f : Refusal) (x : Answer) → IsAs a held k → 0 < k.epoch → IsTurn k.sessions turn → k.is_down ≡ false
-    → file_trans c ≡ Some t → IsServedCall c → standing_of turn.client (map.get k.lives t) (cause_in k.dead turn.client t) ≡ standing.Work → waiting_of (state_of a).desk turn.client t ≡ None → (l : Live) → map.get k.lives t ≡ Some l
+    → file_trans c ≡ Some t → IsServedCall c → standing_of k turn.client t ≡ standing.Work → waiting_of (state_of a).desk turn.client t ≡ None → (l : Live) → map.get k.lives t ≡ Some l
     → shape_of k.server k.epoch k.given (length l.part.opens.items) c ≡ Some f → x ≡ refused_answer f []
     → Stepped a before now held (record k { sessions = counted_in k.sessions turn (reply.Refused f) }) (event.Call turn.client k.epoch turn.number c) x
 shape_stepped a before now held k turn t c f x h raised is up named served own idle l there e so =

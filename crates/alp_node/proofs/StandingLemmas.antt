@@ -11,10 +11,10 @@ use Rattle.alp_files.specs.declared.refusal.Cause.TheVariants as cause
 use Rattle.alp_files.specs.declared.refusal.Refusal.{Refusal}
 use Rattle.alp_files.specs.declared.reply.Reply.{Reply}
 use Rattle.alp_vault.specs.Contents.{Contents}
-use Rattle.alp_journal.specs.Account.{Account, state_of}
+use Rattle.alp_journal.specs.Account.{Account, state_of, IsSettled, HasWaits}
 use Rattle.alp_journal.specs.Along.{Where}
 use Rattle.alp_journal.specs.Answers.{Part, NoPart, AtJoining, AtWork, AtFinish, AtReady, AtEnd, ended_part, own_part, phase_part, join_part, part_at, at_part, part_refusal}
-use Rattle.alp_journal.specs.Coordinator.{Fate, Undrawn, Running, Finishing, Committed, Forgotten, Ended, client_of}
+use Rattle.alp_journal.specs.Coordinator.{Fate, Vote, Undrawn, Running, Finishing, Committed, Forgotten, Ended, client_of}
 use Rattle.alp_journal.specs.Deeds.{Deed, Finishes, Ends}
 use Rattle.alp_journal.specs.Desk.{Desk, Waiting, waiting_of, is_of_part}
 use Rattle.alp_journal.specs.Holder.{Life}
@@ -45,7 +45,7 @@ use Rattle.alp_node.specs.declared.served.Standing.TheVariants as standing
 use Rattle.alp_node.specs.declared.server_state.ServerState.{ServerState}
 use Rattle.alp_node.proofs.BesideLemmas.{AreNamed, idle_told, IsBusy, busy_told}
 use Rattle.alp_node.proofs.NotedLemmas.{HasNoVoter, found_at}
-use Rattle.alp_node.proofs.PairedLemmas.{own_unjoined, running_part}
+use Rattle.alp_node.proofs.PairedLemmas.{own_unjoined, own_client, running_part}
 
 -- the part that the journal says
 abbrev pub IsPartFor : Standing → Part → Type 0
@@ -161,6 +161,48 @@ module _ {V : Type 0} (a : Account) (held : Contents) (k : ServerState V) (clien
   pub unvoted_told : standing_of k client t ≡ standing.Work → (life : Life) → a.holder.lives t ≡ Some life → IsAtWork a t life
   unvoted_told is life live = at_work_open a h.quiet.settled.stands t life live client (part_told standing.Work is)
 
+-- whoever asks to be let in waits for it
+pub joining_waits : (a : Account) (client : ℕ) (t : TransId) → IsSettled a → part_at (state_of a) client t ≡ AtJoining → IsSome (waiting_of (state_of a).desk client t)
+joining_waits a client t q is = go (t.server == a.holder.server) is
+  where
+    ended : (d : Option Cause) → ended_part d ≡ AtJoining → ⊥
+    ended None e = let wrong : NoPart ≡ AtJoining = e in cc
+    ended (Some c) e = let wrong : AtEnd c ≡ AtJoining = e in cc
+
+    runs : (b : Bool) → cond {A = Part} b AtWork NoPart ≡ AtJoining → ⊥
+    runs true e = let wrong : AtWork ≡ AtJoining = e in cc
+    runs false e = let wrong : NoPart ≡ AtJoining = e in cc
+
+    ends : (b : Bool) → cond {A = Part} b AtFinish NoPart ≡ AtJoining → ⊥
+    ends true e = let wrong : AtFinish ≡ AtJoining = e in cc
+    ends false e = let wrong : NoPart ≡ AtJoining = e in cc
+
+    own : (f : Fate) → own_part client (a.dead client t) f ≡ AtJoining → ⊥
+    own Undrawn e = ended (a.dead client t) e
+    own (Running c js) e = runs (c == client) e
+    own (Finishing c js vs) e = ends (c == client) e
+    own (Committed s js ds) e = ended (a.dead client t) e
+    own (Forgotten s js) e = ended (a.dead client t) e
+    own (Ended c) e = ended (a.dead client t) e
+
+    at : (p : Phase) → is_whose client t (live_in p) ≡ true → phase_part p ≡ AtJoining → HasWaits a.waits p → IsSome (waiting_of (state_of a).desk client t)
+    at (Joining u c who) mine e h =
+        let both = and_parts (same_trans u t) (c == client) mine in
+        subst (λ (v : TransId). IsSome (find (is_of_part client v) a.waits)) (same_trans-true u t both.0) (subst (λ (n : ℕ). IsSome (find (is_of_part n u) a.waits)) (eqb-true c client both.1) h)
+    at (Active u c who) mine e h = let wrong : AtWork ≡ AtJoining = e in cc
+    at (Ready u c ts) mine e h = let wrong : AtReady ≡ AtJoining = e in cc
+    at Unseen mine e h = let wrong : NoPart ≡ AtJoining = e in cc
+    at (Applied u stamp) mine e h = let wrong : NoPart ≡ AtJoining = e in cc
+    at Over mine e h = let wrong : NoPart ≡ AtJoining = e in cc
+
+    far : (x : Option JoinNo) → join_for (state_of a) client t ≡ x → join_part (state_of a) (a.dead client t) x ≡ AtJoining → IsSome (waiting_of (state_of a).desk client t)
+    far None f e = absurd (ended (a.dead client t) e)
+    far (Some j) f e = at (a.phases j) (found-passes (λ i. is_whose client t (live_in (a.phases i))) a.joined j f) e (q.tells.joining j)
+
+    go : (b : Bool) → cond {A = Part} b (own_part client (a.dead client t) (a.fates t)) (join_part (state_of a) (a.dead client t) (join_for (state_of a) client t)) ≡ AtJoining → IsSome (waiting_of (state_of a).desk client t)
+    go true e = absurd (own (a.fates t) e)
+    go false e = far (join_for (state_of a) client t) refl e
+
 -- ---- a Finish ends nothing where the client has no part at work
 
 pub record EndsNone (client : ℕ) (t : TransId) (commit : Bool) (desk : Desk) (r : Reply) (f : Fate) : Type 0 where
@@ -193,6 +235,82 @@ ends_none client t true desk r dead (Forgotten x js) none = record { deeds = ref
 ends_none client t false desk r dead (Forgotten x js) none = record { deeds = refl; mail = λ b. refl }
 ends_none client t true desk r dead (Ended c) none = record { deeds = refl; mail = λ b. refl }
 ends_none client t false desk r dead (Ended c) none = record { deeds = refl; mail = λ b. refl }
+
+-- where a part ended, or is unknown, none works
+pub ended_idle : (d : Option Cause) → ended_part d ≡ AtWork → ⊥
+ended_idle None e = let wrong : NoPart ≡ AtWork = e in cc
+ended_idle (Some c) e = let wrong : AtEnd c ≡ AtWork = e in cc
+
+-- what is finishing is so for its client
+pub own_finishes : (client : ℕ) (d : Option Cause) (f : Fate) → own_part client d f ≡ AtFinish → (js : List JoinNo) × (vs : List Vote) × (f ≡ Finishing client js vs)
+own_finishes client d f e = go f e
+  where
+    none : (x : Option Cause) → ended_part x ≡ AtFinish → ⊥
+    none None e = let wrong : NoPart ≡ AtFinish = e in cc
+    none (Some c) e = let wrong : AtEnd c ≡ AtFinish = e in cc
+
+    runs : (b : Bool) → cond {A = Part} b AtWork NoPart ≡ AtFinish → ⊥
+    runs true e = let wrong : AtWork ≡ AtFinish = e in cc
+    runs false e = let wrong : NoPart ≡ AtFinish = e in cc
+
+    its : (n : ℕ) (js : List JoinNo) (vs : List Vote) (b : Bool) → (n == client) ≡ b → cond {A = Part} b AtFinish NoPart ≡ AtFinish → (ks : List JoinNo) × (ws : List Vote) × (Finishing n js vs ≡ Finishing client ks ws)
+    its n js vs true is e = (js, vs, ap (λ (m : ℕ). Finishing m js vs) (eqb-true n client is))
+    its n js vs false is e = let wrong : NoPart ≡ AtFinish = e in cc
+
+    go : (f : Fate) → own_part client d f ≡ AtFinish → (js : List JoinNo) × (vs : List Vote) × (f ≡ Finishing client js vs)
+    go Undrawn e = absurd (none d e)
+    go (Running c js) e = absurd (runs (c == client) e)
+    go (Finishing c js vs) e = its c js vs (c == client) refl e
+    go (Committed s js ds) e = absurd (none d e)
+    go (Forgotten s js) e = absurd (none d e)
+    go (Ended c) e = absurd (none d e)
+
+-- a part of a transaction of this server does not ask to be let in, and is not ready
+pub own_not_ready : (client : ℕ) (d : Option Cause) (f : Fate) → own_part client d f ≡ AtReady → ⊥
+own_not_ready client d f e = go f e
+  where
+    none : (x : Option Cause) → ended_part x ≡ AtReady → ⊥
+    none None e = let wrong : NoPart ≡ AtReady = e in cc
+    none (Some c) e = let wrong : AtEnd c ≡ AtReady = e in cc
+
+    runs : (b : Bool) → cond {A = Part} b AtWork NoPart ≡ AtReady → ⊥
+    runs true e = let wrong : AtWork ≡ AtReady = e in cc
+    runs false e = let wrong : NoPart ≡ AtReady = e in cc
+
+    ends : (b : Bool) → cond {A = Part} b AtFinish NoPart ≡ AtReady → ⊥
+    ends true e = let wrong : AtFinish ≡ AtReady = e in cc
+    ends false e = let wrong : NoPart ≡ AtReady = e in cc
+
+    go : (f : Fate) → own_part client d f ≡ AtReady → ⊥
+    go Undrawn e = none d e
+    go (Running c js) e = runs (c == client) e
+    go (Finishing c js vs) e = ends (c == client) e
+    go (Committed s js ds) e = none d e
+    go (Forgotten s js) e = none d e
+    go (Ended c) e = none d e
+
+pub own_not_joining : (client : ℕ) (d : Option Cause) (f : Fate) → own_standing client d f ≡ standing.Joining → ⊥
+own_not_joining client d f e = go f e
+  where
+    none : (x : Option Cause) → ended_standing x ≡ standing.Joining → ⊥
+    none None e = let wrong : standing.Unknown ≡ standing.Joining = e in cc
+    none (Some c) e = let wrong : standing.Ended c ≡ standing.Joining = e in cc
+
+    runs : (b : Bool) → cond {A = Standing} b standing.Work standing.Unknown ≡ standing.Joining → ⊥
+    runs true e = let wrong : standing.Work ≡ standing.Joining = e in cc
+    runs false e = let wrong : standing.Unknown ≡ standing.Joining = e in cc
+
+    ends : (b : Bool) → cond {A = Standing} b standing.Finishing standing.Unknown ≡ standing.Joining → ⊥
+    ends true e = let wrong : standing.Finishing ≡ standing.Joining = e in cc
+    ends false e = let wrong : standing.Unknown ≡ standing.Joining = e in cc
+
+    go : (f : Fate) → own_standing client d f ≡ standing.Joining → ⊥
+    go Undrawn e = none d e
+    go (Running c js) e = runs (c == client) e
+    go (Finishing c js vs) e = ends (c == client) e
+    go (Committed s js ds) e = none d e
+    go (Forgotten s js) e = none d e
+    go (Ended c) e = none d e
 
 -- ---- a part at work, whatever the vault tells
 
@@ -314,3 +432,27 @@ works_own n serves k client t l h is there =
   where
     same : (x y : Live) → Some x ≡ Some y → x ≡ y
     same x y e = cc
+
+-- a part of this server's own that ended is not live
+pub ended_gone : {V : Type 0} (n : ℕ) (serves : Bool) (k : ServerState V) (client : ℕ) (t : TransId) (c : Cause) → IsReady n serves k → t.server ≡ k.server → standing_of k client t ≡ standing.Ended c → map.get k.lives t ≡ None
+ended_gone n serves k client t c h own is = go (map.get k.lives t) refl
+  where
+    runs : (b : Bool) → cond {A = Standing} b standing.Work standing.Unknown ≡ standing.Ended c → ⊥
+    runs true e = let wrong : standing.Work ≡ standing.Ended c = e in cc
+    runs false e = let wrong : standing.Unknown ≡ standing.Ended c = e in cc
+
+    ends : (b : Bool) → cond {A = Standing} b standing.Finishing standing.Unknown ≡ standing.Ended c → ⊥
+    ends true e = let wrong : standing.Finishing ≡ standing.Ended c = e in cc
+    ends false e = let wrong : standing.Unknown ≡ standing.Ended c = e in cc
+
+    never : (f : Fate) (m : ℕ) → client_of f ≡ Some m → own_standing client (cause_in k.dead client t) f ≡ standing.Ended c → ⊥
+    never (Running d js) m r e = runs (d == client) e
+    never (Finishing d js vs) m r e = ends (d == client) e
+    never Undrawn m r e = let wrong : None ≡ Some m = r in cc
+    never (Committed s js ds) m r e = let wrong : None ≡ Some m = r in cc
+    never (Forgotten s js) m r e = let wrong : None ≡ Some m = r in cc
+    never (Ended d) m r e = let wrong : None ≡ Some m = r in cc
+
+    go : (x : Option Live) → map.get k.lives t ≡ x → x ≡ None
+    go None e = refl
+    go (Some l) e = absurd (never (fate_in k.coordinator t) l.client (own_client k.servers k.server k.coordinator k.joins k.lives h.paired t l e own).0 (standing_here k client t (standing.Ended c) own is))

@@ -1,10 +1,14 @@
 //! Clients join transactions.
-ghost use Rattle.std.specs.Prelude.{◌≡◌, ◌<◌, ◌≤◌, ◌+◌, ◌-◌, ◌^◌, [], length, true, false, Ok, IfOk, OnOk, OnErr};
+ghost use Rattle.std.specs.Prelude.{◌≡◌, ◌<◌, ◌≤◌, ◌+◌, ◌-◌, ◌^◌, [], length, true, false, None, Ok, IfOk, OnOk, OnErr};
 ghost use Rattle.alp_files.specs.declared.call.Call.TheVariants as call;
 ghost use Rattle.alp_files.specs.declared.reply.Reply.TheVariants as reply;
 ghost use Rattle.alp_coord.specs.Coordinators.{counted_of};
 ghost use Rattle.alp_journal.specs.declared.event.Event.TheVariants as event;
-ghost use Rattle.alp_worker.specs.Joins.{next_of};
+ghost use Rattle.alp_journal.specs.Deeds as deed;
+ghost use Rattle.alp_journal.specs.Moves.{next_join};
+ghost use Rattle.alp_journal.specs.State.{State, state_deed};
+ghost use Rattle.alp_worker.specs.Joins.{AreJoinsOf, next_of};
+ghost use Rattle.alp_worker.specs.Lives.{part_of};
 ghost use Rattle.alp_node.specs.Draws.{with_joining};
 ghost use Rattle.alp_node.specs.Releases.{buried};
 ghost use Rattle.alp_node.specs.Says.{is_away};
@@ -117,6 +121,7 @@ impl<V: Vault> ServerState<V> {
         ensures number { IfOk result (λ j. j ≡ next_of self.old.joins) }
         ensures ok { OnOk result (self.new ≡ with_joining self.old turn.now trans) }
         ensures err { OnErr result (self.new ≡ self.old) }
+        ensures deed { (s : State) → AreJoinsOf s self.old.joins → part_of turn.now.client trans self.old.joins.lives ≡ None → OnOk result (AreJoinsOf (state_deed s (deed.Joins (next_join s) trans turn.now.client turn.now.who)) self.new.joins) }
     {
         let join = self.joins.draw(trans, turn.client, turn.who)?;
         let waiting = WaitingCall {
