@@ -161,7 +161,7 @@ module _ (p : TransId → Bool) where
       let turned : length (flat_map one_so os) ≡ length (flat_map one_so ts) = length_permutation (flat_map one_so ts) (flat_map one_so os) alike in
       ap (λ (us : List TransId). length us) (sym (all_so ts)) ∙ sym turned ∙ ap (λ (us : List TransId). length us) (all_so os)
 
-closed_uncounted : (c : Coordinator) (t : TransId) → has_trans t (open_ids c) ≡ false → is_counted (fate_in c t) ≡ false
+pub closed_uncounted : (c : Coordinator) (t : TransId) → has_trans t (open_ids c) ≡ false → is_counted (fate_in c t) ≡ false
 closed_uncounted c t shut = ap is_counted (closed_fate c t shut) ∙ settled_counts t (settled_in c t)
 
 filter_as : (p q : TransId → Bool) → ((t : TransId) → p t ≡ q t) → (ts : List TransId) → filter p ts ≡ filter q ts

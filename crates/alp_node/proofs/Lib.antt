@@ -86,8 +86,9 @@ pub mod EndingLemmas
 pub mod OutcomeLemmas
 pub mod JoinLemmas
 mod NoteLaw
-mod FatedLemmas
+pub mod FatedLemmas
 mod SayLemmas
 mod ArrivalLemmas
 mod JoinMoves
 mod JoinedLemmas
+mod LogLemmas

@@ -6,3 +6,4 @@ pub mod BackLemmas
 pub mod NotedLemmas
 pub mod NoteViews
 pub mod NoteSizes
+pub mod NoteRoom
