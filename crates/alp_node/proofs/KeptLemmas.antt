@@ -15,6 +15,7 @@ use Rattle.alp_journal.specs.declared.event.Event.TheVariants as event
 use Rattle.alp_base.specs.Causes.{Rose}
 use Rattle.alp_journal.specs.Ids.{same_trans}
 use Rattle.alp_journal.specs.Holder.{Life}
+use Rattle.alp_journal.specs.Answered.{is_read_fault}
 use Rattle.alp_journal.specs.Account.{Account, Leads, AreEarlier}
 use Rattle.alp_journal.proofs.IdLemmas.{same_trans-true}
 use Rattle.alp_journal.proofs.CallLemmas.{call_entry}

@@ -4,7 +4,7 @@ use Rattle.std.specs.List.{list_any, AllByRecursion}
 use Rattle.std.specs.Option.{option_or}
 use Rattle.std.specs.FinMap as map
 use Rattle.std.proofs.lemmas.List.Folds.{find-append}
-use Rattle.std.proofs.Common.{◌≡◌, ℕ, List, [], ◌∷◌, ◌++◌, refl, sym, ◌∙◌, ap, subst}
+use Rattle.std.proofs.Common.{◌≡◌, ℕ, List, [], ◌∷◌, ◌++◌, refl, sym, ◌∙◌, ap, subst, inl, inr}
 use Rattle.alp_base.specs.Notes.{Notes}
 use Rattle.alp_base.specs.declared.ids.JoinNo.{JoinNo}
 use Rattle.alp_base.specs.declared.ids.TransId.{TransId}
@@ -64,18 +64,18 @@ found_at p (l ∷ ls) y once is = go (p l) refl is (found_at p ls y once.1)
 -- one more, of a number that none of them has
 pub once_more : (ls : List LiveJoin) (l : LiveJoin) → AreOnce ls → join_at ls l.join ≡ None → AreOnce (ls ++ l ∷ [])
 once_more [] l once none = (refl, tt)
-once_more (x ∷ xs) l once none = go (same_join l.join x.join) refl none
+once_more (x ∷ xs) l once none = go (same_join l.join x.join) refl none (once_more xs l once.1)
   where
     turned_join : same_join l.join x.join ≡ false → (b : Bool) → same_join x.join l.join ≡ b → b ≡ false
     turned_join off false e = refl
     turned_join off true e = let wrong : true ≡ false = sym (ap (λ (i : JoinNo). same_join i x.join) (sym (same_join-true x.join l.join e)) ∙ same_join-itself x.join) ∙ off in cc
 
-    go : (b : Bool) → same_join l.join x.join ≡ b → cond {A = Option LiveJoin} b (Some x) (join_at xs l.join) ≡ None → AreOnce ((x ∷ xs) ++ l ∷ [])
-    go true e f = let wrong : Some x ≡ None = f in cc
-    go false e f = (
+    go : (b : Bool) → same_join l.join x.join ≡ b → cond {A = Option LiveJoin} b (Some x) (join_at xs l.join) ≡ None → (join_at xs l.join ≡ None → AreOnce (xs ++ l ∷ [])) → AreOnce ((x ∷ xs) ++ l ∷ [])
+    go true e f rest = let wrong : Some x ≡ None = f in cc
+    go false e f rest = (
       at_more x.join xs l ∙ ap (λ (y : Option LiveJoin). option_or y (cond {A = Option LiveJoin} (same_join x.join l.join) (Some l) None)) once.0
       ∙ ap (λ (b : Bool). cond {A = Option LiveJoin} b (Some l) None) (turned_join e (same_join x.join l.join) refl),
-      once_more xs l once.1 f,
+      rest f,
     )
 
 -- what is so of each that is found by its number is so of all, where each is there once

@@ -298,7 +298,7 @@ within (t ∷ ts) us once all =
     most [] = omega arith
     most (v ∷ vs) = by (other v) (most vs)
       where
-        by : (b : Bool) → length (filter other vs) ≤ length vs → length (cond {A = List TransId} b (v ∷ filter other vs) (filter other vs)) ≤ length vs + 1
+        by : (b : Bool) → length (filter other vs) ≤ length vs → length (cond {A = List TransId} b (v ∷ filter other vs) (filter other vs)) ≤ length (v ∷ vs)
         by true h = omega (arith, h)
         by false h = omega (arith, h)
 
@@ -307,7 +307,7 @@ within (t ∷ ts) us once all =
     gone (v ∷ vs) h = by (same_trans v t) refl h (gone vs) (most vs)
       where
         by : (b : Bool) → same_trans v t ≡ b → (b || has_trans t vs) ≡ true → (has_trans t vs ≡ true → length (filter other vs) + 1 ≤ length vs) → length (filter other vs) ≤ length vs
-            → length (cond {A = List TransId} (not b) (v ∷ filter other vs) (filter other vs)) + 1 ≤ length vs + 1
+            → length (cond {A = List TransId} (not b) (v ∷ filter other vs) (filter other vs)) + 1 ≤ length (v ∷ vs)
         by true e g more all = omega (arith, all)
         by false e g more all = let fewer : length (filter other vs) + 1 ≤ length vs = more g in omega (arith, fewer)
 
@@ -395,7 +395,8 @@ counted_gone before after t clock lets = counted_fewer before after lets.counts
 -- one begins
 pub counted_begun : (client seen : ℕ) (who : List ℕ) (before after : Coordinator) → Comes (Begins (next_id before) client who seen) before after → counted_of after ≤ counted_of before + 1
 counted_begun client seen who before after comes =
-    within (counted_list after) (next_id before ∷ counted_list before) (counted_once after) (λ t here. go t (same_trans (next_id before) t) refl (sym (ap is_counted (comes t)) ∙ there_passes (λ u. is_counted (fate_in after u)) t (open_ids after) here))
+    let all : length (counted_list after) ≤ length (next_id before ∷ counted_list before) = within (counted_list after) (next_id before ∷ counted_list before) (counted_once after) (λ t here. go t (same_trans (next_id before) t) refl (sym (ap is_counted (comes t)) ∙ there_passes (λ u. is_counted (fate_in after u)) t (open_ids after) here)) in
+    omega (arith, all)
   where
     go : (t : TransId) (b : Bool) → same_trans (next_id before) t ≡ b → is_counted (cond {A = Fate} b (fate.begun client (fate_in before t)) (fate_in before t)) ≡ true → has_trans t (next_id before ∷ counted_list before) ≡ true
     go t true e counts = ap (λ (x : Bool). x || has_trans t (counted_list before)) e
@@ -437,7 +438,7 @@ joined_there j y (x ∷ xs) is = go (is_at j x) is (joined_there j y xs)
     go false e more = either (same_trans x.trans y.trans) (more e)
 
 length_both : (us vs : List TransId) → length (us ++ vs) ≡ length us + length vs
-length_both [] vs = refl
+length_both [] vs = omega arith
 length_both (u ∷ us) vs = (let rest : length (us ++ vs) ≡ length us + length vs = length_both us vs in omega (arith, rest))
 
 length_joined : (ls : List LiveJoin) → length (joined_list ls) ≡ length ls

@@ -1,8 +1,8 @@
 -- what a client has of a transaction, as the server and as its journal say it
-use Rattle.std.specs.Prelude.{cond, Bool, true, false, ◌==◌, ◌&&◌, find, Option, None, Some, is_some, is_none, IsSome, ◌⊎◌, inl, inr}
+use Rattle.std.specs.Prelude.{cond, Bool, true, false, ◌==◌, ◌&&◌, find, Option, None, Some, is_some, is_none, IsSome, ◌⊎◌}
 use Rattle.std.specs.Option.{option_and_then}
 use Rattle.std.specs.FinMap as map
-use Rattle.std.proofs.Common.{◌≡◌, ℕ, List, [], ◌∷◌, refl, sym, ◌∙◌, ap, subst, eq-eqb}
+use Rattle.std.proofs.Common.{◌≡◌, ℕ, List, [], ◌∷◌, refl, sym, ◌∙◌, ap, subst, inl, inr, eq-eqb}
 use Rattle.std.proofs.lemmas.Bool.{eqb-true, and_parts}
 use Rattle.alp_base.specs.declared.ids.JoinNo.{JoinNo}
 use Rattle.alp_base.specs.declared.ids.TransId.{TransId}
@@ -219,22 +219,22 @@ others_running client c t false desk r js away = record {
   mail = λ idle. ap (λ (b : Bool). cond {A = List Mail} b (to_each (λ (j : JoinNo). msg.Abort t j cause.Asked) js) []) away;
 }
 
-pub ends_none : (client : ℕ) (t : TransId) (commit : Bool) (desk : Desk) (r : Reply) (dead : Option Cause) (f : Fate) → (own_part client dead f ≡ AtWork → ⊥) → EndsNone client t commit desk r f
-ends_none client t true desk r dead Undrawn none = record { deeds = refl; mail = λ b. refl }
-ends_none client t false desk r dead Undrawn none = record { deeds = refl; mail = λ b. refl }
-ends_none client t commit desk r dead (Running c js) none = others_running client c t commit desk r js (go (c == client) refl)
+pub ends_none : (client : ℕ) (t : TransId) (commit : Bool) (desk : Desk) (r : Reply) (d : Option Cause) (f : Fate) → (own_part client dead f ≡ AtWork → ⊥) → EndsNone client t commit desk r f
+ends_none client t true desk r d Undrawn none = record { deeds = refl; mail = λ b. refl }
+ends_none client t false desk r d Undrawn none = record { deeds = refl; mail = λ b. refl }
+ends_none client t commit desk r d (Running c js) none = others_running client c t commit desk r js (go (c == client) refl)
   where
     go : (x : Bool) → (c == client) ≡ x → x ≡ false
     go false e = refl
     go true e = absurd (none (ap (λ (y : Bool). cond {A = Part} y AtWork NoPart) e))
-ends_none client t true desk r dead (Finishing c js vs) none = record { deeds = refl; mail = λ b. refl }
-ends_none client t false desk r dead (Finishing c js vs) none = record { deeds = refl; mail = λ b. refl }
-ends_none client t true desk r dead (Committed x js ds) none = record { deeds = refl; mail = λ b. refl }
-ends_none client t false desk r dead (Committed x js ds) none = record { deeds = refl; mail = λ b. refl }
-ends_none client t true desk r dead (Forgotten x js) none = record { deeds = refl; mail = λ b. refl }
-ends_none client t false desk r dead (Forgotten x js) none = record { deeds = refl; mail = λ b. refl }
-ends_none client t true desk r dead (Ended c) none = record { deeds = refl; mail = λ b. refl }
-ends_none client t false desk r dead (Ended c) none = record { deeds = refl; mail = λ b. refl }
+ends_none client t true desk r d (Finishing c js vs) none = record { deeds = refl; mail = λ b. refl }
+ends_none client t false desk r d (Finishing c js vs) none = record { deeds = refl; mail = λ b. refl }
+ends_none client t true desk r d (Committed x js ds) none = record { deeds = refl; mail = λ b. refl }
+ends_none client t false desk r d (Committed x js ds) none = record { deeds = refl; mail = λ b. refl }
+ends_none client t true desk r d (Forgotten x js) none = record { deeds = refl; mail = λ b. refl }
+ends_none client t false desk r d (Forgotten x js) none = record { deeds = refl; mail = λ b. refl }
+ends_none client t true desk r d (Ended c) none = record { deeds = refl; mail = λ b. refl }
+ends_none client t false desk r d (Ended c) none = record { deeds = refl; mail = λ b. refl }
 
 -- where a part ended, or is unknown, none works
 pub ended_idle : (d : Option Cause) → ended_part d ≡ AtWork → ⊥

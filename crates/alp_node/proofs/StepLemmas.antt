@@ -1,5 +1,5 @@
 -- a step whose part ended
-use Rattle.std.specs.Prelude.{true, false, ◌||◌, IsTrue, None, Some, Ok}
+use Rattle.std.specs.Prelude.{Bool, true, false, ◌||◌, IsTrue, None, Some, Ok}
 use Rattle.std.proofs.Common.{◌≡◌, ℕ, ◌+◌, ◌≤◌, List, [], ◌∷◌, ◌++◌, refl, sym, ◌∙◌, ap, subst, arith}
 use Rattle.alp_base.specs.Allowances.{Spends}
 use Rattle.alp_base.specs.declared.ids.TransId.{TransId}
