@@ -219,7 +219,7 @@ others_running client c t false desk r js away = record {
   mail = λ idle. ap (λ (b : Bool). cond {A = List Mail} b (to_each (λ (j : JoinNo). msg.Abort t j cause.Asked) js) []) away;
 }
 
-pub ends_none : (client : ℕ) (t : TransId) (commit : Bool) (desk : Desk) (r : Reply) (d : Option Cause) (f : Fate) → (own_part client dead f ≡ AtWork → ⊥) → EndsNone client t commit desk r f
+pub ends_none : (client : ℕ) (t : TransId) (commit : Bool) (desk : Desk) (r : Reply) (d : Option Cause) (f : Fate) → (own_part client d f ≡ AtWork → ⊥) → EndsNone client t commit desk r f
 ends_none client t true desk r d Undrawn none = record { deeds = refl; mail = λ b. refl }
 ends_none client t false desk r d Undrawn none = record { deeds = refl; mail = λ b. refl }
 ends_none client t commit desk r d (Running c js) none = others_running client c t commit desk r js (go (c == client) refl)
