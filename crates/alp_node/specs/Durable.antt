@@ -1,5 +1,5 @@
 -- What a server's vault holds by its journal, and what a crash leaves of it.
-use Rattle.std.specs.Prelude.{◌≡◌, ◌⊎◌, ◌×◌, ℕ, false, IsTrue, List, Option, None, Some}
+use Rattle.std.specs.Prelude.{◌≡◌, ◌⊎◌, ℕ, false, IsTrue, List, Option, None, Some}
 use Rattle.alp_base.specs.Crashes.{Only, NoMore, Adds}
 use Rattle.alp_base.specs.Notes.{Notes, notes_after}
 use Rattle.alp_base.specs.declared.bytes.NoteChange.{NoteChange}

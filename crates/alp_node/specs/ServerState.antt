@@ -164,14 +164,14 @@ abbrev pub IsAlive : List DeadPart → ℕ → TransId → Type 0
 IsAlive dead client t = cause_in dead client t ≡ None
 
 -- a part or a join that is live is not among the dead
-pub record AreAlive (dead : List DeadPart) (lives : LiveMap) (joins : List LiveJoin) : Type 0 where
+pub record AreAlive (dead : List DeadPart) (lives : LiveMap) (ls : List LiveJoin) : Type 0 where
   pub parts : (t : TransId) (l : Live) → map.get lives t ≡ Some l → IsAlive dead l.client t
-  pub joins : (j : JoinNo) (x : LiveJoin) → join_at joins j ≡ Some x → IsAlive dead x.client x.trans
+  pub joins : (j : JoinNo) (x : LiveJoin) → join_at ls j ≡ Some x → IsAlive dead x.client x.trans
 
 -- The joins are of this server in this epoch, each is there once, and no vote is later than a time may be.
-pub record AreJoinsHere (server epoch steps : ℕ) (joins : Joins) : Type 0 where
-  pub server : joins.server ≡ server
-  pub epoch : joins.epoch ≡ epoch
+pub record AreJoinsHere (here now steps : ℕ) (joins : Joins) : Type 0 where
+  pub server : joins.server ≡ here
+  pub epoch : joins.epoch ≡ now
   pub drawn : joins.drawn ≤ steps
   pub once : AreOnce joins.lives
   pub times : (j : JoinNo) (x : LiveJoin) (ts : ℕ) → join_at joins.lives j ≡ Some x → x.stage ≡ stage.Ready ts → ts ≤ 2 ^ 62
