@@ -30,3 +30,5 @@ pub mod DownStates
 pub mod Downs
 pub mod Arrivals
 pub mod Says
+pub mod Votes
+pub mod Writes
