@@ -423,6 +423,10 @@ module _ {V : Type 0} (n : ℕ) (serves : Bool) (k : ServerState V) (h : IsReady
       go true e s = (let runs = own_works client (cause_in k.dead client t) (fate_in k.coordinator t) s in here (eqb-true t.server k.server e) runs.0 runs.1)
       go false e s = far (part_of client t k.joins.lives) refl s
 
+-- the live part is the client's and at work
+abbrev pub IsWorking : {V : Type 0} → ServerState V → ℕ → TransId → Live → Type 0
+IsWorking k client t l = (l.client ≡ client) × (standing_of k client t ≡ standing.Work)
+
 -- the part at work is this one
 pub works_own : {V : Type 0} (n : ℕ) (serves : Bool) (k : ServerState V) (client : ℕ) (t : TransId) (l : Live) → IsReady n serves k → standing_of k client t ≡ standing.Work → map.get k.lives t ≡ Some l → (l.client ≡ client) × (is_some l.who ≡ true)
 works_own n serves k client t l h is there =
