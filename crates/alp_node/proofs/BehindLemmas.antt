@@ -77,7 +77,7 @@ module _ {V : Type 0} (G : Ghosts V) (k new : ServerState V) (v : V) (left : IsL
   pub step_behind : (e : Event) (r : Result Answer OutOfMemory) → IsStep G mid new e r → IsStep G k new e r
   step_behind e (Ok x) s = record {
     stepped = λ told a h. subst (λ (n : ℕ). Stepped a n (G.faults new.vault) (G.held new.vault) new e x) faults (s.stepped (told_then told) a (as_then a h));
-    given = subst (λ (n : ℕ). IsGiven k.server (Some order.Next) n (G.faults new.vault) (G.allowance new.vault) new.is_down x) faults s.given;
+    given = subst (λ (n : ℕ). IsGiven (Some order.Next) n (G.faults new.vault) (G.allowance new.vault) new.is_down x) faults s.given;
     ready = λ n h. s.ready n (ready_then n h);
     noted = λ h. s.noted (left_noted G k mid refl refl refl left up h);
     still = tt;

@@ -107,10 +107,6 @@ module _ {V : Type 0} (a : Account) (before now : ℕ) (held : Contents) (k : Se
 
 -- ---- the call waits for its locks
 
-told_last : (ws : List WaitingCall) (w : WaitingCall) → waiting_calls (ws ++ w ∷ []) ≡ waiting_calls ws ++ waiting w ∷ []
-told_last [] w = refl
-told_last (v ∷ vs) w = ap (λ (ys : List Waiting). waiting v ∷ ys) (told_last vs w)
-
 module _ {V : Type 0} (k : ServerState V) (turn : Turn) (t : TransId) (l : Live) (c : Call) (ns : List Need) where
   abbrev pub plan : Waiter
   plan = plan_of k.locks t ns

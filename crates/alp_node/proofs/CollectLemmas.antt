@@ -188,11 +188,11 @@ module _ {V : Type 0} (a : Account) (held : Contents) (k : ServerState V) (clien
   found_here = at_told a client n k.waits h.waits ∙ ap (option_map waiting) found
 
   -- its part, if that ended
-  pub dead_why : (c : Cause) → standing_of client (map.get k.lives w.trans) (cause_in k.dead client w.trans) ≡ standing.Ended c → a.dead client w.trans ≡ Some c
+  pub dead_why : (c : Cause) → standing_of k client w.trans ≡ standing.Ended c → a.dead client w.trans ≡ Some c
   dead_why c e = h.dead client w.trans ∙ dead_cause client (map.get k.lives w.trans) (cause_in k.dead client w.trans) c e
 
   -- it is of a part that lives, or that ended and is to be told of
-  pub known_standing : standing_of client (map.get k.lives w.trans) (cause_in k.dead client w.trans) ≡ standing.Unknown → ⊥
+  pub known_standing : standing_of k client w.trans ≡ standing.Unknown → ⊥
   known_standing unknown = go (map.get k.lives w.trans) (a.holder.lives w.trans) (h.lives w.trans) part unknown
     where
       part_first : IsPartOf w.client (a.holder.lives w.trans) (a.dead w.client w.trans)
@@ -334,7 +334,7 @@ module _ {V : Type 0} (a : Account) (before now : ℕ) (held : Contents) (k : Se
 
   module _ (w : WaitingCall) (m : ℕ) (on : Bool) (ready : IsReady m on k) (found : call_at turn.client n k.waits ≡ Some w) where
     -- its part ended
-    pub collect_dead_stepped : (c : Cause) (x : Answer) → IsAs a held k → IsTurn k.sessions turn → k.is_down ≡ false → standing_of turn.client (map.get k.lives w.trans) (cause_in k.dead turn.client w.trans) ≡ standing.Ended c → x ≡ refused_answer (refusal.Aborted c) []
+    pub collect_dead_stepped : (c : Cause) (x : Answer) → IsAs a held k → IsTurn k.sessions turn → k.is_down ≡ false → standing_of k turn.client w.trans ≡ standing.Ended c → x ≡ refused_answer (refusal.Aborted c) []
         → Stepped a before now held (record k { sessions = counted_in k.sessions turn (reply.Refused (refusal.Aborted c)) }) (event.Call turn.client k.epoch turn.number (call.Collect n)) x
     collect_dead_stepped c x h is up gone so =
         let s : Session = session_of turn is in

@@ -124,8 +124,8 @@ module _ {V : Type 0} (G : Ghosts V) (k : ServerState V) (turn : Turn) (n : ℕ)
       left_step G k after refl refl refl left (event.Call turn.client k.epoch turn.number (call.Collect n)) x up
       (λ told a h. collect_stepped a (G.faults k.vault) (G.faults v) (G.held k.vault) k turn n w z l p room r v steps (G.serves k.vault) x (G.held v) ready h up left.contents is found counted granted there
       (answered_told (G.tells k.vault) (G.held k.vault).cells l p (next_file k) w.call room r told given) (room_told (G.tells k.vault) (G.held k.vault).cells k z.made room told of) so)
-      (reply_given k.server (G.faults k.vault) (G.faults v) (G.allowance v) k.is_down r [] x so
-      (counts_none k.server (G.faults k.vault) (G.faults v) k.is_down (Some r) (answered_quiet k.server (G.tells k.vault) (G.held k.vault).cells l.part p (name_in l.who) (next_file k) w.call room r given) faults up) up tt)
+      (reply_given (G.faults k.vault) (G.faults v) (G.allowance v) k.is_down r [] x so
+      (counts_none (G.faults k.vault) (G.faults v) k.is_down (Some r) (answered_quiet k.server (G.tells k.vault) (G.held k.vault).cells l.part p (name_in l.who) (next_file k) w.call room r given) faults up) up tt)
       (λ m h. after_ready m h)
       (λ on_then. subst (λ (y : Answer). HasTurned (Some order.Next) k after (event.Call turn.client k.epoch turn.number (call.Collect n)) y.kept) (sym so)
       (counts_on k after turn is (call.Collect n) r keeps.inside (le_refl k.clock) keeps.times
@@ -149,8 +149,8 @@ module _ {V : Type 0} (G : Ghosts V) (k : ServerState V) (lives : LiveMap) (v : 
   collect_failed on rose =
       left_step G k failed_left refl refl refl left event_of (refused_answer refusal.ReadFault []) up
       (λ told a h. collect_fault_stepped a (G.faults k.vault) (G.faults v) (G.held v) seen turn n w steps (G.serves v) (unseen.ready steps (G.serves v) on ready) found unseen.part (refused_answer refusal.ReadFault []) (unseen.kept a h) is up rose unseen.there granted refl)
-      (reply_given k.server (G.faults k.vault) (G.faults v) (G.allowance v) k.is_down (reply.Refused refusal.ReadFault) [] (refused_answer refusal.ReadFault []) refl
-      (subst (λ (b : Bool). IsCounted k.server (G.faults k.vault) (G.faults v) b (Some (reply.Refused refusal.ReadFault))) (sym up) (counts_fault k.server (G.faults k.vault) (G.faults v) (Some (reply.Refused refusal.ReadFault)) refl refl left.later rose)) up tt)
+      (reply_given (G.faults k.vault) (G.faults v) (G.allowance v) k.is_down (reply.Refused refusal.ReadFault) [] (refused_answer refusal.ReadFault []) refl
+      (subst (λ (b : Bool). IsCounted (G.faults k.vault) (G.faults v) b (Some (reply.Refused refusal.ReadFault))) (sym up) (counts_fault (G.faults k.vault) (G.faults v) (Some (reply.Refused refusal.ReadFault)) refl refl left.later rose)) up tt)
       (λ m h. ready_then m (unseen.ready m (G.serves v) on h))
       (λ now. counts_refused k failed_left turn is (call.Collect n) refusal.ReadFault tt refl refl)
     where
@@ -164,8 +164,8 @@ module _ {V : Type 0} (G : Ghosts V) (k : ServerState V) (lives : LiveMap) (v : 
   collect_stopped off spent =
       left_step G k (record seen { is_down = true }) refl refl refl left event_of (refused_answer refusal.Down (act.Stopped ∷ [])) up
       (λ told a h. collect_halt_stepped a (G.faults k.vault) (G.faults v) (G.held v) seen turn n w steps true (unseen.ready steps true refl ready) found (G.held v) v unseen.part (refused_answer refusal.Down (act.Stopped ∷ [])) (unseen.kept a h) is up unseen.there granted refl)
-      (reply_given k.server (G.faults k.vault) (G.faults v) (G.allowance v) true (reply.Refused refusal.Down) (act.Stopped ∷ []) (refused_answer refusal.Down (act.Stopped ∷ [])) refl
-      (counts_down k.server (G.faults k.vault) (G.faults v) left.later) refl (spent, tt))
+      (reply_given (G.faults k.vault) (G.faults v) (G.allowance v) true (reply.Refused refusal.Down) (act.Stopped ∷ []) (refused_answer refusal.Down (act.Stopped ∷ [])) refl
+      (counts_down (G.faults k.vault) (G.faults v) left.later) refl (spent, tt))
       (λ m h. down_ready m true (G.serves v) seen v off (unseen.ready m true refl h))
       (λ on. cc)
 

@@ -445,7 +445,7 @@ halted_as a m held then k v ds is quiet h =
 
 -- a read is stopped, in a call of a part at work
 module _ {V : Type 0} (a : Account) (before now : ℕ) (held then : Contents) (k : ServerState V) (turn : Turn) (t : TransId) (v : V) where
-  pub file_halt_stepped : (c : Call) (x : Answer) → IsAs a held k → IsTurn k.sessions turn → k.is_down ≡ false → file_trans c ≡ Some t → standing_of turn.client (map.get k.lives t) (cause_in k.dead turn.client t) ≡ standing.Work → waiting_of (state_of a).desk turn.client t ≡ None
+  pub file_halt_stepped : (c : Call) (x : Answer) → IsAs a held k → IsTurn k.sessions turn → k.is_down ≡ false → file_trans c ≡ Some t → standing_of k turn.client t ≡ standing.Work → waiting_of (state_of a).desk turn.client t ≡ None
       → x ≡ refused_answer refusal.Down (act.Stopped ∷ [])
       → Stepped a before now then (record k { is_down = true; vault = v }) (event.Call turn.client k.epoch turn.number c) x
   file_halt_stepped c x h is up named own idle so =

@@ -25,7 +25,7 @@ use Rattle.alp_queue.specs.Order.{without as without_of}
 use Rattle.alp_queue.specs.declared.waiter.Waiter.{Waiter}
 use Rattle.alp_trans.specs.declared.part.Part.{Part}
 use Rattle.alp_vault.specs.Contents.{Contents}
-use Rattle.alp_journal.specs.Account.{Account, AreApart, AreTwo, IsQuiet, with_granted, granted_calls, call_on, is_on_trans, holder_granted}
+use Rattle.alp_journal.specs.Account.{Account, state_of, AreApart, AreTwo, IsQuiet, with_granted, granted_calls, call_on, is_on_trans, holder_granted}
 use Rattle.alp_journal.specs.Answered.{in_turn, IsWalk}
 use Rattle.alp_journal.specs.Counts.{lock_set, request_in, with_resources}
 use Rattle.alp_journal.specs.Coordinator.{Fate}
@@ -39,7 +39,7 @@ use Rattle.alp_turns.specs.Queues.{AreHeldAlike, AreCallsApart, IsOnOther, reque
 use Rattle.alp_turns.proofs.MoveLemmas.{GoesIdle, IsGone, StandsStill, queue_gone, queue_without}
 use Rattle.alp_turns.proofs.QueueLemmas.{gives_on}
 use Rattle.alp_turns.proofs.RequestLemmas.{tied_same}
-use Rattle.alp_node.specs.Decisions.{IsPlain}
+use Rattle.alp_node.specs.Durable.{AreNotesOf}
 use Rattle.alp_node.specs.Dead.{cause_in}
 use Rattle.alp_coord.specs.declared.coordinator.Coordinator.{Coordinator}
 use Rattle.alp_coord.specs.Coordinators.{count_of}
@@ -404,18 +404,19 @@ module _ {V : Type 0} (a : Account) (held : Contents) (k : ServerState V) (t : T
         abbrev pub server_told : ServerState V
         server_told = record k { lives = server_then.lives; locks = record (released k.locks t) { woken = [] }; sessions = kept_sessions; dead = kept_dead; waits = kept_waits; coordinator = c }
 
-        pub gone_as : k.is_down ≡ false → IsCoordinatorBy a.holder.server a.ids.epoch a.ids.transactions fates c → ((u : TransId) → IsPlain (fates u))
+        pub gone_as : k.is_down ≡ false → IsCoordinatorBy a.holder.server a.ids.epoch a.ids.transactions fates c → (AreNotesOf (state_of a) a.ids.epoch held.notes → AreNotesOf (state_of state_told) a.ids.epoch held.notes)
             → length kept_sessions.places ≡ 17 → ((client : ℕ) → sessions client ≡ session_at kept_sessions client) → ((client : ℕ) (u : TransId) → dead client u ≡ cause_in kept_dead client u)
             → waits ≡ waiting_calls kept_waits → AllByRecursion (IsWaitingAs state_then.holder state_then.locked) kept_waits → (released k.locks t).waiting ≡ queue_of state_then.holder (released k.locks t).held waits
             → IsQuiet state_told → IsAs state_told held server_told
-        gone_as up coordinated plain places same_sessions same_dead same_waits asked queue quiet = subst (λ (x : Holder). IsAs (record state_told { holder = x }) held server_told) (sym rest) (record {
+        gone_as up coordinated noted places same_sessions same_dead same_waits asked queue quiet = subst (λ (x : Holder). IsAs (record state_told { holder = x }) held server_told) (sym rest) (record {
           server = h.server;
+          servers = h.servers;
           sizes = h.sizes;
           epoch = h.epoch;
           clock = h.clock;
           cells = h.cells;
           sized = h.sized;
-          notes = h.notes;
+          notes = λ on. subst (λ (x : Holder). AreNotesOf (state_of (record state_told { holder = x })) a.ids.epoch held.notes) rest (noted (h.notes on));
           places = places;
           sessions = same_sessions;
           dead = same_dead;
@@ -427,8 +428,7 @@ module _ {V : Type 0} (a : Account) (held : Contents) (k : ServerState V) (t : T
           room = g.all.fits;
           unborn = λ u l is. unborn_then u l (map.get server_then.lives u) refl is (g.all.lives u);
           coordinator = coordinated;
-          plain = plain;
-          lone = h.lone;
+          joins = h.joins;
           files = h.files;
           made = h.made;
           born = h.born;

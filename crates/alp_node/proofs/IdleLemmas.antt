@@ -250,7 +250,7 @@ idle_answered order.Stale here w idle kept = refl
 idle_answered order.Astray here w idle kept = refl
 
 -- it shows no fault of this step
-idle_calm : (o : CallOrder) (server here : ℕ) (w : Option Session) → IsIdle o → is_fault_now server (Some o) (idle_reply o here w) ≡ false
+idle_calm : (o : CallOrder) (server here : ℕ) (w : Option Session) → IsIdle o → is_fault_now (Some o) (idle_reply o here w) ≡ false
 idle_calm order.First server here w idle = absurd idle
 idle_calm order.Next server here w idle = absurd idle
 idle_calm order.Repeat server here w idle = refl
@@ -310,7 +310,7 @@ module _ {V : Type 0} (G : Ghosts V) (k : ServerState V) (client epoch number : 
         let o : CallOrder = order_of k.epoch epoch number c here_now in
         left_step_as G k k refl refl refl (left_same G k.vault) (Some o) this_call x up
         (λ told a h. idle_stepped a (G.faults k.vault) (G.faults k.vault) (G.held k.vault) k client epoch number c x h up idle so)
-        (calm_given k.server (G.faults k.vault) (G.faults k.vault) (G.allowance k.vault) k.is_down (Some o) (idle_reply o k.epoch here_now) [] x so
+        (calm_given (G.faults k.vault) (G.faults k.vault) (G.allowance k.vault) k.is_down (Some o) (idle_reply o k.epoch here_now) [] x so
         (idle_answered o k.epoch here_now idle (repeat_kept k.epoch epoch number c here_now)) (idle_calm o k.server k.epoch here_now idle)
         (idle_open o k.epoch here_now idle (λ v is. (ready.replies client v is).inside)) refl up up tt)
         (λ m h. stepped_ready m (G.serves k.vault) k h)

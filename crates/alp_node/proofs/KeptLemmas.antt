@@ -15,6 +15,7 @@ use Rattle.alp_journal.specs.declared.event.Event.TheVariants as event
 use Rattle.alp_base.specs.Causes.{Rose}
 use Rattle.alp_journal.specs.Ids.{same_trans}
 use Rattle.alp_journal.specs.Holder.{Life}
+use Rattle.alp_journal.specs.Answered.{is_read_fault}
 use Rattle.alp_journal.specs.Account.{Account, Leads, AreEarlier}
 use Rattle.alp_journal.proofs.IdLemmas.{same_trans-true}
 use Rattle.alp_journal.proofs.CallLemmas.{call_entry}
@@ -133,8 +134,8 @@ as_with a held then k v same h = subst (λ (x : Contents). IsAs a x (record k { 
   room = h.room;
   unborn = h.unborn;
   coordinator = h.coordinator;
-  plain = h.plain;
-  lone = h.lone;
+  servers = h.servers;
+  joins = h.joins;
   files = h.files;
   made = h.made;
   born = h.born;
@@ -163,8 +164,8 @@ as_back a held k c along keeps h = record {
   room = h.room;
   unborn = h.unborn;
   coordinator = kept_by a.holder.server a.ids.epoch a.ids.transactions a.fates k.coordinator c along keeps h.coordinator;
-  plain = h.plain;
-  lone = h.lone;
+  servers = h.servers;
+  joins = h.joins;
   files = h.files;
   made = h.made;
   born = h.born;
@@ -179,13 +180,13 @@ as_back a held k c along keeps h = record {
 -- a new call's entry and its answer
 module _ {V : Type 0} (a : Account) (before now : ℕ) (held then : Contents) (k new : ServerState V) (client number : ℕ) (w : Session) (c : Call) where
   pub stepped_so : (failed : Bool) (r : Reply) (acts : List Act) (m : Account) (x : Answer) → x ≡ told_answer (Some r) acts → IsAs a held k → Leads failed a (call_entry a client number w c r acts) m
-      → IsAs m then new → (failed ≡ true → Rose before now) → IsTimely a.holder.clock (event.Call client k.epoch number c) new.clock → Stepped a before now then new (event.Call client k.epoch number c) x
+      → IsAs m then new → (failed ≡ true → Rose before now × (is_read_fault (Some r) ≡ true)) → IsTimely a.holder.clock (event.Call client k.epoch number c) new.clock → Stepped a before now then new (event.Call client k.epoch number c) x
   stepped_so failed r acts m x is h leads kept rose timely = record {
     failed = failed;
     next = m;
     leads = subst (λ (y : Answer). Leads failed a (entry_of (event.Call client k.epoch number c) y) m) (sym is)
         (subst (λ (n : ℕ). Leads failed a (record { event = event.Call client n number c; reply = Some r; acts = acts }) m) h.epoch leads);
-    rose = rose;
+    rose = λ e. (let q = rose e in (q.0, ap (λ (y : Answer). is_read_fault y.kept) is ∙ q.1));
     kept = kept;
     clock = timely;
   }

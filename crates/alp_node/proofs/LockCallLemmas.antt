@@ -204,7 +204,7 @@ module _ {V : Type 0} (a : Account) (before now : ℕ) (held : Contents) (k : Se
       let y : IsLive a.holder.cells k.locks.held (a.locked t) t l (a.holder.lives t) = live_there a.holder.cells k.locks.held (a.locked t) t (map.get k.lives t) (a.holder.lives t) l there (h.lives t) in
       let r : Reply = reply.Refused (refusal.LockConflict holder) in
       let caller : IsCaller l y.life = lone_caller a held k h a.holder.cells k.locks.held (a.locked t) t l y.life y.is y.alike in
-      let mine : standing_of turn.client (map.get k.lives t) (cause_in k.dead turn.client t) ≡ standing.Work = own_standing turn.client (map.get k.lives t) (cause_in k.dead turn.client t) (subst (IsOf turn.client) (sym there) own) in
+      let mine : standing_of k turn.client t ≡ standing.Work = own_standing turn.client (map.get k.lives t) (cause_in k.dead turn.client t) (subst (IsOf turn.client) (sym there) own) in
       let none : option_or (shape_refusal (state_of a) y.life c) (lock_refusal (state_of a) t y.life c) ≡ None =
       not_refused a held k t l c ns y.life h up y.alike caller served told (open_there y.life y.alike caller (shape_cases a held k h raised t l y.life caller c served shape)) few in
       refused_stepped a before now held k turn t c false (refusal.LockConflict holder) x h is up (λ e. cc) of refl refl

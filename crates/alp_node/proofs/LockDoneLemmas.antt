@@ -276,7 +276,7 @@ module _ {V : Type 0} (a : Account) (before now : ℕ) (held : Contents) (k : Se
         go (inl open_there) = subst (λ (x : Option Refusal). First x r (IsLocked (state_of a) t life c r)) (sym (passed open_there)) (IsLocked.performed r lock_free lock_threads)
         go (inr shut) = subst (λ (x : Option Refusal). First x r (IsLocked (state_of a) t life c r)) (sym (shut_first a held k t l c ns life h up mine caller served from ready.raised shut)) (shut_reply shut)
 
-    my_standing : standing_of turn.client (map.get k.lives t) (cause_in k.dead turn.client t) ≡ standing.Work
+    my_standing : standing_of k turn.client t ≡ standing.Work
     my_standing = own_standing turn.client (map.get k.lives t) (cause_in k.dead turn.client t) (subst (IsOf turn.client) (sym there) own)
 
     pub lock_why : IsFileOf false (state_of a) turn.client c r (Some t)

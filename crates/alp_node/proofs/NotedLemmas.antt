@@ -1,8 +1,10 @@
 -- the notes of a server, and the room of the parts that voted, stay as they are where no such part changes
-use Rattle.std.specs.Prelude.{cond, Bool, true, false, ◌==◌, ◌||◌, not, flat_map, Option, None, Some, is_some, map as list_map}
+use Rattle.std.specs.Prelude.{cond, Bool, true, false, ◌==◌, ◌||◌, not, find, flat_map, Option, None, Some, is_some, map as list_map}
 use Rattle.std.specs.List.{list_any, AllByRecursion}
+use Rattle.std.specs.Option.{option_or}
 use Rattle.std.specs.FinMap as map
-use Rattle.std.proofs.Common.{◌≡◌, ℕ, List, [], ◌∷◌, ◌++◌, refl, sym, ◌∙◌, ap, subst}
+use Rattle.std.proofs.lemmas.List.Folds.{find-append}
+use Rattle.std.proofs.Common.{◌≡◌, ℕ, List, [], ◌∷◌, ◌++◌, refl, sym, ◌∙◌, ap, subst, inl, inr}
 use Rattle.alp_base.specs.Notes.{Notes}
 use Rattle.alp_base.specs.declared.ids.JoinNo.{JoinNo}
 use Rattle.alp_base.specs.declared.ids.TransId.{TransId}
@@ -17,7 +19,7 @@ use Rattle.alp_journal.specs.State.{State}
 use Rattle.alp_journal.proofs.IdLemmas.{same_trans-true, same_join-true}
 use Rattle.alp_journal.specs.Laws.{IsHolding}
 use Rattle.alp_journal.proofs.StandLemmas.{same_join-itself, life_of, pair_of, join_part_is}
-use Rattle.alp_journal.proofs.FoundLemmas.{same-some}
+use Rattle.alp_files.proofs.FilesLemmas.{same-some}
 use Rattle.alp_coord.specs.declared.coordinator.Coordinator.{Coordinator}
 use Rattle.alp_coord.specs.Coordinators.{fate_in}
 use Rattle.alp_worker.specs.declared.joins.Joins.{Joins}
@@ -25,7 +27,7 @@ use Rattle.alp_worker.specs.declared.live.LiveJoin.{LiveJoin}
 use Rattle.alp_worker.specs.declared.live.Stage.{Stage}
 use Rattle.alp_worker.specs.declared.live.Stage.TheVariants as stage
 use Rattle.alp_worker.specs.declared.room.PartSize.{PartSize}
-use Rattle.alp_worker.specs.Lives.{is_open, join_at, phase_in, AreOnce}
+use Rattle.alp_worker.specs.Lives.{is_open, is_at, join_at, phase_in, AreOnce}
 use Rattle.alp_worker.specs.Rooms.{sum_of}
 use Rattle.alp_worker.specs.Walks.{ready_in}
 use Rattle.alp_node.specs.Durable.{IsKeptIf, IsReadyNote, AreNotesOf}
@@ -37,6 +39,9 @@ use Rattle.alp_node.proofs.MapLemmas.{get_put, get_gone}
 
 -- ---- joins in a list
 
+pub at_more : (j : JoinNo) (ls : List LiveJoin) (l : LiveJoin) → join_at (ls ++ l ∷ []) j ≡ option_or (join_at ls j) (cond {A = Option LiveJoin} (same_join j l.join) (Some l) None)
+at_more j ls l = find-append (is_at j) ls (l ∷ [])
+
 one_at : (j : JoinNo) (x l : LiveJoin) (ls : List LiveJoin) → join_at ls l.join ≡ None → join_at ls j ≡ Some x → join_at (l ∷ ls) j ≡ Some x
 one_at j x l ls none is = go (same_join j l.join) refl
   where
@@ -44,11 +49,40 @@ one_at j x l ls none is = go (same_join j l.join) refl
     go false e = is
     go true e = let wrong : None ≡ Some x = sym none ∙ sym (ap (join_at ls) (same_join-true j l.join e)) ∙ is in cc
 
+at_first : (l : LiveJoin) (ls : List LiveJoin) → join_at (l ∷ ls) l.join ≡ Some l
+at_first l ls = ap (λ (b : Bool). cond {A = Option LiveJoin} b (Some l) (join_at ls l.join)) (same_join-itself l.join)
+
+-- one that is found otherwise is that of its number
+pub found_at : (p : LiveJoin → Bool) (ls : List LiveJoin) (y : LiveJoin) → AreOnce ls → find p ls ≡ Some y → (join_at ls y.join ≡ Some y) × (p y ≡ true)
+found_at p [] y once is = let wrong : None ≡ Some y = is in cc
+found_at p (l ∷ ls) y once is = go (p l) refl is (found_at p ls y once.1)
+  where
+    go : (b : Bool) → p l ≡ b → cond {A = Option LiveJoin} b (Some l) (find p ls) ≡ Some y → (find p ls ≡ Some y → (join_at ls y.join ≡ Some y) × (p y ≡ true)) → (join_at (l ∷ ls) y.join ≡ Some y) × (p y ≡ true)
+    go true f e more = (let same : l ≡ y = same-some l y e in (subst (λ (z : LiveJoin). join_at (l ∷ ls) z.join ≡ Some z) same (at_first l ls), ap p (sym same) ∙ f))
+    go false f e more = (let q = more e in (one_at y.join y l ls once.0 q.0, q.1))
+
+-- one more, of a number that none of them has
+pub once_more : (ls : List LiveJoin) (l : LiveJoin) → AreOnce ls → join_at ls l.join ≡ None → AreOnce (ls ++ l ∷ [])
+once_more [] l once none = (refl, tt)
+once_more (x ∷ xs) l once none = go (same_join l.join x.join) refl none (once_more xs l once.1)
+  where
+    turned_join : same_join l.join x.join ≡ false → (b : Bool) → same_join x.join l.join ≡ b → b ≡ false
+    turned_join off false e = refl
+    turned_join off true e = let wrong : true ≡ false = sym (ap (λ (i : JoinNo). same_join i x.join) (sym (same_join-true x.join l.join e)) ∙ same_join-itself x.join) ∙ off in cc
+
+    go : (b : Bool) → same_join l.join x.join ≡ b → cond {A = Option LiveJoin} b (Some x) (join_at xs l.join) ≡ None → (join_at xs l.join ≡ None → AreOnce (xs ++ l ∷ [])) → AreOnce ((x ∷ xs) ++ l ∷ [])
+    go true e f rest = let wrong : Some x ≡ None = f in cc
+    go false e f rest = (
+      at_more x.join xs l ∙ ap (λ (y : Option LiveJoin). option_or y (cond {A = Option LiveJoin} (same_join x.join l.join) (Some l) None)) once.0
+      ∙ ap (λ (b : Bool). cond {A = Option LiveJoin} b (Some l) None) (turned_join e (same_join x.join l.join) refl),
+      rest f,
+    )
+
 -- what is so of each that is found by its number is so of all, where each is there once
 pub all_found : (P : LiveJoin → Type 0) (ls : List LiveJoin) → AreOnce ls → ((j : JoinNo) (x : LiveJoin) → join_at ls j ≡ Some x → P x) → AllByRecursion P ls
 all_found P [] once all = tt
 all_found P (l ∷ ls) once all = (
-  all l.join l (ap (λ (b : Bool). cond {A = Option LiveJoin} b (Some l) (join_at ls l.join)) (same_join-itself l.join)),
+  all l.join l (at_first l ls),
   all_found P ls once.1 (λ j x is. all j x (one_at j x l ls once.0 is)),
 )
 

@@ -1,8 +1,8 @@
 -- live parts, the transactions of this server and the joins of others' go together still, as parts come, change and go
-use Rattle.std.specs.Prelude.{cond, Bool, true, false, not, ◌==◌, ◌&&◌, ◌||◌, filter, Option, None, Some, is_some, map as list_map}
+use Rattle.std.specs.Prelude.{cond, Bool, true, false, not, ◌==◌, ◌&&◌, ◌||◌, filter, find, Option, None, Some, is_some, map as list_map}
 use Rattle.std.specs.List.{list_any, AllByRecursion}
 use Rattle.std.specs.FinMap as map
-use Rattle.std.proofs.Common.{◌≡◌, ℕ, suc, ◌+◌, ◌<◌, ◌≤◌, List, [], ◌∷◌, ◌++◌, length, refl, sym, ◌∙◌, ap, subst, arith}
+use Rattle.std.proofs.Common.{◌≡◌, ℕ, suc, ◌+◌, ◌<◌, ◌≤◌, List, [], ◌∷◌, ◌++◌, length, refl, sym, ◌∙◌, ap, subst, arith, eq-eqb}
 use Rattle.alp_base.specs.declared.ids.JoinNo.{JoinNo}
 use Rattle.alp_base.specs.declared.ids.TransId.{TransId}
 use Rattle.alp_journal.specs.Answers.{is_counted}
@@ -11,6 +11,7 @@ use Rattle.alp_journal.specs.Coordinator as fate
 use Rattle.alp_journal.specs.Deeds.{Begins}
 use Rattle.alp_journal.specs.Ids.{same_trans}
 use Rattle.alp_journal.proofs.IdLemmas.{same_trans-itself, same_trans-true}
+use Rattle.alp_journal.specs.State.{is_this}
 use Rattle.alp_journal.proofs.StandLemmas.{not_both_servers}
 use Rattle.alp_coord.specs.declared.begun.Settled.{Settled}
 use Rattle.alp_coord.specs.declared.begun.Settled.TheVariants as settled
@@ -22,10 +23,11 @@ use Rattle.alp_coord.proofs.FateLemmas.{next_fate}
 use Rattle.alp_coord.proofs.TickLemmas.{rising_once, closed_fate}
 use Rattle.alp_worker.specs.declared.joins.Joins.{Joins}
 use Rattle.alp_worker.specs.declared.live.LiveJoin.{LiveJoin}
-use Rattle.alp_worker.specs.Lives.{is_at, join_at}
+use Rattle.alp_worker.specs.Lives.{is_at, join_at, is_part, part_of}
 use Rattle.alp_node.specs.Paired.{ActsFor, IsItsJoin, IsPartOf, IsPairedWith, ArePaired}
 use Rattle.alp_node.specs.ServerState.{IsAlive, AreAlive, IsReady}
 use Rattle.alp_node.specs.Totals.{LiveMap}
+use Rattle.alp_node.specs.Waits.{has_part}
 use Rattle.alp_node.specs.declared.dead.DeadPart.{DeadPart}
 use Rattle.alp_node.specs.declared.lives.Live.{Live}
 use Rattle.alp_node.specs.declared.server_state.ServerState.{ServerState}
@@ -111,6 +113,22 @@ theirs_put m t l now there same u = ap whose_of (get_put m t now u) ∙ go (same
 pub theirs_then : (a b c : LiveMap) → AreTheirs a b → AreTheirs b c → AreTheirs a c
 theirs_then a b c first second t = second t ∙ first t
 
+-- of a join that passes one is found that does
+pub some_found : (p : LiveJoin → Bool) (j : JoinNo) (y : LiveJoin) (ls : List LiveJoin) → join_at ls j ≡ Some y → p y ≡ true → is_some (find p ls) ≡ true
+some_found p j y [] is pass = let wrong : None ≡ Some y = is in cc
+some_found p j y (x ∷ xs) is pass = go (is_at j x) is (λ e. some_found p j y xs e pass)
+  where
+    same : (a b : LiveJoin) → Some a ≡ Some b → a ≡ b
+    same a b e = cc
+
+    either : (b : Bool) → is_some (find p xs) ≡ true → is_some (cond {A = Option LiveJoin} b (Some x) (find p xs)) ≡ true
+    either true e = refl
+    either false e = e
+
+    go : (b : Bool) → cond {A = Option LiveJoin} b (Some x) (join_at xs j) ≡ Some y → (join_at xs j ≡ Some y → is_some (find p xs) ≡ true) → is_some (cond {A = Option LiveJoin} (p x) (Some x) (find p xs)) ≡ true
+    go true e more = ap (λ (b : Bool). is_some (cond {A = Option LiveJoin} b (Some x) (find p xs))) (ap p (same x y e) ∙ pass)
+    go false e more = either (p x) (more e)
+
 -- ---- of this server's own
 
 -- no join is of that transaction
@@ -160,6 +178,25 @@ module _ (servers here : ℕ) (c : Coordinator) (k : Joins) (m : LiveMap) (h : A
   -- a live part of this server's was begun
   pub part_begun : (t : TransId) (l : Live) → map.get m t ≡ Some l → t.server ≡ here → t.counter ≤ count_of c
   part_begun t l there own = (runs_placed c t l.client (own_client t l there own).0).within
+
+  -- whose part is live has one
+  pub part_has : (t : TransId) (l : Live) → map.get m t ≡ Some l → has_part l.client c k t ≡ true
+  part_has t l there = go l.join (subst (IsPairedWith k t (fate_in c t)) there (h.parts t))
+    where
+      or_right : (a b : Bool) → b ≡ true → (a || b) ≡ true
+      or_right true b e = refl
+      or_right false b e = e
+
+      of_join : (j : JoinNo) (y : Option LiveJoin) → join_at k.lives j ≡ y → IsItsJoin t l y → is_some (part_of l.client t k.lives) ≡ true
+      of_join j None e q = absurd q
+      of_join j (Some y) e q = some_found (is_part l.client t) j y k.lives e (λ i. is_it y q.0 i && eq-eqb y.client l.client q.1 i)
+        where
+          is_it : (y : LiveJoin) → y.trans ≡ t → same_trans y.trans t ≡ true
+          is_it y at = ap (λ (u : TransId). same_trans u t) at ∙ same_trans-itself t
+
+      go : (x : Option JoinNo) → IsPartOf k t l (fate_in c t) x → has_part l.client c k t ≡ true
+      go None p = ap (λ (x : Option ℕ). is_this l.client x || is_some (part_of l.client t k.lives)) p.0 ∙ ap (λ (b : Bool). b || is_some (part_of l.client t k.lives)) (eq-eqb l.client l.client refl)
+      go (Some j) p = or_right (is_this l.client (client_of (fate_in c t))) (is_some (part_of l.client t k.lives)) (of_join j (join_at k.lives j) refl p.1)
 
   -- the next id is that of no live part
   pub next_new : server_of c ≡ here → map.get m (next_id c) ≡ None
@@ -261,7 +298,7 @@ within (t ∷ ts) us once all =
     most [] = omega arith
     most (v ∷ vs) = by (other v) (most vs)
       where
-        by : (b : Bool) → length (filter other vs) ≤ length vs → length (cond {A = List TransId} b (v ∷ filter other vs) (filter other vs)) ≤ length vs + 1
+        by : (b : Bool) → length (filter other vs) ≤ length vs → length (cond {A = List TransId} b (v ∷ filter other vs) (filter other vs)) ≤ length (v ∷ vs)
         by true h = omega (arith, h)
         by false h = omega (arith, h)
 
@@ -270,7 +307,7 @@ within (t ∷ ts) us once all =
     gone (v ∷ vs) h = by (same_trans v t) refl h (gone vs) (most vs)
       where
         by : (b : Bool) → same_trans v t ≡ b → (b || has_trans t vs) ≡ true → (has_trans t vs ≡ true → length (filter other vs) + 1 ≤ length vs) → length (filter other vs) ≤ length vs
-            → length (cond {A = List TransId} (not b) (v ∷ filter other vs) (filter other vs)) + 1 ≤ length vs + 1
+            → length (cond {A = List TransId} (not b) (v ∷ filter other vs) (filter other vs)) + 1 ≤ length (v ∷ vs)
         by true e g more all = omega (arith, all)
         by false e g more all = let fewer : length (filter other vs) + 1 ≤ length vs = more g in omega (arith, fewer)
 
@@ -358,7 +395,8 @@ counted_gone before after t clock lets = counted_fewer before after lets.counts
 -- one begins
 pub counted_begun : (client seen : ℕ) (who : List ℕ) (before after : Coordinator) → Comes (Begins (next_id before) client who seen) before after → counted_of after ≤ counted_of before + 1
 counted_begun client seen who before after comes =
-    within (counted_list after) (next_id before ∷ counted_list before) (counted_once after) (λ t here. go t (same_trans (next_id before) t) refl (sym (ap is_counted (comes t)) ∙ there_passes (λ u. is_counted (fate_in after u)) t (open_ids after) here))
+    let all : length (counted_list after) ≤ length (next_id before ∷ counted_list before) = within (counted_list after) (next_id before ∷ counted_list before) (counted_once after) (λ t here. go t (same_trans (next_id before) t) refl (sym (ap is_counted (comes t)) ∙ there_passes (λ u. is_counted (fate_in after u)) t (open_ids after) here)) in
+    omega (arith, all)
   where
     go : (t : TransId) (b : Bool) → same_trans (next_id before) t ≡ b → is_counted (cond {A = Fate} b (fate.begun client (fate_in before t)) (fate_in before t)) ≡ true → has_trans t (next_id before ∷ counted_list before) ≡ true
     go t true e counts = ap (λ (x : Bool). x || has_trans t (counted_list before)) e
@@ -400,7 +438,7 @@ joined_there j y (x ∷ xs) is = go (is_at j x) is (joined_there j y xs)
     go false e more = either (same_trans x.trans y.trans) (more e)
 
 length_both : (us vs : List TransId) → length (us ++ vs) ≡ length us + length vs
-length_both [] vs = refl
+length_both [] vs = omega arith
 length_both (u ∷ us) vs = (let rest : length (us ++ vs) ≡ length us + length vs = length_both us vs in omega (arith, rest))
 
 length_joined : (ls : List LiveJoin) → length (joined_list ls) ≡ length ls

@@ -20,6 +20,7 @@ pub mod Releases
 pub mod Draws
 pub mod Calls
 pub mod Turns
+pub mod Votes
 pub mod Steps
 pub mod Served
 pub mod Starts

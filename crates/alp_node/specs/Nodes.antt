@@ -25,7 +25,7 @@ use Rattle.alp_journal.specs.Opening.{Start, start_at}
 use Rattle.alp_journal.specs.State.{State, opened}
 use Rattle.alp_journal.specs.Moves.{next, is_stop}
 use Rattle.alp_journal.specs.Laws.{IsLawful}
-use Rattle.alp_journal.specs.Answered.{IsAnswered, IsAnsweredEntry, entries_limit}
+use Rattle.alp_journal.specs.Answered.{IsAnswered, IsAnsweredEntry, entries_limit, is_read_fault}
 use Rattle.alp_journal.specs.Account.{Account, state_of as account_state}
 use Rattle.alp_node.specs.NodeStates.{NodeState}
 use Rattle.alp_node.specs.ServerState.{IsAs, IsReady}
@@ -104,9 +104,9 @@ pub record IsNew {V : Type 0} (volume : V → Sizes) (server : ℕ) (n : NodeSta
   pub locks : n.kept.locks ≡ record { held = map.empty; waiting = []; woken = [] }
   pub up : n.kept.is_down ≡ false
 
--- it has its cause in that state, which names a read that failed only where the count of faults rose
+-- it has its cause in that state, which names a read that failed only where the reply shows it and the count of faults rose
 abbrev pub HasCause : ℕ → ℕ → State → Entry → Type 0
-HasCause before now s e = (failed : Bool) × IsAnsweredEntry failed s e × (failed ≡ true → Rose before now)
+HasCause before now s e = (failed : Bool) × IsAnsweredEntry failed s e × (failed ≡ true → Rose before now × (is_read_fault e.reply ≡ true))
 
 -- One entry more: this event, which is this among the calls of its client, this reply, and what came about, with its cause where
 -- the vault tells. Each call that is not astray has a reply, each event by which the server goes down, and nothing else. A

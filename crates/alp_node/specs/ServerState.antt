@@ -30,7 +30,7 @@ use Rattle.alp_trans.specs.Parts.{own_of}
 use Rattle.alp_worker.specs.declared.joins.Joins.{Joins}
 use Rattle.alp_worker.specs.declared.live.LiveJoin.{LiveJoin}
 use Rattle.alp_worker.specs.declared.live.Stage.TheVariants as stage
-use Rattle.alp_worker.specs.Joins.{AreJoinsOf}
+use Rattle.alp_worker.specs.Joins.{AreJoinsOf, is_drawn_in}
 use Rattle.alp_worker.specs.Lives.{join_at, AreOnce}
 use Rattle.alp_trans.specs.Counting.{AreCountsOf}
 use Rattle.alp_journal.specs.Answers.{more_locks}
@@ -168,11 +168,12 @@ pub record AreAlive (dead : List DeadPart) (lives : LiveMap) (ls : List LiveJoin
   pub parts : (t : TransId) (l : Live) → map.get lives t ≡ Some l → IsAlive dead l.client t
   pub joins : (j : JoinNo) (x : LiveJoin) → join_at ls j ≡ Some x → IsAlive dead x.client x.trans
 
--- The joins are of this server in this epoch, each is there once, and no vote is later than a time may be.
-pub record AreJoinsHere (here now steps : ℕ) (joins : Joins) : Type 0 where
+-- The joins are of this server in this epoch, each was drawn here and is there once, and no vote is later than a time may be.
+pub record AreJoinsHere (here current steps : ℕ) (joins : Joins) : Type 0 where
   pub server : joins.server ≡ here
-  pub epoch : joins.epoch ≡ now
+  pub epoch : joins.epoch ≡ current
   pub drawn : joins.drawn ≤ steps
+  pub numbered : (j : JoinNo) (x : LiveJoin) → join_at joins.lives j ≡ Some x → is_drawn_in joins j ≡ true
   pub once : AreOnce joins.lives
   pub times : (j : JoinNo) (x : LiveJoin) (ts : ℕ) → join_at joins.lives j ≡ Some x → x.stage ≡ stage.Ready ts → ts ≤ 2 ^ 62
 

@@ -1,5 +1,5 @@
 -- What a client has here of a transaction, and how a call of its part is refused at once.
-use Rattle.std.specs.Prelude.{◌==◌, ℕ, Bool, if◌then◌else◌, Option, None, Some}
+use Rattle.std.specs.Prelude.{◌==◌, ℕ, Bool, true, false, if◌then◌else◌, Option, None, Some}
 use Rattle.alp_base.specs.declared.ids.TransId.{TransId}
 use Rattle.alp_files.specs.declared.refusal.Cause.{Cause}
 use Rattle.alp_files.specs.declared.refusal.Refusal.{Refusal}
@@ -47,3 +47,9 @@ refusal_at busy (standing.Ended c) = Some (refusal.Aborted c)
 refusal_at busy standing.Joining = Some refusal.NotYet
 refusal_at busy standing.Finishing = Some refusal.Finishing
 refusal_at busy standing.Work = if busy then Some refusal.NotYet else None
+
+-- the client has no live part
+abbrev pub is_no_standing : Standing → Bool
+is_no_standing standing.Unknown = true
+is_no_standing (standing.Ended c) = true
+is_no_standing s = false

@@ -16,6 +16,7 @@ use Rattle.alp_journal.specs.declared.event.Event.{Event}
 use Rattle.alp_journal.specs.declared.event.Event.TheVariants as event
 use Rattle.alp_journal.specs.declared.entry.Entry.{Entry}
 use Rattle.alp_journal.specs.declared.message.Message.TheVariants as msg
+use Rattle.alp_journal.specs.Answered.{is_read_fault}
 use Rattle.alp_journal.specs.Moves.{is_stop}
 use Rattle.alp_journal.specs.Account.{Account, state_of, Leads}
 use Rattle.alp_vault.specs.Vault.{IsSameVault}
@@ -55,12 +56,12 @@ abbrev pub IsTimely : ℕ → Event → ℕ → Type 0
 IsTimely before e now = now ≤ max before (seen_in e) + 1
 
 -- The entry of the answered event is lawful and has its cause, the server keeps what its state says then, and the clock is no
--- later than it may be. That a read of the device failed shows only where the count of faults rose.
+-- later than it may be. That a read of the device failed shows in the reply, and only where the count of faults rose.
 pub record Stepped {V : Type 0} (a : Account) (before now : ℕ) (held : Contents) (new : ServerState V) (e : Event) (x : Answer) : Type 0 where
   pub failed : Bool
   pub next : Account
   pub leads : Leads failed a (entry_of e x) next
-  pub rose : failed ≡ true → Rose before now
+  pub rose : failed ≡ true → Rose before now × (is_read_fault x.kept ≡ true)
   pub kept : IsAs next held new
   pub clock : IsTimely a.holder.clock e new.clock
 

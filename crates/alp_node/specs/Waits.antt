@@ -8,6 +8,7 @@ use Rattle.alp_base.specs.declared.faults.Sizes.{Sizes}
 use Rattle.alp_base.specs.declared.key.Resource.TheVariants.{Whole}
 use Rattle.alp_files.specs.Locks.{IsFormed}
 use Rattle.alp_files.specs.declared.call.Call.{Call}
+use Rattle.alp_files.specs.declared.call.Call.TheVariants as call
 use Rattle.alp_journal.specs.Counts.{log_need}
 use Rattle.alp_journal.specs.Desk.{Waiting, file_trans, part_trans}
 use Rattle.alp_journal.specs.Ids.{same_trans}
@@ -47,6 +48,23 @@ is_file_on t w = is_some w.counts && same_trans w.trans t
 abbrev pub is_at : ℕ → ℕ → WaitingCall → Bool
 is_at client number w = w.client == client && w.number == number
 
+-- it is the client's Join or Finish with this number
+abbrev pub is_other_at : ℕ → ℕ → WaitingCall → Bool
+is_other_at client number w = is_at client number w && is_none w.counts
+
+-- the transaction of a Finish, and of a Join
+abbrev pub finish_trans : Call → Option TransId
+finish_trans (call.Finish t commit) = Some t
+finish_trans c = None
+
+abbrev pub join_trans : Call → Option TransId
+join_trans (call.Join t) = Some t
+join_trans c = None
+
+-- such a call of the client on the transaction waits, by that number
+abbrev pub HasOtherAt : (Call → Option TransId) → ℕ → ℕ → TransId → List WaitingCall → Type 0
+HasOtherAt of client number t ws = (w : WaitingCall) × (find (is_at client number) ws ≡ Some w) × (w.counts ≡ None) × (file_trans w.call ≡ None) × (of w.call ≡ Some t)
+
 abbrev pub has_waiting : ℕ → TransId → List WaitingCall → Bool
 has_waiting client t ws = list_any (is_of client t) ws
 
@@ -80,8 +98,8 @@ grant_of t ws = list_map (grant_one t) ws
 abbrev pub without_calls_of : ℕ → TransId → List WaitingCall → List WaitingCall
 without_calls_of client t ws = filter (λ w. not (is_of client t w)) ws
 
-abbrev pub without_call_at : ℕ → ℕ → List WaitingCall → List WaitingCall
-without_call_at client number ws = filter (λ w. not (is_at client number w)) ws
+abbrev pub without_other_at : ℕ → ℕ → List WaitingCall → List WaitingCall
+without_other_at client number ws = filter (λ w. not (is_other_at client number w)) ws
 
 -- of a client's calls those that are of no dead part, and all of the others'
 abbrev pub outlives : ℕ → List DeadPart → WaitingCall → Bool
@@ -132,10 +150,9 @@ pub record IsWaitingCall (server epoch given drawn : ℕ) (sizes : Sizes) (lives
   pub named : IsNamed w
   pub file : (n : LockCounts) → w.counts ≡ Some n → IsFileCall server epoch given drawn sizes lives w n
 
--- no two file calls are of one transaction, and no two calls of one part
-pub record IsOfOther (w v : WaitingCall) : Type 0 where
-  pub files : (is_some w.counts && is_file_on w.trans v) ≡ false
-  pub parts : is_of w.client w.trans v ≡ false
+-- no two file calls are of one transaction
+abbrev pub IsOfOther : WaitingCall → WaitingCall → Type 0
+IsOfOther w v = (is_some w.counts && is_file_on w.trans v) ≡ false
 
 abbrev pub AreApart : List WaitingCall → Type 0
 AreApart [] = Unit {0}

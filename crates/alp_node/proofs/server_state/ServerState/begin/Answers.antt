@@ -89,7 +89,7 @@ returns g c =
     (λ told a h. subst (λ (m : ℕ). Stepped a faults faults held (record after { clock = m }) e x) (sym clock)
     (begin_stepped a held k turn.client turn.number (session_of turn c.requires.turn) seen drawn.part z faults faults x (entered k.locks t) h c.requires.turn.client c.requires.up c.requires.turn.session c.requires.turn.number ready.raised none new
     (λ u q. ap (λ y. map.get y q) (entering-keeps-held k.locks t u)) drawn.own drawn.intents drawn.counts drawn.one (comes turn.who seen.ts) named ready.waits.files away refl (entering-keeps-held k.locks t) is))
-    (reply_given k.server faults faults (G.allowance k.vault) k.is_down r (act.Drawn t ∷ []) x is (counts_none k.server faults faults k.is_down (Some r) refl refl c.requires.up) c.requires.up tt)
+    (reply_given faults faults (G.allowance k.vault) k.is_down r (act.Drawn t ∷ []) x is (counts_none faults faults k.is_down (Some r) refl refl c.requires.up) c.requires.up tt)
     (λ m h. begin_ready m serves k turn l n z c.requires.turn refl drawn.one comes refl drawn.own (new_within k.sizes turn.client (Some turn.who) drawn.part drawn.intents drawn.counts h.sized) few (omega (arith, clock)) (omega (arith, clock, h.clock, c.requires.time)) h)
     (λ on. subst (λ (y : Answer). HasTurned (Some order.Next) k after e y.kept) (sym is) (counts_on k after turn c.requires.turn (call.Begin seen) r tt (omega (arith, clock)) tt tt refl)))
 

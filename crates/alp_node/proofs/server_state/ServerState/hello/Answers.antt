@@ -28,7 +28,7 @@ returns g c =
     (λ told a h.
     subst (λ (x : Sessions). Stepped a faults faults held (record k { sessions = x }) (event.Call c.args.client 0 1 (call.Hello c.args.name)) c.in_ok-answer.answer) (sym c.set.ensures)
     (hello_stepped a faults faults held k c.args.client c.args.name c.in_ok-answer.answer h c.requires.client c.requires.up c.requires.first is))
-    (calm_given k.server faults faults (g.V.Vault.allowance k.vault) k.is_down (Some order.First) (Some (reply.Welcome k.epoch)) [] c.in_ok-answer.answer is refl refl refl refl c.requires.up c.requires.up tt)
+    (calm_given faults faults (g.V.Vault.allowance k.vault) k.is_down (Some order.First) (Some (reply.Welcome k.epoch)) [] c.in_ok-answer.answer is refl refl refl refl c.requires.up c.requires.up tt)
     (λ n h. subst (λ (x : Sessions). IsReady (n + 1) serves (record k { sessions = x })) (sym c.set.ensures) (hello_ready n serves k c.args.client c.args.name c.requires.client h))
     (λ on. subst (λ (y : Answer). HasTurned (Some order.First) k (record k { sessions = c.set.new.self }) (event.Call c.args.client 0 1 (call.Hello c.args.name)) y.kept) (sym is)
     (record { later = omega arith; times = tt; sessions = (refl, ap (λ (x : Sessions). record k { sessions = x }) c.set.ensures); pages = tt }))

@@ -229,8 +229,8 @@ returns-in-Ok g c =
     (lock_stepped a (G.faults k.vault) (G.faults N.vault) (G.held k.vault) k turn t l did.part call ns did.room r N.vault c.requires.ready.0 (G.serves k.vault) x (G.held N.vault) c.requires.ready.2 h c.requires.up left.contents c.requires.turn there own
     c.requires.served files (asked_told (G.tells k.vault) (G.held k.vault).cells (holding k.locks.held t) l.part call ns asked told) shape few c.requires.named c.requires.formed given_told of is free_asked away))
     ))
-    (reply_given k.server (G.faults k.vault) (G.faults M.vault) (G.allowance M.vault) M.is_down r (acts_of t rises) x is
-    (counts_none k.server (G.faults k.vault) (G.faults M.vault) M.is_down (Some r)
+    (reply_given (G.faults k.vault) (G.faults M.vault) (G.allowance M.vault) M.is_down r (acts_of t rises) x is
+    (counts_none (G.faults k.vault) (G.faults M.vault) M.is_down (Some r)
     (answered_quiet k.server (G.tells k.vault) (G.held k.vault).cells l.part did.part (name_in l.who) (next_file k) call did.room r given) faults (ap (λ (y : ServerState _). y.is_down) kept_is ∙ c.requires.up)) (ap (λ (y : ServerState _). y.is_down) kept_is ∙ c.requires.up ∙ sym (acts_up t rises))
     (acts_caused (G.faults k.vault) (G.faults M.vault) (G.allowance M.vault) t rises))
     (λ m h. (
