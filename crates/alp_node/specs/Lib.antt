@@ -30,5 +30,4 @@ pub mod DownStates
 pub mod Downs
 pub mod Arrivals
 pub mod Says
-pub mod Votes
-pub mod Writes
+

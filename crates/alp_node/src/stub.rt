@@ -1,5 +1,5 @@
 //! What the lead writes: this file goes.
-ghost use Rattle.std.specs.Prelude.{◌≡◌, IsTrue, IfOk, None, Some, false, []};
+ghost use Rattle.std.specs.Prelude.{◌≡◌, IsTrue, IfOk, None, Some, false, true, []};
 ghost use Rattle.alp_files.specs.declared.call.Call.TheVariants as call;
 ghost use Rattle.alp_journal.specs.declared.event.Event.TheVariants as event;
 ghost use Rattle.alp_journal.specs.Coordinator.{joins_of as joins_of_said};
