@@ -84,7 +84,7 @@ others_only : (t : TransId) (c : Call) (w : WaitingCall) (ws : List WaitingCall)
 others_only t c w [] at all = tt
 others_only t c w (v ∷ vs) at all = (
   λ e. let both : (is_some w.counts && is_file_on w.trans v) ≡ is_file_on t v = (λ i. file_counts t w at i && is_file_on (file_at t w at i) v) in
-      let wrong : true ≡ false = sym (both ∙ e) ∙ all.0.files in cc,
+      let wrong : true ≡ false = sym (both ∙ e) ∙ all.0 in cc,
   others_only t c w vs at all.1,
 )
 

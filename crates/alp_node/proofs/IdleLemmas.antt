@@ -200,6 +200,7 @@ idle_stepped a before now held k client epoch number c x h up idle so =
       rose = λ e. cc;
       kept = record {
         server = h.server;
+        servers = h.servers;
         sizes = h.sizes;
         epoch = h.epoch;
         clock = h.clock;
@@ -213,8 +214,7 @@ idle_stepped a before now held k client epoch number c x h up idle so =
         room = h.room;
         unborn = h.unborn;
         coordinator = h.coordinator;
-        plain = h.plain;
-        lone = h.lone;
+        joins = h.joins;
         files = h.files;
         made = h.made;
         born = h.born;
@@ -308,7 +308,7 @@ module _ {V : Type 0} (G : Ghosts V) (k : ServerState V) (client epoch number : 
         → IsStepAs G (Some (order_of k.epoch epoch number c here_now)) k k this_call (Ok x)
     idle_step x idle so =
         let o : CallOrder = order_of k.epoch epoch number c here_now in
-        left_step_as G k k refl refl refl (left_same G k.vault) (Some o) this_call x up
+        left_step_as G k k refl refl refl refl (left_same G k.vault) (Some o) this_call x up (λ ns h. h)
         (λ told a h. idle_stepped a (G.faults k.vault) (G.faults k.vault) (G.held k.vault) k client epoch number c x h up idle so)
         (calm_given (G.faults k.vault) (G.faults k.vault) (G.allowance k.vault) k.is_down (Some o) (idle_reply o k.epoch here_now) [] x so
         (idle_answered o k.epoch here_now idle (repeat_kept k.epoch epoch number c here_now)) (idle_calm o k.server k.epoch here_now idle)
@@ -331,4 +331,4 @@ module _ {V : Type 0} (G : Ghosts V) (k : ServerState V) (client epoch number : 
         so None there told = cc
     repeat_step (Err f) again told =
         wanting_as G k k (Some (order_of k.epoch epoch number c here_now)) this_call (Err f) refl
-        (record { kept = λ a h. h; ready = λ m h. h; up = refl; sessions = refl; clock = refl; vault = record { held = refl; faults = refl; allowance = refl } }) (λ h. h) (left_seated G k k refl refl refl (left_same G k.vault)) (left_same G k.vault)
+        (record { kept = λ a h. h; ready = λ m h. h; up = refl; sessions = refl; clock = refl; vault = record { held = refl; faults = refl; allowance = refl } }) (λ h. h) (left_seated G k k refl refl refl refl (left_same G k.vault)) (left_same G k.vault)

@@ -311,7 +311,7 @@ within (t ∷ ts) us once all =
         by true e g more all = omega (arith, all)
         by false e g more all = let fewer : length (filter other vs) + 1 ≤ length vs = more g in omega (arith, fewer)
 
-or_none : (a b : Bool) → (a || b) ≡ false → (a ≡ false) × (b ≡ false)
+pub or_none : (a b : Bool) → (a || b) ≡ false → (a ≡ false) × (b ≡ false)
 or_none false b e = (refl, e)
 or_none true b e = let wrong : true ≡ false = e in cc
 
@@ -325,7 +325,7 @@ module _ (p : TransId → Bool) where
       go false e rest = rest
 
   -- what passes among ids that are named once is named once
-  once_passing : (ts : List TransId) → AreIdsOnce ts → AreIdsOnce (filter p ts)
+  pub once_passing : (ts : List TransId) → AreIdsOnce ts → AreIdsOnce (filter p ts)
   once_passing [] once = tt
   once_passing (t ∷ ts) once = go (p t) (once_passing ts once.1)
     where
@@ -333,7 +333,7 @@ module _ (p : TransId → Bool) where
       go true rest = (none_passing t ts once.0, rest)
       go false rest = rest
 
-  passing_there : (t : TransId) (ts : List TransId) → p t ≡ true → has_trans t ts ≡ true → has_trans t (filter p ts) ≡ true
+  pub passing_there : (t : TransId) (ts : List TransId) → p t ≡ true → has_trans t ts ≡ true → has_trans t (filter p ts) ≡ true
   passing_there t [] pass h = h
   passing_there t (u ∷ us) pass h = go (p u) refl (same_trans u t) refl h (passing_there t us pass)
     where
@@ -344,7 +344,7 @@ module _ (p : TransId → Bool) where
       go false f true e g more = let wrong : true ≡ false = sym (ap p (same_trans-true u t e) ∙ pass) ∙ f in cc
       go false f false e g more = more g
 
-  there_passes : (t : TransId) (ts : List TransId) → has_trans t (filter p ts) ≡ true → p t ≡ true
+  pub there_passes : (t : TransId) (ts : List TransId) → has_trans t (filter p ts) ≡ true → p t ≡ true
   there_passes t [] h = let wrong : false ≡ true = h in cc
   there_passes t (u ∷ us) h = go (p u) refl h (there_passes t us)
     where
@@ -403,7 +403,7 @@ counted_begun client seen who before after comes =
     go t false e counts = ap (λ (x : Bool). x || has_trans t (counted_list before)) e ∙ counted_there before t counts
 
 -- each live part is of a transaction that counts, or of a join
-has_left : (t : TransId) (us vs : List TransId) → has_trans t us ≡ true → has_trans t (us ++ vs) ≡ true
+pub has_left : (t : TransId) (us vs : List TransId) → has_trans t us ≡ true → has_trans t (us ++ vs) ≡ true
 has_left t [] vs h = let wrong : false ≡ true = h in cc
 has_left t (u ∷ us) vs h = go (same_trans u t) h (has_left t us vs)
   where
@@ -411,7 +411,7 @@ has_left t (u ∷ us) vs h = go (same_trans u t) h (has_left t us vs)
     go true e more = refl
     go false e more = more e
 
-has_right : (t : TransId) (us vs : List TransId) → has_trans t vs ≡ true → has_trans t (us ++ vs) ≡ true
+pub has_right : (t : TransId) (us vs : List TransId) → has_trans t vs ≡ true → has_trans t (us ++ vs) ≡ true
 has_right t [] vs h = h
 has_right t (u ∷ us) vs h = go (same_trans u t) (has_right t us vs h)
   where

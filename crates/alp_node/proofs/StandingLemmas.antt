@@ -219,7 +219,7 @@ others_running client c t false desk r js away = record {
   mail = λ idle. ap (λ (b : Bool). cond {A = List Mail} b (to_each (λ (j : JoinNo). msg.Abort t j cause.Asked) js) []) away;
 }
 
-pub ends_none : (client : ℕ) (t : TransId) (commit : Bool) (desk : Desk) (r : Reply) (d : Option Cause) (f : Fate) → (own_part client dead f ≡ AtWork → ⊥) → EndsNone client t commit desk r f
+pub ends_none : (client : ℕ) (t : TransId) (commit : Bool) (desk : Desk) (r : Reply) (d : Option Cause) (f : Fate) → (own_part client d f ≡ AtWork → ⊥) → EndsNone client t commit desk r f
 ends_none client t true desk r d Undrawn none = record { deeds = refl; mail = λ b. refl }
 ends_none client t false desk r d Undrawn none = record { deeds = refl; mail = λ b. refl }
 ends_none client t commit desk r d (Running c js) none = others_running client c t commit desk r js (go (c == client) refl)
@@ -422,6 +422,10 @@ module _ {V : Type 0} (n : ℕ) (serves : Bool) (k : ServerState V) (h : IsReady
           → cond {A = Standing} b (own_standing client (cause_in k.dead client t) (fate_in k.coordinator t)) (joined_standing (cause_in k.dead client t) (part_of client t k.joins.lives)) ≡ standing.Work → WorksHere k client t
       go true e s = (let runs = own_works client (cause_in k.dead client t) (fate_in k.coordinator t) s in here (eqb-true t.server k.server e) runs.0 runs.1)
       go false e s = far (part_of client t k.joins.lives) refl s
+
+-- the live part is the client's and at work
+abbrev pub IsWorking : {V : Type 0} → ServerState V → ℕ → TransId → Live → Type 0
+IsWorking k client t l = (l.client ≡ client) × (standing_of k client t ≡ standing.Work)
 
 -- the part at work is this one
 pub works_own : {V : Type 0} (n : ℕ) (serves : Bool) (k : ServerState V) (client : ℕ) (t : TransId) (l : Live) → IsReady n serves k → standing_of k client t ≡ standing.Work → map.get k.lives t ≡ Some l → (l.client ≡ client) × (is_some l.who ≡ true)

@@ -29,6 +29,7 @@ use Rattle.alp_vault.specs.declared.vault.Vault.{Ghosts}
 use Rattle.alp_node.specs.ServerState.{IsAs, IsReady}
 use Rattle.alp_node.specs.Steps.{Stepped, IsStepAs, IsStep, IsTurn, counted_in, ended, told_answer, refused_answer, entry_of}
 use Rattle.alp_node.specs.Turns.{IsInSession, HasTurned}
+use Rattle.alp_worker.specs.declared.joins.Joins.{Joins}
 use Rattle.alp_node.specs.declared.answer.Answer.{Answer}
 use Rattle.alp_node.specs.declared.server_state.ServerState.{ServerState}
 use Rattle.alp_node.specs.declared.sessions.CallOrder.TheVariants as order
@@ -117,7 +118,8 @@ module _ {V : Type 0} (G : Ghosts V) (k new : ServerState V) where
       (ap (λ (y : ServerState V). y.sizes) done ∙ ended_as k turn t r (λ (y : ServerState V). y.sizes)) (ap (λ (y : ServerState V). y.epoch) done ∙ ended_as k turn t r (λ (y : ServerState V). y.epoch)) up
       (ap (λ (y : ServerState V). y.is_down) done ∙ ended_as k turn t r (λ (y : ServerState V). y.is_down) ∙ up) (subst (KeepsNotes k) (sym done) keeps) refl so (grants_go_with ts sent calm)
       (λ m n b. grants_caused_with m n b ts sent (causes m n b))
-      (λ n h. subst (λ (y : ServerState V). IsReady (n + 1) (G.serves k.vault) y) (sym done)
+      (λ n h. subst (λ (y : ServerState V). IsReady (n + 1) (G.serves k.vault) y)
+      (ap (λ (js : Joins). record (ended k turn t r) { coordinator = z; joins = js }) (sym (ended_as k turn t r (λ (y : ServerState V). y.joins))) ∙ sym done)
       (ended_ready n k t z k.joins turn (G.serves k.vault) r (own_lets n (G.serves k.vault) k t z k.clock (lets_end k.coordinator z t cause k.clock along ends h.times) own h) is (record { inside = tt; times = tt }) h))
       (λ told a h. subst (λ (y : ServerState V). Stepped a (G.faults k.vault) (G.faults k.vault) (G.held k.vault) y (event.Call turn.client k.epoch turn.number c) x) (sym done) (steps told a h))
       (counts_refused k new turn is c (refusal.Aborted cause) tt (ap (λ (y : ServerState V). y.clock) done ∙ ended_as k turn t r (λ (y : ServerState V). y.clock)) (ap (λ (y : ServerState V). y.sessions) done))

@@ -63,10 +63,10 @@ pub record HasSize (n : PartSize) (p : ReadyPart) : Type 0 where
   pub cells : changed_cells p.change ≡ n.cells
 
 -- of a part that voted, with the time of its vote
-pub record IsNoteOf (lives : LiveMap) (l : LiveJoin) (when : ℕ) (p : ReadyPart) : Type 0 where
+pub record IsNoteOf (lives : LiveMap) (l : LiveJoin) (time : ℕ) (p : ReadyPart) : Type 0 where
   pub trans : p.trans ≡ l.trans
   pub client : p.client ≡ l.client
-  pub ts : p.ts ≡ when
+  pub ts : p.ts ≡ time
   pub size : HasSize (size_in lives l.trans) p
 
 -- a join that voted has its note, and no other join has one
@@ -79,8 +79,8 @@ abbrev pub IsNotedJoin : LiveMap → Option LiveJoin → Option ReadyPart → Ty
 IsNotedJoin lives None x = x ≡ None
 IsNotedJoin lives (Some l) x = IsNotedAs lives l l.stage x
 
-pub record AreNoted (server servers current : ℕ) (lives : LiveMap) (joins : Joins) (c : Coordinator) (notes : Notes) : Type 0 where
-  pub epoch : (clock_kept notes).epoch ≡ current
+pub record AreNoted (server servers now : ℕ) (lives : LiveMap) (joins : Joins) (c : Coordinator) (notes : Notes) : Type 0 where
+  pub epoch : (clock_kept notes).epoch ≡ now
   pub ready : (j : JoinNo) → ready_name.Fits j → IsNotedJoin lives (join_at joins.lives j) (ready_at notes j)
   pub decided : (t : TransId) → decision_name.Fits t → decision_at notes t ≡ decision_kept (fate_in c t)
   pub format : AreServerNotes server servers notes

@@ -169,9 +169,9 @@ pub record AreAlive (dead : List DeadPart) (lives : LiveMap) (ls : List LiveJoin
   pub joins : (j : JoinNo) (x : LiveJoin) → join_at ls j ≡ Some x → IsAlive dead x.client x.trans
 
 -- The joins are of this server in this epoch, each was drawn here and is there once, and no vote is later than a time may be.
-pub record AreJoinsHere (here current steps : ℕ) (joins : Joins) : Type 0 where
+pub record AreJoinsHere (here now steps : ℕ) (joins : Joins) : Type 0 where
   pub server : joins.server ≡ here
-  pub epoch : joins.epoch ≡ current
+  pub epoch : joins.epoch ≡ now
   pub drawn : joins.drawn ≤ steps
   pub numbered : (j : JoinNo) (x : LiveJoin) → join_at joins.lives j ≡ Some x → is_drawn_in joins j ≡ true
   pub once : AreOnce joins.lives
