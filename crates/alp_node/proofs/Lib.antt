@@ -85,10 +85,4 @@ pub mod GoneLemmas
 pub mod EndingLemmas
 pub mod OutcomeLemmas
 pub mod JoinLemmas
-mod NoteLaw
-pub mod FatedLemmas
-mod SayLemmas
-mod ArrivalLemmas
-mod JoinMoves
-mod JoinedLemmas
-mod LogLemmas
+pub mod LogLemmas

@@ -30,4 +30,3 @@ pub mod DownStates
 pub mod Downs
 pub mod Arrivals
 pub mod Says
-pub mod Writes

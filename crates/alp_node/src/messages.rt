@@ -7,7 +7,7 @@ ghost use Rattle.alp_node.specs.Says.{said_to, said_each, is_away, register_acts
 ghost use Rattle.alp_node.specs.ServerState.{IsReadyForMore};
 ghost use Rattle.alp_node.specs.Steps.{IsStepAs, told_answer};
 ghost use Rattle.alp_worker.specs.Lives.{join_at};
-ghost use Rattle.alp_node.specs.Arrivals.{join_of};
+ghost use Rattle.alp_node.specs.Arrivals.{join_of, unknown_acts};
 
 use crate::answer::Answer;
 use crate::dead::is_same;
