@@ -279,6 +279,7 @@ module _ {V : Type 0} (k : ServerState V) (turn : Turn) (t : TransId) (l : Live)
       room = h.room;
       unborn = h.unborn;
       coordinator = h.coordinator;
+      decided = h.decided;
       joins = h.joins;
       files = h.files;
       made = h.made;

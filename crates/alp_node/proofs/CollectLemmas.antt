@@ -309,6 +309,7 @@ module _ {V : Type 0} (a : Account) (held : Contents) (k : ServerState V) (clien
     room = h.room;
     unborn = h.unborn;
     coordinator = h.coordinator;
+    decided = h.decided;
     plain = h.plain;
     lone = h.lone;
     files = h.files;

@@ -433,6 +433,7 @@ halted_as a m held then k v ds is quiet h =
       room = h.room;
       unborn = h.unborn;
       coordinator = h.coordinator;
+      decided = h.decided;
       plain = h.plain;
       lone = h.lone;
       files = h.files;

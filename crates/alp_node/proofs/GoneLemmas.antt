@@ -28,7 +28,7 @@ use Rattle.alp_vault.specs.Contents.{Contents}
 use Rattle.alp_journal.specs.Account.{Account, state_of, AreApart, AreTwo, IsQuiet, with_granted, granted_calls, call_on, is_on_trans, holder_granted}
 use Rattle.alp_journal.specs.Answered.{in_turn, IsWalk}
 use Rattle.alp_journal.specs.Counts.{lock_set, request_in, with_resources}
-use Rattle.alp_journal.specs.Coordinator.{Fate}
+use Rattle.alp_journal.specs.Coordinator.{Fate, decision_in}
 use Rattle.alp_journal.specs.Desk.{Session, Waiting, file_trans, is_of_part, without}
 use Rattle.alp_journal.specs.Holder.{Holder, Life, with_life, view_in, grants, held_for}
 use Rattle.alp_journal.specs.Ids.{same_trans}
@@ -57,6 +57,7 @@ use Rattle.alp_node.specs.declared.sessions.Sessions.{Sessions}
 use Rattle.alp_node.specs.declared.waits.WaitingCall.{WaitingCall}
 use Rattle.alp_node.proofs.BesideLemmas.{AreNamed, file_named, part_alike}
 use Rattle.alp_node.proofs.GiveOnLemmas.{IsAlikeApart, alike_apart, alike_with_held, AreKept, HasCall, all_granted}
+use Rattle.alp_node.proofs.KeptLemmas.{applied_fated}
 use Rattle.alp_node.proofs.MapLemmas.{get_gone}
 use Rattle.alp_node.proofs.TotalLemmas.{gone_room}
 use Rattle.alp_node.proofs.WaitLemmas.{counts_there, file_counts, file_at}
@@ -404,11 +405,11 @@ module _ {V : Type 0} (a : Account) (held : Contents) (k : ServerState V) (t : T
         abbrev pub server_told : ServerState V
         server_told = record k { lives = server_then.lives; locks = record (released k.locks t) { woken = [] }; sessions = kept_sessions; dead = kept_dead; waits = kept_waits; coordinator = c }
 
-        pub gone_as : k.is_down ≡ false → IsCoordinatorBy a.holder.server a.ids.epoch a.ids.transactions fates c → (AreNotesOf (state_of a) a.ids.epoch held.notes → AreNotesOf (state_of state_told) a.ids.epoch held.notes)
+        pub gone_as : k.is_down ≡ false → IsCoordinatorBy a.holder.server a.ids.epoch a.ids.transactions fates c → ((u : TransId) → decision_in (fates u) ≡ decision_in (a.fates u)) → (AreNotesOf (state_of a) a.ids.epoch held.notes → AreNotesOf (state_of state_told) a.ids.epoch held.notes)
             → length kept_sessions.places ≡ 17 → ((client : ℕ) → sessions client ≡ session_at kept_sessions client) → ((client : ℕ) (u : TransId) → dead client u ≡ cause_in kept_dead client u)
             → waits ≡ waiting_calls kept_waits → AllByRecursion (IsWaitingAs state_then.holder state_then.locked) kept_waits → (released k.locks t).waiting ≡ queue_of state_then.holder (released k.locks t).held waits
             → IsQuiet state_told → IsAs state_told held server_told
-        gone_as up coordinated noted places same_sessions same_dead same_waits asked queue quiet = subst (λ (x : Holder). IsAs (record state_told { holder = x }) held server_told) (sym rest) (record {
+        gone_as up coordinated none_decided noted places same_sessions same_dead same_waits asked queue quiet = subst (λ (x : Holder). IsAs (record state_told { holder = x }) held server_told) (sym rest) (record {
           server = h.server;
           servers = h.servers;
           sizes = h.sizes;
@@ -428,6 +429,7 @@ module _ {V : Type 0} (a : Account) (held : Contents) (k : ServerState V) (t : T
           room = g.all.fits;
           unborn = λ u l is. unborn_then u l (map.get server_then.lives u) refl is (g.all.lives u);
           coordinator = coordinated;
+          decided = applied_fated a (record state_told { holder = record first { lives = (holder_granted first g.given).lives } }) refl refl none_decided h.decided;
           joins = h.joins;
           files = h.files;
           made = h.made;

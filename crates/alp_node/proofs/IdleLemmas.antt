@@ -214,6 +214,7 @@ idle_stepped a before now held k client epoch number c x h up idle so =
         room = h.room;
         unborn = h.unborn;
         coordinator = h.coordinator;
+        decided = h.decided;
         joins = h.joins;
         files = h.files;
         made = h.made;

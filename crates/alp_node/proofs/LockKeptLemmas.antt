@@ -176,6 +176,7 @@ module _ {V : Type 0} (a : Account) (before now : ℕ) (held : Contents) (k : Se
       room = same_room k.sizes a.holder.cells k.lives t l live_now there stands.2 h.room;
       unborn = h.unborn;
       coordinator = h.coordinator;
+      decided = h.decided;
       joins = h.joins;
       files = h.files;
       made = h.made;
@@ -228,6 +229,7 @@ module _ {V : Type 0} (a : Account) (before now : ℕ) (held : Contents) (k : Se
           unborn = each_set (λ x. PutNoneBeyond a.holder.server a.ids.epoch k.given x.edits) t (Some new) a.holder.lives h.unborn
               (λ x at. subst (λ (y : Life). PutNoneBeyond a.holder.server a.ids.epoch k.given y.edits) (same-some new x at) (h.unborn t life live));
           coordinator = h.coordinator;
+          decided = h.decided;
           joins = h.joins;
           files = h.files;
           made = h.made;
