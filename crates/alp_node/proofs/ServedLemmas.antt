@@ -76,6 +76,9 @@ module _ {V : Type 0} (a : Account) (before now : ℕ) (held : Contents) (k : Se
       go None e s = let wrong : false ≡ true = s in cc
       go (Some v) e s = (v, e)
 
+  abbrev Refuses : Refusal → Answer → Type 0
+  Refuses f x = Stepped a before now held (record k { sessions = counted_in k.sessions turn (reply.Refused f) }) (event.Call turn.client k.epoch turn.number c) x
+
   pub at_once_stepped : (f : Refusal) (x : Answer) → IsAs a held k → IsTurn k.sessions turn → k.is_down ≡ false → AreNamed k.waits → file_trans c ≡ Some t → refusal_at (has_waiting turn.client t k.waits) (standing_of k turn.client t) ≡ Some f
       → x ≡ refused_answer f []
       → Stepped a before now held (record k { sessions = counted_in k.sessions turn (reply.Refused f) }) (event.Call turn.client k.epoch turn.number c) x
@@ -84,19 +87,16 @@ module _ {V : Type 0} (a : Account) (before now : ℕ) (held : Contents) (k : Se
       told : part_refusal (state_of a) turn.client t ≡ Some f
       told = sym (refusal_told a held k turn.client t h given) ∙ at
 
-      abbrev Goal : Type 0
-      Goal = Stepped a before now held (record k { sessions = counted_in k.sessions turn (reply.Refused f) }) (event.Call turn.client k.epoch turn.number c) x
-
-      busy : f ≡ refusal.NotYet → IsSome (waiting_of (state_of a).desk turn.client t) → Goal
+      busy : f ≡ refusal.NotYet → IsSome (waiting_of (state_of a).desk turn.client t) → Refuses f x
       busy is_f some =
           let v = its_waiter some in
           subst (λ (g : Refusal). Stepped a before now held (record k { sessions = counted_in k.sessions turn (reply.Refused g) }) (event.Call turn.client k.epoch turn.number c) x) (sym is_f)
           (as_busy v.0 x h is up named (told ∙ ap Some is_f) v.1 (so ∙ ap (λ (g : Refusal). refused_answer g []) is_f))
 
-      good : (g : Refusal) → g ≡ f → is_not_yet (reply.Refused g) ≡ false → done_by (state_of a) c (reply.Refused g) (Some t) ≡ [] → Goal
+      good : (g : Refusal) → g ≡ f → is_not_yet (reply.Refused g) ≡ false → done_by (state_of a) c (reply.Refused g) (Some t) ≡ [] → Refuses f x
       good g is_f later none = for_good f x h is up named told (subst (λ (y : Refusal). is_not_yet (reply.Refused y) ≡ false) is_f later) (subst (λ (y : Refusal). done_by (state_of a) c (reply.Refused y) (Some t) ≡ []) is_f none) so
 
-      go : (b : Bool) (s : Standing) → has_waiting turn.client t k.waits ≡ b → standing_of k turn.client t ≡ s → refusal_at b s ≡ Some f → Goal
+      go : (b : Bool) (s : Standing) → has_waiting turn.client t k.waits ≡ b → standing_of k turn.client t ≡ s → refusal_at b s ≡ Some f → Refuses f x
       go b standing.Unknown waits stands e = good refusal.UnknownTrans (same-some refusal.UnknownTrans f e) refl refl
       go b (standing.Ended why) waits stands e = good (refusal.Aborted why) (same-some (refusal.Aborted why) f e) refl refl
       go b standing.Finishing waits stands e = good refusal.Finishing (same-some refusal.Finishing f e) refl refl
