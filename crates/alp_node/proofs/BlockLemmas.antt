@@ -70,7 +70,7 @@ use Rattle.alp_node.proofs.StandingLemmas.{part_told, unvoted_told}
 use Rattle.alp_node.proofs.LockCallLemmas.{lock_request, lock_choice, not_refused, asked_locks, shut_none, chosen, none_asked_free}
 use Rattle.alp_node.proofs.ReadyLemmas.{counted_ready, numbered}
 use Rattle.alp_node.proofs.ShapeLemmas.{IsShut, shape_cases, may_lock}
-use Rattle.alp_node.proofs.WaitLemmas.{idle_pushed, named_all, asks_none, idle_in, pushed_each, pushed_apart, pushed_asks, asks_last}
+use Rattle.alp_node.proofs.WaitLemmas.{file_current, idle_pushed, named_all, asks_none, idle_in, pushed_each, pushed_apart, pushed_asks, asks_last}
 use Rattle.alp_node.proofs.WithinLemmas.{MayLock}
 
 -- the parts of the journal hold what the table says
@@ -145,6 +145,7 @@ module _ {V : Type 0} (k : ServerState V) (turn : Turn) (t : TransId) (l : Live)
     new_waiting : IsReady n serves k → IsWaitingCall k.server k.epoch k.given (count_of k.coordinator) k.sizes k.lives new_call
     new_waiting h = record {
       named = named;
+      current = file_current k.epoch t c named;
       file = λ z counted. subst (IsFileCall k.server k.epoch k.given (count_of k.coordinator) k.sizes k.lives new_call) (same_counts counts z counted) (record {
         formed = formed;
         some = some;

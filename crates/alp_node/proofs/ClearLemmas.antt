@@ -163,10 +163,10 @@ module _ {V : Type 0} (a : Account) (held : Contents) (k : ServerState V) (clien
   undecided_calls c [] named waits same off = refl
   undecided_calls c (v ∷ vs) named waits same off = first (is_buried a client (waiting v)) refl (outlives client k.dead v) off.0 (undecided_calls c vs named.1 waits.1 same.1 off.1)
     where
-      abbrev rest_said : List Waiting
+      rest_said : List Waiting
       rest_said = without (is_buried a client) (waiting_calls vs)
 
-      abbrev rest_kept : List WaitingCall
+      rest_kept : List WaitingCall
       rest_kept = without_dead client k.dead vs
 
       second : (d e : Bool) → not d ≡ e → without (is_decided a client) rest_said ≡ waiting_calls (live_calls client c k.joins rest_kept)

@@ -33,6 +33,7 @@ use Rattle.alp_journal.specs.Desk.{Session, Waiting, file_trans, is_of_part, wit
 use Rattle.alp_journal.specs.Holder.{Holder, Life, with_life, view_in, grants, held_for}
 use Rattle.alp_journal.specs.Ids.{same_trans}
 use Rattle.alp_journal.specs.Moves.{call_of}
+use Rattle.alp_journal.proofs.GivenLemmas.{IsOpenCall, open_calls}
 use Rattle.alp_journal.proofs.IdLemmas.{same_trans-itself, same_trans-true}
 use Rattle.alp_turns.specs.Laws.{GivesOnAlike, trans_in}
 use Rattle.alp_turns.specs.Queues.{AreHeldAlike, AreCallsApart, IsOnOther, request_for, request_at, queue_of}
@@ -55,7 +56,7 @@ use Rattle.alp_node.specs.declared.server_state.ServerState.{ServerState}
 use Rattle.alp_node.specs.declared.dead.DeadPart.{DeadPart}
 use Rattle.alp_node.specs.declared.sessions.Sessions.{Sessions}
 use Rattle.alp_node.specs.declared.waits.WaitingCall.{WaitingCall}
-use Rattle.alp_node.proofs.BesideLemmas.{AreNamed, file_named, part_alike}
+use Rattle.alp_node.proofs.BesideLemmas.{AreNamed, counted_named, file_named, part_alike}
 use Rattle.alp_node.proofs.GiveOnLemmas.{IsAlikeApart, alike_apart, alike_with_held, AreKept, HasCall, all_granted}
 use Rattle.alp_node.proofs.KeptLemmas.{applied_fated}
 use Rattle.alp_node.proofs.MapLemmas.{get_gone}
@@ -224,9 +225,9 @@ module _ {V : Type 0} (a : Account) (held : Contents) (k : ServerState V) (t : T
   abbrev pub table_gone : Holders
   table_gone = map.remove k.locks.held t
 
-  -- what a call needs of a part that lives on stands
+  -- what a call needs of a part that lives on and did not vote stands
   abbrev pub NeedsStand : Type 0
-  NeedsStand = (u : TransId) (l : Life) (c : Call) → a.holder.lives u ≡ Some l → same_trans u t ≡ false → needs_of (view_in holder_gone l) l.own c ≡ needs_of (view_in a.holder l) l.own c
+  NeedsStand = (u : TransId) (l : Life) (c : Call) → a.holder.lives u ≡ Some l → l.vote ≡ None → same_trans u t ≡ false → needs_of (view_in holder_gone l) l.own c ≡ needs_of (view_in a.holder l) l.own c
 
   -- what is left behind the grants
   pub record HasLetGo (P : TransId → Part → List Edit → Type 0) (room : Cells) : Type 0 where
@@ -272,9 +273,13 @@ module _ {V : Type 0} (a : Account) (held : Contents) (k : ServerState V) (t : T
 
     -- ---- the queue
 
-    stays_still : (ws : List Waiting) → AllByRecursion (StandsStill a.holder holder_gone k.locks.held t) ws
-    stays_still [] = tt
-    stays_still (w ∷ ws) = ((λ u l for away. ap (request_of l.held) (stand u l w.call for.live away)), stays_still ws)
+    -- the parts of calls that wait did not vote
+    open_waits : AllByRecursion (IsOpenCall a) a.waits
+    open_waits = open_calls a h.quiet.settled
+
+    stays_still : (ws : List Waiting) → AllByRecursion (IsOpenCall a) ws → AllByRecursion (StandsStill a.holder holder_gone k.locks.held t) ws
+    stays_still [] open = tt
+    stays_still (w ∷ ws) open = ((λ u l for away. ap (request_of l.held) (stand u l w.call for.live ((open.0 u l for.call for.live).1 l for.live) away)), stays_still ws open.1)
 
     is_gone : IsGone a.holder holder_gone k.locks.held t
     is_gone = record {
@@ -283,7 +288,7 @@ module _ {V : Type 0} (a : Account) (held : Contents) (k : ServerState V) (t : T
     }
 
     queue_then : without_of k.locks.waiting t ≡ queue_of holder_gone table_gone a.waits
-    queue_then = ap (λ (qs : List Waiter). without_of qs t) h.queue ∙ sym (queue_gone a.holder holder_gone k.locks.held t a.waits is_gone (stays_still a.waits))
+    queue_then = ap (λ (qs : List Waiter). without_of qs t) h.queue ∙ sym (queue_gone a.holder holder_gone k.locks.held t a.waits is_gone (stays_still a.waits open_waits))
 
     walks : GivesOnAlike holder_gone a.waits (walked (record { held = table_gone; waiting = []; woken = [] }) (queue_of holder_gone table_gone a.waits))
     walks = gives_on holder_gone table_gone a.waits held_gone (remove_agrees k.locks.held t ready.sound.agreeing) (calls_apart a.waits h.quiet.settled.tells.apart)
@@ -300,15 +305,15 @@ module _ {V : Type 0} (a : Account) (held : Contents) (k : ServerState V) (t : T
         go true = tt
         go false = alike_apart a.holder.cells k.locks.held (a.locked u) u (map.get k.lives u) (a.holder.lives u) (h.lives u)
 
-    kept_asked : (ws : List WaitingCall) → AllByRecursion (IsWaitingAs a.holder a.locked) ws → AllByRecursion (IsWaitingAs state_gone.holder state_gone.locked) ws
-    kept_asked [] all = tt
-    kept_asked (w ∷ ws) all = ((λ n l counted is. go n l counted (same_trans w.trans t) refl is), kept_asked ws all.1)
+    kept_asked : (ws : List WaitingCall) → AreNamed ws → AllByRecursion (IsOpenCall a) (waiting_calls ws) → AllByRecursion (IsWaitingAs a.holder a.locked) ws → AllByRecursion (IsWaitingAs state_gone.holder state_gone.locked) ws
+    kept_asked [] named open all = tt
+    kept_asked (w ∷ ws) named open all = ((λ n l counted is. go n l counted (same_trans w.trans t) refl is), kept_asked ws named.1 open.1 all.1)
       where
         go : (n : LockCounts) (l : Life) → w.counts ≡ Some n → (b : Bool) → same_trans w.trans t ≡ b → cond {A = Option Life} b None (a.holder.lives w.trans) ≡ Some l → IsAskedAs state_gone.holder state_gone.locked w n l
         go n l counted true e is = let wrong : None ≡ Some l = is in cc
         go n l counted false e is =
             let was : IsAskedAs a.holder a.locked w n l = all.0 n l counted is in
-            let same : needs_of (view_in holder_gone l) l.own w.call ≡ needs_of (view_in a.holder l) l.own w.call = stand w.trans l w.call is e in
+            let same : needs_of (view_in holder_gone l) l.own w.call ≡ needs_of (view_in a.holder l) l.own w.call = stand w.trans l w.call is ((open.0 w.trans l (counted_named w n counted named.0) is).1 l is) e in
             record {
               asked = was.asked ∙ (λ i. length (with_resources (request_of l.held (sym same i)) (a.locked w.trans)))
                   ∙ ap (λ (x : Bool). length (with_resources (request_in holder_gone w.call (Some l)) (cond {A = List Resource} x [] (a.locked w.trans)))) (sym e);
@@ -328,7 +333,7 @@ module _ {V : Type 0} (a : Account) (held : Contents) (k : ServerState V) (t : T
       lives = kept_lives;
       waits = h.waits;
       named = named_each k.server k.epoch k.given (count_of k.coordinator) k.sizes k.lives k.waits ready.waits.calls;
-      asked = kept_asked k.waits h.asked;
+      asked = kept_asked k.waits (named_each k.server k.epoch k.given (count_of k.coordinator) k.sizes k.lives k.waits ready.waits.calls) (subst (AllByRecursion (IsOpenCall a)) h.waits open_waits) h.asked;
       fits = fits;
       parts = kept_parts;
     }
@@ -384,7 +389,7 @@ module _ {V : Type 0} (a : Account) (held : Contents) (k : ServerState V) (t : T
   module _ (m : ℕ) (on : Bool) (h : IsAs a held k) (ready : IsReady m on k) where
     -- what its locks left to others
     pub gone : Gone
-    gone = has_let_go a held k t a.holder.cells a.holder.clock a.holder.kept a.holder.applied a.holder.left none_beyond a.holder.cells m on h ready (λ u l c live away. refl) (λ u l life there live away. h.unborn u life live)
+    gone = has_let_go a held k t a.holder.cells a.holder.clock a.holder.kept a.holder.applied a.holder.left none_beyond a.holder.cells m on h ready (λ u l c live unvoted away. refl) (λ u l life there live away. h.unborn u life live)
         (gone_room k.sizes a.holder.cells k.lives t h.room)
 
     module _ (g : Gone) where
@@ -424,7 +429,7 @@ module _ {V : Type 0} (a : Account) (held : Contents) (k : ServerState V) (t : T
           waits = same_waits;
           queue = subst (λ (x : Holder). (released k.locks t).waiting ≡ queue_of x (released k.locks t).held waits) rest queue;
           asked = subst (λ (x : Holder). AllByRecursion (IsWaitingAs x state_told.locked) kept_waits) rest asked;
-          lives = lives_then a held k t a.holder.cells a.holder.clock a.holder.kept a.holder.applied a.holder.left none_beyond a.holder.cells m on h ready (λ u l c live away. refl) (λ u l life there live away. h.unborn u life live)
+          lives = lives_then a held k t a.holder.cells a.holder.clock a.holder.kept a.holder.applied a.holder.left none_beyond a.holder.cells m on h ready (λ u l c live unvoted away. refl) (λ u l life there live away. h.unborn u life live)
               (gone_room k.sizes a.holder.cells k.lives t h.room) g;
           room = g.all.fits;
           unborn = λ u l is. unborn_then u l (map.get server_then.lives u) refl is (g.all.lives u);

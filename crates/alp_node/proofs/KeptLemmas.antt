@@ -204,6 +204,7 @@ as_back a held k c along keeps h = record {
   room = h.room;
   unborn = h.unborn;
   coordinator = kept_by a.holder.server a.ids.epoch a.ids.transactions a.fates k.coordinator c along keeps h.coordinator;
+  decided = h.decided;
   servers = h.servers;
   joins = h.joins;
   files = h.files;

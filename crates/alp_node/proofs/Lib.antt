@@ -21,6 +21,7 @@ pub mod TotalLemmas
 pub mod LockCountLemmas
 pub mod DeadLemmas
 pub mod KeptLemmas
+pub mod HaltLemmas
 pub mod ToComeLemmas
 pub mod EndLemmas
 pub mod StandingLemmas

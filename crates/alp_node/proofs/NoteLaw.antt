@@ -409,17 +409,17 @@ same_note lives after (Applied t stamp) q like stays x h = none_note after q x l
 same_note lives after Over q like stays x h = none_note after q x like h
 
 module _ (e : Event) (s : State) (d : Deed) (free : IsUnkeptIn s d) (law : IsLawfulDeed e s d) (voted : AreVoted s) where
-  as : IsHolderAs s.holder (holder_after s.holder d)
-  as = deed_as s d free
+  holds_as : IsHolderAs s.holder (holder_after s.holder d)
+  holds_as = deed_as s d free
 
   stays : (j : JoinNo) (t : TransId) (client ts : ℕ) → s.phases j ≡ Ready t client ts → (holder_after s.holder d).lives t ≡ s.holder.lives t
   stays j t client ts is = life_stays e s j t client ts is (voted j t client ts is) d free law
 
   pub deed_says : SaysAsBefore s (state_deed s d)
   deed_says = record {
-    server = as.server;
+    server = holds_as.server;
     servers = refl;
-    kept = as.kept;
+    kept = holds_as.kept;
     ready = λ j. same_note s.holder.lives (holder_after s.holder d).lives (s.phases j) (phase_after d j (s.phases j)) (phases_like s d j free) (stays j);
     decided = λ t. fates_kept s d t (s.fates t) free;
   }
@@ -428,7 +428,7 @@ module _ (e : Event) (s : State) (d : Deed) (free : IsUnkeptIn s d) (law : IsLaw
   deed_voted j t client ts is =
       let was : s.phases j ≡ Ready t client ts = was_ready (s.phases j) (phase_after d j (s.phases j)) t client ts (phases_like s d j free) is in
       let v : IsVoted s j t ts = voted j t client ts was in
-      record { life = v.life; live = stays j t client ts was ∙ v.live; vote = v.vote; join = v.join; away = ap (λ (n : ℕ). t.server == n) as.server ∙ v.away }
+      record { life = v.life; live = stays j t client ts was ∙ v.live; vote = v.vote; join = v.join; away = ap (λ (n : ℕ). t.server == n) holds_as.server ∙ v.away }
 
 pub deeds_say : (e : Event) (ds : List Deed) (s : State) → Along state_deed IsUnkeptIn s ds → Along state_deed (IsLawfulDeed e) s ds → AreVoted s → SaysAsBefore s (state_after state_deed s ds)
 deeds_say e [] s free law voted = says_same s

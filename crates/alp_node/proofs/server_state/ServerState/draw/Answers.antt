@@ -11,7 +11,8 @@ use Rattle.alp_coord.specs.Coordinators.{IsOf, IsAlong, Comes, Keeps, server_of,
 use Rattle.alp_node.specs.Releases.{with_trans}
 use Rattle.alp_node.specs.declared.lives.Live.{Live}
 use Rattle.alp_node.specs.declared.server_state.ServerState.{ServerState}
-use Rattle.alp_node.proofs.TransactionLemmas.{next_new, taken_back}
+use Rattle.alp_node.proofs.PairedLemmas.{next_new}
+use Rattle.alp_node.proofs.TransactionLemmas.{taken_back}
 use Rattle.alp_node.proofs.server_state.ServerState.draw.Goals as goal
 
 pub enter-requires-clause-new : goal.enter-requires-clause-new
