@@ -278,8 +278,8 @@ module _ {V : Type 0} (a : Account) (held : Contents) (k : ServerState V) (t : T
     open_waits = open_calls a h.quiet.settled
 
     stays_still : (ws : List Waiting) → AllByRecursion (IsOpenCall a) ws → AllByRecursion (StandsStill a.holder holder_gone k.locks.held t) ws
-    stays_still [] open = tt
-    stays_still (w ∷ ws) open = ((λ u l for away. ap (request_of l.held) (stand u l w.call for.live ((open.0 u l for.call for.live).1 l for.live) away)), stays_still ws open.1)
+    stays_still [] opens = tt
+    stays_still (w ∷ ws) opens = ((λ u l for away. ap (request_of l.held) (stand u l w.call for.live ((opens.0 u l for.call for.live).1 l for.live) away)), stays_still ws opens.1)
 
     is_gone : IsGone a.holder holder_gone k.locks.held t
     is_gone = record {
@@ -306,14 +306,14 @@ module _ {V : Type 0} (a : Account) (held : Contents) (k : ServerState V) (t : T
         go false = alike_apart a.holder.cells k.locks.held (a.locked u) u (map.get k.lives u) (a.holder.lives u) (h.lives u)
 
     kept_asked : (ws : List WaitingCall) → AreNamed ws → AllByRecursion (IsOpenCall a) (waiting_calls ws) → AllByRecursion (IsWaitingAs a.holder a.locked) ws → AllByRecursion (IsWaitingAs state_gone.holder state_gone.locked) ws
-    kept_asked [] named open all = tt
-    kept_asked (w ∷ ws) named open all = ((λ n l counted is. go n l counted (same_trans w.trans t) refl is), kept_asked ws named.1 open.1 all.1)
+    kept_asked [] named opens all = tt
+    kept_asked (w ∷ ws) named opens all = ((λ n l counted is. go n l counted (same_trans w.trans t) refl is), kept_asked ws named.1 opens.1 all.1)
       where
         go : (n : LockCounts) (l : Life) → w.counts ≡ Some n → (b : Bool) → same_trans w.trans t ≡ b → cond {A = Option Life} b None (a.holder.lives w.trans) ≡ Some l → IsAskedAs state_gone.holder state_gone.locked w n l
         go n l counted true e is = let wrong : None ≡ Some l = is in cc
         go n l counted false e is =
             let was : IsAskedAs a.holder a.locked w n l = all.0 n l counted is in
-            let same : needs_of (view_in holder_gone l) l.own w.call ≡ needs_of (view_in a.holder l) l.own w.call = stand w.trans l w.call is ((open.0 w.trans l (counted_named w n counted named.0) is).1 l is) e in
+            let same : needs_of (view_in holder_gone l) l.own w.call ≡ needs_of (view_in a.holder l) l.own w.call = stand w.trans l w.call is ((opens.0 w.trans l (counted_named w n counted named.0) is).1 l is) e in
             record {
               asked = was.asked ∙ (λ i. length (with_resources (request_of l.held (sym same i)) (a.locked w.trans)))
                   ∙ ap (λ (x : Bool). length (with_resources (request_in holder_gone w.call (Some l)) (cond {A = List Resource} x [] (a.locked w.trans)))) (sym e);

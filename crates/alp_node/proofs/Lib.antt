@@ -11,6 +11,7 @@ pub mod NoteLaw
 pub mod NoteCalls
 pub mod ClearLemmas
 pub mod OtherLemmas
+pub mod OtherCollects
 pub mod FatedLemmas
 pub mod JoinMoves
 pub mod JoinedLemmas

@@ -57,15 +57,15 @@ module _ {V : Type 0} (a : Account) (before now : ℕ) (held : Contents) (k : Se
   for_good : (f : Refusal) (x : Answer) → IsAs a held k → IsTurn k.sessions turn → k.is_down ≡ false → file_trans c ≡ Some t → part_refusal (state_of a) turn.client t ≡ Some f → is_not_yet (reply.Refused f) ≡ false → done_by (state_of a) c (reply.Refused f) (Some t) ≡ []
       → x ≡ refused_answer f []
       → Stepped a before now held (record k { sessions = counted_in k.sessions turn (reply.Refused f) }) (event.Call turn.client k.epoch turn.number c) x
-  for_good f x h is up named no later none so = refused_stepped false f x h is up (λ e. cc) named later none (part_why f no) (part_grants f no) so
+  for_good f x h is up named told later none so = refused_stepped false f x h is up (λ e. cc) named later none (part_why f told) (part_grants f told) so
 
   as_busy : (v : Waiting) (x : Answer) → IsAs a held k → IsTurn k.sessions turn → k.is_down ≡ false → file_trans c ≡ Some t → part_refusal (state_of a) turn.client t ≡ Some refusal.NotYet → waiting_of (state_of a).desk turn.client t ≡ Some v
       → x ≡ refused_answer refusal.NotYet []
       → Stepped a before now held (record k { sessions = counted_in k.sessions turn (reply.Refused refusal.NotYet) }) (event.Call turn.client k.epoch turn.number c) x
-  as_busy v x h is up named no waits so =
+  as_busy v x h is up named told waits so =
       let w : Session = session_of turn is in
       stepped_so a before now held held k (record k { sessions = counted_in k.sessions turn (reply.Refused refusal.NotYet) }) turn.client turn.number w c false (reply.Refused refusal.NotYet) [] (counted_as a turn.client turn.number w (reply.Refused refusal.NotYet)) x so h
-      (busy_leads a turn.client turn.number w t (new_life None turn.client []) c v h.quiet (h.down ∙ up) (turn_session a held k turn h is) is.number no named waits)
+      (busy_leads a turn.client turn.number w t (new_life None turn.client []) c v h.quiet (h.down ∙ up) (turn_session a held k turn h is) is.number told named waits)
       (counts_as a held k turn (reply.Refused refusal.NotYet) h is up) (λ e. cc) (stands_timely a.holder.clock (seen_in (event.Call turn.client k.epoch turn.number c)) k.clock h.clock)
 
   -- whoever asks to be let in waits for it

@@ -428,6 +428,44 @@ module _ {V : Type 0} (n : ℕ) (serves : Bool) (k : ServerState V) (h : IsReady
       go true e s = (let runs = own_works client (cause_in k.dead client t) (fate_in k.coordinator t) s in here (eqb-true t.server k.server e) runs.0 runs.1)
       go false e s = far (part_of client t k.joins.lives) refl s
 
+-- an end that is to be told is among the dead
+ended_cause : (d : Option Cause) (c : Cause) → ended_standing d ≡ standing.Ended c → d ≡ Some c
+ended_cause None c e = let wrong : standing.Unknown ≡ standing.Ended c = e in cc
+ended_cause (Some x) c e = ap cause_of e
+  where
+    cause_of : Standing → Option Cause
+    cause_of (standing.Ended y) = Some y
+    cause_of s = Some x
+
+own_cause : (client : ℕ) (d : Option Cause) (f : Fate) (c : Cause) → own_standing client d f ≡ standing.Ended c → d ≡ Some c
+own_cause client d Undrawn c e = ended_cause d c e
+own_cause client d (Running m js) c e = go (m == client) e
+  where
+    go : (b : Bool) → cond {A = Standing} b standing.Work standing.Unknown ≡ standing.Ended c → d ≡ Some c
+    go true e = let wrong : standing.Work ≡ standing.Ended c = e in cc
+    go false e = let wrong : standing.Unknown ≡ standing.Ended c = e in cc
+own_cause client d (Finishing m js vs) c e = go (m == client) e
+  where
+    go : (b : Bool) → cond {A = Standing} b standing.Finishing standing.Unknown ≡ standing.Ended c → d ≡ Some c
+    go true e = let wrong : standing.Finishing ≡ standing.Ended c = e in cc
+    go false e = let wrong : standing.Unknown ≡ standing.Ended c = e in cc
+own_cause client d (Committed x js ds) c e = ended_cause d c e
+own_cause client d (Forgotten x js) c e = ended_cause d c e
+own_cause client d (Ended why) c e = ended_cause d c e
+
+stage_cause : (s : Stage) (c : Cause) → stage_standing s ≡ standing.Ended c → ⊥
+stage_cause (stage.Joining who) c e = let wrong : standing.Joining ≡ standing.Ended c = e in cc
+stage_cause (stage.Active who) c e = let wrong : standing.Work ≡ standing.Ended c = e in cc
+stage_cause (stage.Ready ts) c e = let wrong : standing.Finishing ≡ standing.Ended c = e in cc
+
+pub ended_told : {V : Type 0} (k : ServerState V) (client : ℕ) (t : TransId) (c : Cause) → standing_of k client t ≡ standing.Ended c → cause_in k.dead client t ≡ Some c
+ended_told k client t c is = go (t.server == k.server) (part_of client t k.joins.lives) is
+  where
+    go : (b : Bool) (x : Option LiveJoin) → cond {A = Standing} b (own_standing client (cause_in k.dead client t) (fate_in k.coordinator t)) (joined_standing (cause_in k.dead client t) x) ≡ standing.Ended c → cause_in k.dead client t ≡ Some c
+    go true x e = own_cause client (cause_in k.dead client t) (fate_in k.coordinator t) c e
+    go false None e = ended_cause (cause_in k.dead client t) c e
+    go false (Some j) e = absurd (stage_cause j.stage c e)
+
 -- what is not refused at once is at work, and no other call of it waits
 pub work_idle : (b : Bool) (s : Standing) → refusal_at b s ≡ None → (s ≡ standing.Work) × (b ≡ false)
 work_idle false standing.Work e = (refl, refl)

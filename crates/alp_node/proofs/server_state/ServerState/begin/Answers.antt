@@ -83,7 +83,7 @@ returns g c =
     c.count.ensures ∙ ap (λ (y : ServerState _). counted_in y.sessions turn (reply.Begun c.in_ok-trans.trans)) cleared_now ∙ ap (λ (u : TransId). counted_in k.sessions turn (reply.Begun u)) drawn.id in
     let kept : record (c.clear-2.new.self) { sessions = c.count.new.self } ≡ after = (λ i. record (cleared_now i) { sessions = counted i }) in
     let named : AreNamed k.waits = named_all k.server k.epoch k.given (count_of k.coordinator) k.sizes k.lives k.waits ready.waits.calls in
-    let away : AreOthers t k.waits = none_newer k.server k.epoch k.given (count_of k.coordinator) k.sizes k.lives t k.waits (omega arith) ready.waits.calls in
+    let away : AreOthers t k.waits = none_newer k.server k.epoch k.given (count_of k.coordinator) k.sizes k.lives t k.waits ready.seat.0 (omega arith) ready.waits.calls in
     subst (λ (y : ServerState _). IsStep G k y e (Ok x)) (sym kept)
     (left_step G k after refl refl refl refl (left_same G k.vault) e x c.requires.up (λ ns h. begun_notes c.requires.ready.0 serves k turn.client seen.ts turn.who l z ready (comes turn.who seen.ts) ns h)
     (λ told a h. subst (λ (m : ℕ). Stepped a faults faults held (record after { clock = m }) e x) (sym clock)

@@ -1,5 +1,6 @@
 use Rattle.std.specs.FinMap as map
-use Rattle.std.specs.Prelude.{Some, Bool, IsTrue}
+use Rattle.std.specs.Prelude.{None, Some, Bool, IsTrue}
+use Rattle.std.specs.Option.{option_copied}
 use Rattle.std.proofs.Common.{◌≡◌, ℕ, length, ap, refl, sym, ◌∙◌, subst}
 use Rattle.alp_journal.specs.declared.event.Event.TheVariants as event
 use Rattle.alp_vault.specs.Contents.{Contents}
@@ -27,15 +28,15 @@ use Rattle.alp_node.proofs.StepLemmas.{refused_step}
 use Rattle.alp_node.proofs.server_state.ServerState.file_call.Goals as goal
 
 -- it is refused at once
-pub returns-in-Some-part_refusal : goal.returns-in-Some-part_refusal
-returns-in-Some-part_refusal g c =
+pub returns-in-Some : goal.returns-in-Some
+returns-in-Some g c =
     let G = g.V.Vault in
     let k = c.args.self.now in
     let turn = c.args.turn.now in
     let t = c.args.trans in
-    let refuse = c.refuse-in-Some-part_refusal in
-    let f = c.in-Some-part_refusal.refusal in
-    let at : refusal_at (has_waiting turn.client t k.waits) (standing_of k turn.client t) ≡ Some f = sym c.part_refusal.ensures ∙ c.in-Some-part_refusal.is in
+    let refuse = c.refuse-in-Some in
+    let f = c.in-Some.refusal in
+    let at : refusal_at (has_waiting turn.client t k.waits) (standing_of k turn.client t) ≡ Some f = sym c.part_refusal.ensures ∙ c.in-Some.is in
     let calm = refused_calm (has_waiting turn.client t k.waits) (standing_of k turn.client t) f at in
     refused_step G k refuse.new.self turn c.args.call.now refuse.result f calm.0 c.requires.turn c.requires.up refuse.ensures.kept refuse.ensures.answer
     (λ told a h. at_once_stepped a (G.faults k.vault) (G.faults k.vault) (G.held k.vault) k turn t c.args.call.now f refuse.result h c.requires.turn c.requires.up
@@ -50,9 +51,9 @@ returns-in-Some-shape_refusal g c =
     let t = c.args.trans in
     let f = c.in-Some-shape_refusal.refusal in
     let refuse = c.refuse-in-Some-shape_refusal in
-    let works = work_idle (has_waiting turn.client t k.waits) (standing_of k turn.client t) (sym c.part_refusal.ensures ∙ c.in_default-part_refusal.is) in
-    let l : Live = c.in-Some.live.now in
-    let there : map.get k.lives t ≡ Some l = sym c.in-Some.ensures in
+    let works = work_idle (has_waiting turn.client t k.waits) (standing_of k turn.client t) (sym c.part_refusal.ensures ∙ c.in_default.is) in
+    let l : Live = c.in-Some-get.live.now in
+    let there : map.get k.lives t ≡ Some l = sym c.in-Some-get.ensures in
     let mine : l.client ≡ turn.client = (works_own c.requires.ready.0 (G.serves k.vault) k turn.client t l c.requires.ready.2 works.0 there).0 in
     let named : AreNamed k.waits = named_all k.server k.epoch k.given (count_of k.coordinator) k.sizes k.lives k.waits c.requires.ready.2.waits.calls in
     let away : HasNoCall turn.client t k.waits = none_waiting k.server k.epoch k.given (count_of k.coordinator) k.sizes k.lives turn.client t l k.waits there mine works.1 c.requires.ready.2.waits.calls in
@@ -70,7 +71,7 @@ lock_call-requires-clause-works g c =
     let k = c.args.self.now in
     let turn = c.args.turn.now in
     let t = c.args.trans in
-    let works = work_idle (has_waiting turn.client t k.waits) (standing_of k turn.client t) (sym c.part_refusal.ensures ∙ c.in_default-part_refusal.is) in
+    let works = work_idle (has_waiting turn.client t k.waits) (standing_of k turn.client t) (sym c.part_refusal.ensures ∙ c.in_default.is) in
     ap (λ (y : ServerState _). standing_of y turn.client t) c.in-Ok.ensures.kept ∙ works.0
 
 pub lock_call-requires-clause-idle : goal.lock_call-requires-clause-idle
@@ -78,7 +79,7 @@ lock_call-requires-clause-idle g c =
     let k = c.args.self.now in
     let turn = c.args.turn.now in
     let t = c.args.trans in
-    let works = work_idle (has_waiting turn.client t k.waits) (standing_of k turn.client t) (sym c.part_refusal.ensures ∙ c.in_default-part_refusal.is) in
+    let works = work_idle (has_waiting turn.client t k.waits) (standing_of k turn.client t) (sym c.part_refusal.ensures ∙ c.in_default.is) in
     ap (λ (y : ServerState _). has_waiting turn.client t y.waits) c.in-Ok.ensures.kept ∙ works.1
 
 pub lock_call-requires-clause-turn : goal.lock_call-requires-clause-turn
@@ -115,9 +116,9 @@ pub lock_call-requires-clause-shape : goal.lock_call-requires-clause-shape
 lock_call-requires-clause-shape g c m now =
     let k = c.args.self.now in
     let N = c.asks.new.self in
-    let l : Live = c.in-Some.live.now in
+    let l : Live = c.in-Some-get.live.now in
     let there : map.get k.lives c.args.trans ≡ Some m = sym (ap (λ (y : ServerState _). map.get y.lives c.args.trans) c.in-Ok.ensures.kept) ∙ now in
-    let same : Some l ≡ Some m = c.in-Some.ensures ∙ there in
+    let same : Some l ≡ Some m = c.in-Some-get.ensures ∙ there in
     (λ i. shape_of (c.in-Ok.ensures.kept i).server (c.in-Ok.ensures.kept i).epoch (c.in-Ok.ensures.kept i).given (length m.part.opens.items) c.args.call.now)
     ∙ ap (λ (n : ℕ). shape_of k.server k.epoch k.given n c.args.call.now) (sym (ap (λ (y : Live). length y.part.opens.items) (same_live l m same)) ∙ sym l.part.opens.ok.0 ∙ sym c.len.ensures) ∙ sym c.shape_refusal.ensures ∙ c.in_default-shape_refusal.is
 
@@ -151,9 +152,9 @@ returns-in-Err g c =
     let turn = c.args.turn.now in
     let t = c.args.trans in
     let N = c.asks.new.self in
-    let l : Live = c.in-Some.live.now in
-    let there : map.get k.lives t ≡ Some l = sym c.in-Some.ensures in
-    let works = work_idle (has_waiting turn.client t k.waits) (standing_of k turn.client t) (sym c.part_refusal.ensures ∙ c.in_default-part_refusal.is) in
+    let l : Live = c.in-Some-get.live.now in
+    let there : map.get k.lives t ≡ Some l = sym c.in-Some-get.ensures in
+    let works = work_idle (has_waiting turn.client t k.waits) (standing_of k turn.client t) (sym c.part_refusal.ensures ∙ c.in_default.is) in
     let here : WorksHere k turn.client t = works_here c.requires.ready.0 (G.serves k.vault) k c.requires.ready.2 turn.client t works.0 in
     let own : l.client ≡ turn.client = (works_own c.requires.ready.0 (G.serves k.vault) k turn.client t l c.requires.ready.2 works.0 there).0 in
     let named : AreNamed k.waits = named_all k.server k.epoch k.given (count_of k.coordinator) k.sizes k.lives k.waits c.requires.ready.2.waits.calls in
@@ -162,3 +163,15 @@ returns-in-Err g c =
     let w = c.without_answer in
     without_step G k k.lives N.vault N w.new.self turn t c.args.call.now c.in-Err.fault w.result c.in-Err.ensures.kept look c.requires.turn c.requires.up c.requires.named (λ a h. idle_told a turn.client t k.waits h.waits named away.idle) works.0
     (look_unseen G k turn t l N.vault there own (looks_left G k.vault N.vault c.in-Err.fault look) c.requires.up here.unvoted) w.ensures.failed w.ensures.stopped w.ensures.memory
+
+-- a part at work is live
+pub unreachable-requires : goal.unreachable-requires
+unreachable-requires g c =
+    let k = c.args.self.now in
+    let turn = c.args.turn.now in
+    let t = c.args.trans in
+    let works = work_idle (has_waiting turn.client t k.waits) (standing_of k turn.client t) (sym c.part_refusal.ensures ∙ c.in_default.is) in
+    let mine : WorksHere k turn.client t = works_here c.requires.ready.0 (g.V.Vault.serves k.vault) k c.requires.ready.2 turn.client t works.0 in
+    let none : map.get k.lives t ≡ None = sym c.get.ensures ∙ ap option_copied c.in_default-get.is in
+    let wrong : None ≡ Some mine.live = sym none ∙ mine.there in
+    cc
