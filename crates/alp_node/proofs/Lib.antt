@@ -11,6 +11,8 @@ pub mod NoteLaw
 pub mod NoteCalls
 pub mod ClearLemmas
 pub mod OtherLemmas
+pub mod AskVotes
+pub mod VoteLemmas
 pub mod OtherCollects
 pub mod FatedLemmas
 pub mod JoinMoves

@@ -10,10 +10,13 @@ ghost use Rattle.alp_coord.specs.Coordinators.{IsAlong, Comes, fate_in};
 ghost use Rattle.alp_journal.specs.Coordinator.{joins_of as joins_of_said};
 ghost use Rattle.alp_node.specs.Served.{AreLivesSound};
 ghost use Rattle.alp_node.specs.Votes.{own_why};
+ghost use Rattle.alp_vault.specs.Contents.{Contents};
+ghost use Rattle.alp_journal.specs.Account.{Account, state_of};
+ghost use Rattle.alp_journal.specs.Messages.{why_not_own};
 ghost use Rattle.alp_node.specs.declared.lives.Live.{Live as ALive};
 ghost use Rattle.alp_node.specs.Standings.{standing_of};
 ghost use Rattle.alp_node.specs.declared.served.Standing.TheVariants as standing;
-ghost use Rattle.alp_node.specs.ServerState.{IsReadyForMore, IsOfJournal};
+ghost use Rattle.alp_node.specs.ServerState.{IsAs, IsReadyForMore, IsOfJournal};
 ghost use Rattle.alp_files.specs.declared.reply.Reply.TheVariants as reply;
 ghost use Rattle.std.specs.Result.{IsErr};
 ghost use Rattle.alp_files.specs.declared.refusal.Refusal.TheVariants as refusal;
@@ -137,6 +140,7 @@ impl<V: Vault> ServerState<V> {
         requires works { standing_of self.old turn.now.client trans ≡ standing.Work }
         requires alone { joins_of_said (fate_in self.old.coordinator trans) ≡ [] }
         requires against { own_why self.old trans ≡ Some why }
+        requires journal { (a : Account) (held : Contents) → IsAs a held self.old → why_not_own false (state_of a) trans ≡ own_why self.old trans }
         requires idle { has_waiting turn.now.client trans self.old.waits ≡ false }
         requires here { trans.server ≡ self.old.server }
         requires up { self.old.is_down ≡ false }

@@ -5,19 +5,21 @@ ghost use Rattle.alp_journal.specs.declared.event.Event.TheVariants as event;
 ghost use Rattle.alp_journal.specs.Coordinator.{joins_of as joins_of_said};
 ghost use Rattle.alp_coord.specs.Coordinators.{fate_in};
 ghost use Rattle.alp_node.specs.Orders.{order_in};
-ghost use Rattle.alp_node.specs.ServerState.{IsReadyForMore, IsOfJournal};
+ghost use Rattle.alp_node.specs.ServerState.{IsAs, IsReadyForMore, IsOfJournal};
 ghost use Rattle.alp_node.specs.Served.{IsServed, AreLivesSound};
 ghost use Rattle.alp_node.specs.Standings.{standing_of};
 ghost use Rattle.alp_node.specs.declared.served.Standing.TheVariants as standing;
 ghost use Rattle.alp_node.specs.Steps.{IsStep, IsStepAs, IsNoted, IsOn, IsTurn};
 ghost use Rattle.alp_node.specs.Votes.{own_why};
+ghost use Rattle.alp_vault.specs.Contents.{Contents};
+ghost use Rattle.alp_journal.specs.Account.{Account, state_of};
+ghost use Rattle.alp_journal.specs.Messages.{why_not_own};
 ghost use Rattle.alp_node.specs.Waits.{has_waiting};
 
 use crate::answer::Answer;
 use crate::server_state::ServerState;
 use crate::sessions::Turn;
 use alp_base::{OutOfMemory, TransId};
-use alp_files::Why;
 use alp_journal::Event;
 use alp_vault::Vault;
 
@@ -38,21 +40,13 @@ impl<V: Vault> ServerState<V> {
         unreachable!()
     }
 
-    /// What is in the way of the commit of a transaction that began here, at this server.
-    pub(super) fn own_vote(&self, trans: &TransId) -> Result<Option<Why>, OutOfMemory>
-        requires ready { IsReadyForMore (V.serves self.now.vault) self.now }
-        ensures { IfOk result (λ w. w ≡ own_why self.now trans.now) }
-    {
-        let _ = trans;
-        unreachable!()
-    }
-
     /// A transaction without parts elsewhere is committed at the next time.
     pub(super) fn commit_alone(&mut self, turn: &Turn, trans: TransId) -> Result<Answer, OutOfMemory>
         requires turn { IsTurn self.old.sessions turn.now }
         requires works { standing_of self.old turn.now.client trans ≡ standing.Work }
         requires alone { joins_of_said (fate_in self.old.coordinator trans) ≡ [] }
         requires may { own_why self.old trans ≡ None }
+        requires journal { (a : Account) (held : Contents) → IsAs a held self.old → why_not_own false (state_of a) trans ≡ own_why self.old trans }
         requires idle { has_waiting turn.now.client trans self.old.waits ≡ false }
         requires here { trans.server ≡ self.old.server }
         requires up { self.old.is_down ≡ false }
