@@ -11,6 +11,7 @@ pub mod NoteLaw
 pub mod NoteCalls
 pub mod ClearLemmas
 pub mod OtherLemmas
+pub mod MoreJoins
 pub mod AskVotes
 pub mod VoteLemmas
 pub mod OtherCollects

@@ -12,6 +12,7 @@ use Rattle.alp_vault.specs.Contents.{Contents}
 use Rattle.alp_journal.specs.Account.{Account, state_of}
 use Rattle.alp_journal.specs.Desk.{waiting_of}
 use Rattle.alp_journal.specs.Messages.{clock_end, part_cells, trans_ready, first_why, why_not, why_not_own, all_ready}
+use Rattle.alp_journal.specs.Participant.{Phase, Unseen, Joining, Active, Ready, Applied, Over, live_in}
 use Rattle.alp_journal.specs.State.{State}
 use Rattle.alp_worker.specs.declared.live.LiveJoin.{LiveJoin}
 use Rattle.alp_worker.specs.declared.live.Stage.{Stage}
@@ -41,6 +42,43 @@ clock_last clock low = go (nat_le clock_end clock) refl
     go : (b : Bool) → nat_le clock_end clock ≡ b → b ≡ (clock == clock_end)
     go true e = (let high : clock_end ≤ clock = leb-true clock_end clock e in sym (eq-eqb clock clock_end (omega (arith, low, high))))
     go false e = sym (ne_eqb clock clock_end (λ is. let wrong : false ≡ true = sym e ∙ le-leb clock_end clock (omega (arith, is)) in cc))
+
+-- ---- a part that is there
+
+pub record IsThere (x : Option Live) : Type 0 where
+  pub live : Live
+  pub is : x ≡ Some live
+
+pub is_there : (x : Option Live) → (x ≡ None → ⊥) → IsThere x
+is_there None none = absurd (none refl)
+is_there (Some l) none = record { live = l; is = refl }
+
+-- a join that is not live did not vote
+pub none_silent : (p : Phase) → live_in p ≡ None → trans_ready p ≡ []
+none_silent (Ready t client ts) e = let wrong : Some (t, client) ≡ None = e in cc
+none_silent Unseen e = refl
+none_silent (Joining t client who) e = refl
+none_silent (Active t client who) e = refl
+none_silent (Applied t stamp) e = refl
+none_silent Over e = refl
+
+-- a part is within its limits
+pub small_part : {V : Type 0} (n : ℕ) (serves : Bool) (k : ServerState V) (t : TransId) (s : PartSize) → IsReady n serves k → s ≡ size_in k.lives t → (s.cells ≤ 256) × (s.locks ≤ 1024)
+small_part n serves k t s h is = subst (λ (x : PartSize). (x.cells ≤ 256) × (x.locks ≤ 1024)) (sym is) (go (map.get k.lives t) refl)
+  where
+    go : (x : Option Live) → map.get k.lives t ≡ x → ((size_of x).cells ≤ 256) × ((size_of x).locks ≤ 1024)
+    go None e = (omega arith, omega arith)
+    go (Some l) e = (let w = h.within t l e in (w.part.most, w.locks))
+
+-- no more voted than there are joins
+pub ready_few : (ls : List LiveJoin) → length (ready_in ls) ≤ length ls
+ready_few [] = omega arith
+ready_few (x ∷ xs) = go x.stage (ready_few xs)
+  where
+    go : (s : Stage) → length (ready_in xs) ≤ length xs → length (trans_ready (phase_in x.trans x.client s) ++ ready_in xs) ≤ length (x ∷ xs)
+    go (stage.Joining who) h = omega (arith, h)
+    go (stage.Active who) h = omega (arith, h)
+    go (stage.Ready ts) h = omega (arith, h)
 
 -- ---- sizes
 

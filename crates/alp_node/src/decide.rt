@@ -68,7 +68,7 @@ impl<V: Vault> ServerState<V> {
         let ready = self.joins.ready_transactions(self.alloc)?;
         let mut sizes = Vec::with_capacity(self.alloc, ready.len())?;
         for trans in ready.as_slice() {
-            sizes.push_reserved(self.size_of(trans));
+            sizes.push(self.size_of(trans))?;
         }
         Ok(ReadySum::of(sizes.as_slice()))
     }

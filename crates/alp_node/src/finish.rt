@@ -66,7 +66,7 @@ impl<V: Vault> ServerState<V> {
         let members = self.coordinator.members(trans);
         let mut joins = Vec::with_capacity(self.alloc, members.len())?;
         for member in members {
-            joins.push_reserved(member.join);
+            joins.push(member.join)?;
         }
         Ok(joins)
     }
