@@ -144,7 +144,7 @@ fated_by d before after small along comes = record {
 
 -- as many count where each does that did
 module _ (p : TransId → Bool) where
-  one_so : TransId → List TransId
+  abbrev one_so : TransId → List TransId
   one_so t = cond {A = List TransId} (p t) (t ∷ []) []
 
   all_so : (ts : List TransId) → flat_map one_so ts ≡ filter p ts

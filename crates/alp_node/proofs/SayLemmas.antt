@@ -38,7 +38,7 @@ said_mail s to m = go (is_other_server s to)
 
 -- the server of a journal knows the others
 pub away_told : {V : Type 0} (a : Account) (held : Contents) (k : ServerState V) (n : ℕ) → IsAs a held k → is_away k n ≡ is_other_server (state_of a) n
-away_told a held k n h = λ i. is_other (h.servers (~ i)) (h.server (~ i)) n
+away_told a held k n h = λ i. is_other (sym h.servers i) (sym h.server i) n
 
 -- it stops nothing, and may be said
 pub said_goes_on : (b : Bool) (to : ℕ) (m : Message) → list_any is_stop (said_if b to m) ≡ false
