@@ -14,6 +14,7 @@ pub mod OtherLemmas
 pub mod FatedLemmas
 pub mod JoinMoves
 pub mod JoinedLemmas
+pub mod InquiryLemmas
 pub mod SayLemmas
 pub mod ArrivalLemmas
 pub mod CountLemmas
