@@ -65,12 +65,13 @@ use Rattle.alp_node.proofs.GrantLemmas.{asked_below}
 use Rattle.alp_node.proofs.KeptLemmas.{session_of, IsLive, live_there, same_live, stepped_so}
 use Rattle.alp_node.proofs.NoteCalls.{call_notes}
 use Rattle.alp_node.proofs.NotedLemmas.{HasNoVoter}
+use Rattle.alp_node.proofs.OtherLemmas.{told_last}
 use Rattle.alp_node.proofs.PairedLemmas.{part_begun}
 use Rattle.alp_node.proofs.StandingLemmas.{part_told, unvoted_told}
 use Rattle.alp_node.proofs.LockCallLemmas.{lock_request, lock_choice, not_refused, asked_locks, shut_none, chosen, none_asked_free}
 use Rattle.alp_node.proofs.ReadyLemmas.{counted_ready, numbered}
 use Rattle.alp_node.proofs.ShapeLemmas.{IsShut, shape_cases, may_lock}
-use Rattle.alp_node.proofs.WaitLemmas.{idle_pushed, named_all, asks_none, idle_in, pushed_each, pushed_apart, pushed_asks, asks_last}
+use Rattle.alp_node.proofs.WaitLemmas.{file_current, idle_pushed, named_all, asks_none, idle_in, pushed_each, pushed_apart, pushed_asks, asks_last}
 use Rattle.alp_node.proofs.WithinLemmas.{MayLock}
 
 -- the parts of the journal hold what the table says
@@ -94,7 +95,7 @@ module _ {V : Type 0} (a : Account) (before now : ℕ) (held : Contents) (k : Se
       → Stepped a before now held kept_back (event.Call turn.client k.epoch turn.number (call.Finish t true)) x
   busy_finish_stepped js own runs busy so =
       let leads : Leads false a (call_entry a turn.client turn.number (session_of turn is) (call.Finish t true) (reply.Refused refusal.NotYet) []) (counted_as a turn.client turn.number (session_of turn is) (reply.Refused refusal.NotYet)) =
-      busy_finish_leads a turn.client turn.number (session_of turn is) t v h.quiet (h.down ∙ up) (turn_session a held k turn h is) is.number (own ∙ sym h.server) {js} runs busy in
+      busy_finish_leads a turn.client turn.number (session_of turn is) t v h.quiet (h.down ∙ up) (turn_session a held k turn h is) is.number (own ∙ sym h.server) {js = js} runs busy in
       stepped_so a before now held held k kept_back turn.client turn.number (session_of turn is) (call.Finish t true) false (reply.Refused refusal.NotYet) [] (counted_as a turn.client turn.number (session_of turn is) (reply.Refused refusal.NotYet)) x so h leads
       (counts_as a held k turn (reply.Refused refusal.NotYet) h is up) (λ e. cc) (omega (arith, h.clock))
 
@@ -145,6 +146,7 @@ module _ {V : Type 0} (k : ServerState V) (turn : Turn) (t : TransId) (l : Live)
     new_waiting : IsReady n serves k → IsWaitingCall k.server k.epoch k.given (count_of k.coordinator) k.sizes k.lives new_call
     new_waiting h = record {
       named = named;
+      current = file_current k.epoch t c named;
       file = λ z counted. subst (IsFileCall k.server k.epoch k.given (count_of k.coordinator) k.sizes k.lives new_call) (same_counts counts z counted) (record {
         formed = formed;
         some = some;
@@ -215,7 +217,7 @@ module _ {V : Type 0} (k : ServerState V) (turn : Turn) (t : TransId) (l : Live)
     alike = there_live.alike
 
     abbrev caller : IsCaller l life
-    caller = alike.calls (unvoted_told a held k h turn.client t works life there_live.is).vote
+    caller = alike.calls (unvoted_told a held k turn.client t h works life there_live.is).vote
 
     asked_is : request_in a.holder c (Some life) ≡ ns
     asked_is = lock_request a held k t l c ns life h up alike caller served told
@@ -259,7 +261,7 @@ module _ {V : Type 0} (k : ServerState V) (turn : Turn) (t : TransId) (l : Live)
 
     leads : Leads false a (call_entry a turn.client turn.number w c (reply.Refused refusal.NotYet) []) (with_wait a turn.client turn.number w t life c)
     leads = waits_leads a turn.client turn.number w t life c h.quiet (h.down ∙ up) (turn_session a held k turn h is) is.number
-        (part_told a held k h turn.client t standing.Work works) there_live.is (alike.client ∙ own) named
+        (part_told a held k turn.client t h standing.Work works) there_live.is (alike.client ∙ own) named
         (idle_told a turn.client t k.waits h.waits (named_all k.server k.epoch k.given (count_of k.coordinator) k.sizes k.lives k.waits ready.waits.calls) idle) passed waits_for taken
 
     waits_as : IsAs (with_wait a turn.client turn.number w t life c) held blocked_kept
@@ -279,6 +281,7 @@ module _ {V : Type 0} (k : ServerState V) (turn : Turn) (t : TransId) (l : Live)
       room = h.room;
       unborn = h.unborn;
       coordinator = h.coordinator;
+      decided = h.decided;
       joins = h.joins;
       files = h.files;
       made = h.made;

@@ -145,6 +145,7 @@ module _ {V : Type 0} (a : Account) (held : Contents) (k : ServerState V) where
         room = same_room k.sizes a.holder.cells k.lives t l (record l { part = p; locks = n }) there before.2 h.room;
         unborn = h.unborn;
         coordinator = h.coordinator;
+        decided = h.decided;
         joins = h.joins;
         files = h.files;
         made = h.made;
@@ -317,6 +318,7 @@ module _ {V : Type 0} (a : Account) (held : Contents) (k : ServerState V) (turn 
               (λ u x at f comes. h.unborn u x at f (comes_later a.holder.server a.ids.epoch k.given (count_after k.given r) f (count_grows k.given r) comes))
               (λ x at. subst (λ (y : Life). PutNoneBeyond a.holder.server a.ids.epoch (count_after k.given r) y.edits) (same-some new x at) (gave_unborn h live only));
           coordinator = h.coordinator;
+          decided = h.decided;
           joins = h.joins;
           files = ap (λ (m : ℕ). m + length (option_to_list (id_in r))) h.files ∙ files_now k.given r;
           made = made_now a.holder.server a.ids.epoch k.given r a.holder.made (subst (λ (f : FileId). GivesOnly f r) (next_same h) only) h.made;

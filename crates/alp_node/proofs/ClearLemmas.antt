@@ -1,7 +1,7 @@
 -- whose calls go as a transaction begins: those of dead parts, and those of what was decided
 use Rattle.std.specs.Prelude.{cond, Bool, true, false, not, ◌==◌, ◌&&◌, ◌||◌, filter, find, Option, None, Some, is_some, is_none, IsSome}
 use Rattle.std.specs.List.{AllByRecursion}
-use Rattle.std.proofs.Common.{◌≡◌, ℕ, List, [], ◌∷◌, refl, sym, ◌∙◌, ap, subst, eq-eqb}
+use Rattle.std.proofs.Common.{◌≡◌, ℕ, List, [], ◌∷◌, refl, sym, ◌∙◌, ap, subst, inl, inr, eq-eqb}
 use Rattle.std.proofs.lemmas.Bool.{eqb-true}
 use Rattle.alp_base.specs.declared.ids.JoinNo.{JoinNo}
 use Rattle.alp_base.specs.declared.ids.Stamp.{Stamp}
@@ -134,6 +134,23 @@ module _ (a : Account) (client : ℕ) (q : IsSettled a) where
       by (Forgotten s js) e k h = decided_none u (Forgotten s js) e refl k.0 ∙ ap (λ (f : Fate). not (is_some (decision_in f))) (sym e)
       by (Ended c) e k h = told h
 
+-- what runs is told just so
+pub running_told : (epoch : ℕ) (t : TransId) (known told : Fate) (client : ℕ) (js : List JoinNo) → IsFateOf epoch t known told → known ≡ Running client js → told ≡ Running client js
+running_told epoch t known told client js h is = go (t.epoch == epoch) h is
+  where
+    like : (f g : Fate) → IsLike f g → f ≡ Running client js → g ≡ Running client js
+    like _ _ (same f) e = e
+    like _ _ (finishing c ks vs ws k) e = let wrong : Finishing c ks vs ≡ Running client js = e in cc
+    like _ _ (committed s ks ds es k) e = let wrong : Committed s ks ds ≡ Running client js = e in cc
+
+    old : (f g : Fate) → IsLikeOld f g → f ≡ Running client js → g ≡ Running client js
+    old _ _ (standing s j ks ds es k) e = let wrong : Committed s (j ∷ ks) ds ≡ Running client js = e in cc
+    old _ _ (nothing f over) e = let wrong : Undrawn ≡ Running client js = e in cc
+
+    go : (b : Bool) → Where b (IsLike known told) (IsLikeOld known told) → known ≡ Running client js → told ≡ Running client js
+    go true k e = like known told k e
+    go false k e = old known told k e
+
 -- ---- so the same calls go
 
 module _ {V : Type 0} (a : Account) (held : Contents) (k : ServerState V) (client : ℕ) (h : IsAs a held k) where
@@ -149,24 +166,24 @@ module _ {V : Type 0} (a : Account) (held : Contents) (k : ServerState V) (clien
 
   -- as it is of no dead part
   stays_alike : (c : Coordinator) (v : WaitingCall) → part_trans v.call ≡ Some v.trans → IsPart v → has_part client c k.joins v.trans ≡ has_part client k.coordinator k.joins v.trans → is_buried a client (waiting v) ≡ false → not (is_decided a client (waiting v)) ≡ stays client c k.joins v
-  stays_alike c v of waits same off = ap (λ (x : Option TransId). not (v.client == client && is_on (λ t. is_some (decision_in (a.fates t))) x)) of ∙ go (v.client == client) refl
+  stays_alike c v of waits stays_so off = ap (λ (x : Option TransId). not (v.client == client && is_on (λ t. is_some (decision_in (a.fates t))) x)) of ∙ go (v.client == client) refl
     where
       go : (b : Bool) → (v.client == client) ≡ b → not (b && is_some (decision_in (a.fates v.trans))) ≡ (not b || has_part client c k.joins v.trans)
       go false e = refl
-      go true e = sym (same ∙ part_kept v.trans ∙ stays_told a client h.quiet.settled (waiting v) off (eqb-true v.client client e) v.trans of waits)
+      go true e = sym (stays_so ∙ part_kept v.trans ∙ stays_told a client h.quiet.settled (waiting v) off (eqb-true v.client client e) v.trans of waits)
 
   abbrev off_of : WaitingCall → Type 0
   off_of v = not (is_buried a client (waiting v)) ≡ outlives client k.dead v
 
   undecided_calls : (c : Coordinator) (ws : List WaitingCall) → AreNamed ws → AllByRecursion (WaitsAs a) (waiting_calls ws) → KeepsParts c ws → AllByRecursion off_of ws
       → without (is_decided a client) (without (is_buried a client) (waiting_calls ws)) ≡ waiting_calls (live_calls client c k.joins (without_dead client k.dead ws))
-  undecided_calls c [] named waits same off = refl
-  undecided_calls c (v ∷ vs) named waits same off = first (is_buried a client (waiting v)) refl (outlives client k.dead v) off.0 (undecided_calls c vs named.1 waits.1 same.1 off.1)
+  undecided_calls c [] named waits stays_so off = refl
+  undecided_calls c (v ∷ vs) named waits stays_so off = first (is_buried a client (waiting v)) refl (outlives client k.dead v) off.0 (undecided_calls c vs named.1 waits.1 stays_so.1 off.1)
     where
-      abbrev rest_said : List Waiting
+      rest_said : List Waiting
       rest_said = without (is_buried a client) (waiting_calls vs)
 
-      abbrev rest_kept : List WaitingCall
+      rest_kept : List WaitingCall
       rest_kept = without_dead client k.dead vs
 
       second : (d e : Bool) → not d ≡ e → without (is_decided a client) rest_said ≡ waiting_calls (live_calls client c k.joins rest_kept)
@@ -179,11 +196,11 @@ module _ {V : Type 0} (a : Account) (held : Contents) (k : ServerState V) (clien
       first : (b : Bool) → is_buried a client (waiting v) ≡ b → (o : Bool) → not b ≡ o → without (is_decided a client) rest_said ≡ waiting_calls (live_calls client c k.joins rest_kept)
           → without (is_decided a client) (cond {A = List Waiting} (not b) (waiting v ∷ rest_said) rest_said) ≡ waiting_calls (live_calls client c k.joins (cond {A = List WaitingCall} o (v ∷ rest_kept) rest_kept))
       first true is false f rest = rest
-      first false is true f rest = second (is_decided a client (waiting v)) (stays client c k.joins v) (stays_alike c v (part_named v named.0) waits.0 same.0 is) rest
+      first false is true f rest = second (is_decided a client (waiting v)) (stays client c k.joins v) (stays_alike c v (part_named v named.0) waits.0 stays_so.0 is) rest
       first true is true f rest = let wrong : false ≡ true = f in cc
       first false is false f rest = let wrong : true ≡ false = f in cc
 
   pub cleared_told : (c : Coordinator) → AreNamed k.waits → KeepsParts c k.waits → AllByRecursion off_of k.waits → undecided a client ≡ waiting_calls (live_calls client c k.joins (without_dead client k.dead k.waits))
-  cleared_told c named same off =
+  cleared_told c named stays_so off =
       ap (λ (ws : List Waiting). without (is_decided a client) (without (is_buried a client) ws)) h.waits
-      ∙ undecided_calls c k.waits named (subst (AllByRecursion (WaitsAs a)) h.waits (each_waits a h.quiet.settled.tells)) same off
+      ∙ undecided_calls c k.waits named (subst (AllByRecursion (WaitsAs a)) h.waits (each_waits a h.quiet.settled.tells)) stays_so off

@@ -82,6 +82,7 @@ use Rattle.alp_node.proofs.GiveOnLemmas.{IsAlikeApart}
 use Rattle.alp_node.proofs.GoneLemmas.{HasLetGo, has_let_go, state_gone, gone_of, granted_rest, holder_rest, lives_then}
 use Rattle.alp_node.proofs.SpaceLemmas.{blocks_then, StandsBeside, stands_beside, needs_beside, room_beside, eased_alike}
 use Rattle.alp_node.proofs.FinishLemmas.{turn_session}
+use Rattle.alp_node.proofs.HaltLemmas.{halted_as}
 use Rattle.alp_node.proofs.KeptLemmas.{sessions_as, session_of, session_then, stands_timely, IsLive, live_there, earlier_more, stepped_so}
 use Rattle.alp_node.proofs.MapLemmas.{places_set}
 use Rattle.alp_node.proofs.NoteLemmas.{put_again}
@@ -408,53 +409,6 @@ module _ {V : Type 0} (a : Account) (before now : ℕ) (held then : Contents) (k
             (so ∙ ap (λ (z : Stamp). told_answer (Some (reply.Committed z)) (act.Decided z [] ∷ act.Released t ∷ grant_acts (granted_behind k t))) (same_stamp g)) h leads
             (commit_as g same notes leads.quiet)
             (λ e. cc) (omega (arith, h.clock)))
-
--- ---- the vault was stopped or failed
-
--- a server that is down keeps all but what its vault has
-pub halted_as : {V : Type 0} (a m : Account) (held then : Contents) (k : ServerState V) (v : V) (ds : List Deed) → m ≡ record a { is_down = true; pending = ds } → IsQuiet m → IsAs a held k → IsAs m then (record k { is_down = true; vault = v })
-halted_as a m held then k v ds is quiet h =
-    let never : true ≡ false → ⊥ = λ e. cc in
-    subst (λ (x : Account). IsAs x then (record k { is_down = true; vault = v })) (sym is) (record {
-      server = h.server;
-      sizes = h.sizes;
-      epoch = h.epoch;
-      clock = h.clock;
-      cells = λ e. absurd (never e);
-      sized = h.sized;
-      notes = λ e. absurd (never e);
-      places = h.places;
-      sessions = h.sessions;
-      dead = h.dead;
-      waits = h.waits;
-      queue = h.queue;
-      asked = h.asked;
-      lives = h.lives;
-      room = h.room;
-      unborn = h.unborn;
-      coordinator = h.coordinator;
-      plain = h.plain;
-      lone = h.lone;
-      files = h.files;
-      made = h.made;
-      born = h.born;
-      earlier = h.earlier;
-      quiet = subst IsQuiet is quiet;
-      down = refl;
-    })
-
--- a read is stopped, in a call of a part at work
-module _ {V : Type 0} (a : Account) (before now : ℕ) (held then : Contents) (k : ServerState V) (turn : Turn) (t : TransId) (v : V) where
-  pub file_halt_stepped : (c : Call) (x : Answer) → IsAs a held k → IsTurn k.sessions turn → k.is_down ≡ false → file_trans c ≡ Some t → standing_of k turn.client t ≡ standing.Work → waiting_of (state_of a).desk turn.client t ≡ None
-      → x ≡ refused_answer refusal.Down (act.Stopped ∷ [])
-      → Stepped a before now then (record k { is_down = true; vault = v }) (event.Call turn.client k.epoch turn.number c) x
-  file_halt_stepped c x h is up named own idle so =
-      let w : Session = session_of turn is in
-      let e : Entry = call_entry a turn.client turn.number w c (reply.Refused refusal.Down) (act.Stopped ∷ []) in
-      let works : part_refusal (state_of a) turn.client t ≡ None = ap (λ (x : Option Waiting). at_part (is_some x) (part_at (state_of a) turn.client t)) idle ∙ ap (at_part false) (part_is a held k turn.client t h ∙ ap part_of own) in
-      let leads = file_halt_leads a turn.client turn.number w t c h.quiet (h.down ∙ up) (turn_session a held k turn h is) is.number named works in
-      stepped_so a before now held then k (record k { is_down = true; vault = v }) turn.client turn.number w c false (reply.Refused refusal.Down) (act.Stopped ∷ []) (with_halt a turn.client turn.number w e) x so h
-      leads (halted_as a (with_halt a turn.client turn.number w e) held then k v (tried (state_of a) e) refl leads.quiet h) (λ w. cc) (stands_timely a.holder.clock (seen_in (event.Call turn.client k.epoch turn.number c)) k.clock h.clock)
 
 module _ {V : Type 0} (a : Account) (before now : ℕ) (held then : Contents) (k : ServerState V) (turn : Turn) (t : TransId) (v : V) (z : Act) where
   abbrev pub IsStopAct : Type 0

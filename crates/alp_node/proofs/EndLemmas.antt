@@ -71,7 +71,7 @@ use Rattle.alp_node.proofs.DeadLemmas.{dead_buried}
 use Rattle.alp_node.proofs.ClearLemmas.{KeepsParts, cleared_told}
 use Rattle.alp_node.proofs.NoteCalls.{call_notes}
 use Rattle.alp_node.proofs.NotedLemmas.{notes_on}
-use Rattle.alp_node.proofs.KeptLemmas.{sessions_as, stands_timely, alike_set, each_set, none_held, stepped_so}
+use Rattle.alp_node.proofs.KeptLemmas.{applied_fated, begun_decision, sessions_as, stands_timely, alike_set, each_set, none_held, stepped_so}
 use Rattle.alp_node.proofs.MapLemmas.{places_set, get_put}
 use Rattle.alp_node.proofs.TransactionLemmas.{next_told, known_begun, count_told}
 
@@ -106,6 +106,7 @@ hello_stepped a before now held k client name x h le up first is =
         room = h.room;
         unborn = h.unborn;
         coordinator = h.coordinator;
+        decided = h.decided;
         servers = h.servers;
         joins = h.joins;
         files = h.files;
@@ -294,6 +295,7 @@ module _ {V : Type 0} (a : Account) (held : Contents) (k : ServerState V) (clien
     room = h.room;
     unborn = h.unborn;
     coordinator = h.coordinator;
+    decided = h.decided;
     servers = h.servers;
     joins = h.joins;
     files = h.files;
@@ -341,6 +343,7 @@ module _ {V : Type 0} (a : Account) (held : Contents) (k : ServerState V) (clien
         room = h.room;
         unborn = h.unborn;
         coordinator = h.coordinator;
+        decided = h.decided;
         joins = h.joins;
         files = h.files;
         made = h.made;
@@ -443,6 +446,7 @@ module _ {V : Type 0} (a : Account) (held : Contents) (k : ServerState V) (clien
           fates = subst (λ (t : TransId). (u : TransId) → IsFateOf a.ids.epoch u (fate_in c u) (cond {A = Fate} (same_trans t u) (fate.begun client (a.fates u)) (a.fates u))) (sym next)
               (known_begun a.ids.epoch begun_trans client seen.ts w.who k.coordinator c a.fates h.coordinator.run.epoch_same comes h.coordinator.fates);
         };
+        decided = applied_fated a m refl refl (λ u. begun_decision (same_trans (next_trans (state_of a)) u) client (a.fates u)) h.decided;
         servers = h.servers;
         joins = h.joins;
         files = h.files;

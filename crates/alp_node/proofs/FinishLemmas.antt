@@ -77,6 +77,7 @@ module _ {V : Type 0} (a : Account) (held : Contents) (k : ServerState V) where
     room = h.room;
     unborn = h.unborn;
     coordinator = h.coordinator;
+    decided = h.decided;
     servers = h.servers;
     joins = h.joins;
     files = h.files;
@@ -193,6 +194,7 @@ module _ {V : Type 0} (a : Account) (before now : ℕ) (held : Contents) (k : Se
         room = h.room;
         unborn = h.unborn;
         coordinator = h.coordinator;
+        decided = h.decided;
         servers = h.servers;
         joins = h.joins;
         files = h.files;

@@ -40,6 +40,7 @@ use Rattle.alp_node.specs.declared.sessions.CallOrder.{CallOrder}
 use Rattle.alp_node.specs.declared.sessions.CallOrder.TheVariants as order
 use Rattle.alp_node.proofs.GivenLemmas.{calm_given, wanting_as}
 use Rattle.alp_node.proofs.KeptLemmas.{stands_timely}
+use Rattle.alp_node.proofs.NotedLemmas.{notes_on}
 use Rattle.alp_node.proofs.OrderLemmas.{IsIdle, idle_not_new}
 use Rattle.alp_node.proofs.ReadyLemmas.{stepped_ready}
 use Rattle.alp_node.proofs.SeatLemmas.{left_seated, left_step_as}
@@ -206,7 +207,7 @@ idle_stepped a before now held k client epoch number c x h up idle so =
         clock = h.clock;
         cells = h.cells;
         sized = h.sized;
-        notes = h.notes;
+        notes = λ on. notes_on (state_of a) (state_of (unmoved a client epoch number c r)) a.ids.epoch held.notes refl refl refl (λ t. refl) (λ j x q. q) (h.notes on);
         places = h.places;
         sessions = h.sessions;
         dead = h.dead;
@@ -214,6 +215,7 @@ idle_stepped a before now held k client epoch number c x h up idle so =
         room = h.room;
         unborn = h.unborn;
         coordinator = h.coordinator;
+        decided = h.decided;
         joins = h.joins;
         files = h.files;
         made = h.made;

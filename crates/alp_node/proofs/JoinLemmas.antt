@@ -222,6 +222,7 @@ module _ {V : Type 0} (a : Account) (before now : ℕ) (held : Contents) (k : Se
           room = h.room;
           unborn = h.unborn;
           coordinator = h.coordinator;
+          decided = h.decided;
           joins = joins;
           files = h.files;
           made = h.made;

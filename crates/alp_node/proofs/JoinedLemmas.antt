@@ -382,6 +382,7 @@ module _ {V : Type 0} (a : Account) (faults : ℕ) (held : Contents) (k : Server
         unborn = each_set (λ l. PutNoneBeyond a.holder.server a.ids.epoch k.given l.edits) t (Some (new_life (Some j) y.client who)) a.holder.lives h.unborn
             (λ l at f comes. ap (λ (z : Life). edits_at z.edits (Leader f) None) (sym (same_some (new_life (Some j) y.client who) l at)));
         coordinator = h.coordinator;
+        decided = h.decided;
         joins = now;
         files = h.files;
         made = h.made;

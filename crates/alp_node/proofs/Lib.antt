@@ -11,6 +11,7 @@ pub mod NoteLaw
 pub mod NoteCalls
 pub mod ClearLemmas
 pub mod OtherLemmas
+pub mod OtherCollects
 pub mod FatedLemmas
 pub mod JoinMoves
 pub mod JoinedLemmas
@@ -22,6 +23,7 @@ pub mod TotalLemmas
 pub mod LockCountLemmas
 pub mod DeadLemmas
 pub mod KeptLemmas
+pub mod HaltLemmas
 pub mod ToComeLemmas
 pub mod EndLemmas
 pub mod StandingLemmas

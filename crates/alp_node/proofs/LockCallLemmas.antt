@@ -184,7 +184,7 @@ module _ {V : Type 0} (a : Account) (before now : ℕ) (held : Contents) (k : Se
   locks_stepped f x h raised is up there works idle within served told shape many of so =
       let y : IsLive a.holder.cells k.locks.held (a.locked t) t l (a.holder.lives t) = live_there a.holder.cells k.locks.held (a.locked t) t (map.get k.lives t) (a.holder.lives t) l there (h.lives t) in
       let counted : IsCountRefusal f = too_locked_is k.sizes.area l.part.counts.cells then_counts.made f many in
-      let caller : IsCaller l y.life = y.alike.calls (unvoted_told a held k h turn.client t works y.life y.is).vote in
+      let caller : IsCaller l y.life = y.alike.calls (unvoted_told a held k turn.client t h works y.life y.is).vote in
       first_stepped a before now held k turn t c f y.life x h is up of works idle y.is
       (go y.life y.alike caller (shape_cases a held k h raised t l y.life caller c served shape)) counted.now (count_none_done a t c f counted) so
     where
@@ -202,7 +202,7 @@ module _ {V : Type 0} (a : Account) (before now : ℕ) (held : Contents) (k : Se
   conflict_stepped holder x h raised is up there works idle never served told shape few of sound named so =
       let y : IsLive a.holder.cells k.locks.held (a.locked t) t l (a.holder.lives t) = live_there a.holder.cells k.locks.held (a.locked t) t (map.get k.lives t) (a.holder.lives t) l there (h.lives t) in
       let r : Reply = reply.Refused (refusal.LockConflict holder) in
-      let caller : IsCaller l y.life = y.alike.calls (unvoted_told a held k h turn.client t works y.life y.is).vote in
+      let caller : IsCaller l y.life = y.alike.calls (unvoted_told a held k turn.client t h works y.life y.is).vote in
       let none : option_or (shape_refusal (state_of a) y.life c) (lock_refusal (state_of a) t y.life c) ≡ None =
       not_refused a held k t l c ns y.life h up y.alike caller served told (open_there y.life y.alike caller (shape_cases a held k h raised t l y.life caller c served shape)) few in
       refused_stepped a before now held k turn t c false (refusal.LockConflict holder) x h is up (λ e. cc) of refl refl

@@ -165,7 +165,7 @@ module _ {V : Type 0} (a : Account) (before now : ℕ) (held : Contents) (k : Se
       (shape : shape_of k.server k.epoch k.given (length l.part.opens.items) c ≡ None) (few : too_locked k.sizes.area l.part.counts.cells locks_now.made ≡ None) (free : blocker k.locks.held t asked.rises ≡ None)
       (away : HasNoCall turn.client t k.waits) where
     abbrev caller : IsCaller l life
-    caller = mine.calls (unvoted_told a held k h turn.client t own.1 life live).vote
+    caller = mine.calls (unvoted_told a held k turn.client t h own.1 life live).vote
 
     abbrev g : Reply
     g = given.given

@@ -96,7 +96,7 @@ module _ {V : Type 0} (a : Account) (before now : ℕ) (held : Contents) (k : Se
       (shape : shape_of k.server k.epoch k.given (length l.part.opens.items) c ≡ None) (few : too_locked k.sizes.area l.part.counts.cells locks_asked.made ≡ None) (free : blocker k.locks.held t wanted.rises ≡ None) (away : HasNoCall turn.client t k.waits)
       (f : Refusal) (full : refused_for room l.part.counts given.after ≡ Some f) where
     abbrev caller : IsCaller l life
-    caller = mine.calls (unvoted_told a held k h turn.client t own.1 life live).vote
+    caller = mine.calls (unvoted_told a held k turn.client t h own.1 life live).vote
 
     abbrev would : Holding
     would = held_for a.holder life c
@@ -176,6 +176,7 @@ module _ {V : Type 0} (a : Account) (before now : ℕ) (held : Contents) (k : Se
       room = same_room k.sizes a.holder.cells k.lives t l live_now there stands.2 h.room;
       unborn = h.unborn;
       coordinator = h.coordinator;
+      decided = h.decided;
       joins = h.joins;
       files = h.files;
       made = h.made;
@@ -228,6 +229,7 @@ module _ {V : Type 0} (a : Account) (before now : ℕ) (held : Contents) (k : Se
           unborn = each_set (λ x. PutNoneBeyond a.holder.server a.ids.epoch k.given x.edits) t (Some new) a.holder.lives h.unborn
               (λ x at. subst (λ (y : Life). PutNoneBeyond a.holder.server a.ids.epoch k.given y.edits) (same-some new x at) (h.unborn t life live));
           coordinator = h.coordinator;
+          decided = h.decided;
           joins = h.joins;
           files = h.files;
           made = h.made;
@@ -246,7 +248,7 @@ module _ {V : Type 0} (a : Account) (before now : ℕ) (held : Contents) (k : Se
         → x ≡ refused_answer f (act.Granted t ∷ []) → Stepped a before now then (left (reply.Refused f)) (event.Call turn.client k.epoch turn.number c) x
     granted_refused x then same of_trans n others some so =
         let leads : Leads false a (call_entry a turn.client turn.number w c (reply.Refused f) (act.Granted t ∷ [])) (with_locks a turn.client turn.number w t life c f) =
-        refused_granted_leads a turn.client turn.number w t life c f false h.quiet (h.down ∙ up) (turn_session a held k turn h is) is.number (part_told a held k h turn.client t standing.Work own.1) live (mine.client ∙ own.0) of_trans (idle_told a turn.client t k.waits h.waits named away.idle) counted.passes counted.now
+        refused_granted_leads a turn.client turn.number w t life c f false h.quiet (h.down ∙ up) (turn_session a held k turn h is) is.number (part_told a held k turn.client t h standing.Work own.1) live (mine.client ∙ own.0) of_trans (idle_told a turn.client t k.waits h.waits named away.idle) counted.passes counted.now
         (lock_free a before now held k turn t l p c ns room r v m on ready life h up is there own live mine served files from given of shape few free away) why
         (subst (λ (y : Reply). GrantsFor false (state_of a) turn.client c y (t ∷ []) (Some t)) as_refused (grants_some a before now held k turn t l p c ns room r v m on ready life h up is there own live mine served files from given of shape few free away n others some)) in
         stepped_so a before now held then k (left (reply.Refused f)) turn.client turn.number w c false (reply.Refused f) (act.Granted t ∷ []) (with_locks a turn.client turn.number w t life c f) x so h leads (granted_as then same (call_notes false a (with_locks a turn.client turn.number w t life c f) turn.client turn.number w c (reply.Refused f) (act.Granted t ∷ []) h.quiet leads refl held.notes) leads.quiet) (λ e. cc)

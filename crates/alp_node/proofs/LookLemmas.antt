@@ -51,7 +51,7 @@ use Rattle.alp_node.specs.declared.server_state.ServerState.{ServerState}
 use Rattle.alp_node.specs.declared.sessions.Turn.{Turn}
 use Rattle.alp_node.specs.declared.served.Standing.TheVariants as standing
 use Rattle.alp_node.proofs.CallLemmas.{part_still}
-use Rattle.alp_node.proofs.CommitLemmas.{file_halt_stepped}
+use Rattle.alp_node.proofs.HaltLemmas.{file_halt_stepped}
 use Rattle.alp_node.proofs.GivenLemmas.{IsCounted, counts_fault, counts_down, reply_given, wanting}
 use Rattle.alp_node.proofs.KeptLemmas.{IsLive, live_there, same_live, as_with}
 use Rattle.alp_node.proofs.MapLemmas.{put_there, get_put}

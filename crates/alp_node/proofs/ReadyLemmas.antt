@@ -47,7 +47,7 @@ use Rattle.alp_node.specs.Steps.{IsTurn, counted_in}
 use Rattle.alp_node.specs.Turns.{TellsUpTo, IsKeepable}
 use Rattle.alp_node.specs.declared.server_state.ServerState.{ServerState}
 use Rattle.alp_node.specs.declared.dead.DeadPart.{DeadPart}
-use Rattle.alp_node.specs.Waits.{is_of, is_other_at, without_calls_of, without_other_at, outlives, without_dead, stays, live_calls, IsNamed, IsWaitingCall, IsOfOther, IsOfCalls, AreWaiting, AreVotersIdle, asks_for}
+use Rattle.alp_node.specs.Waits.{is_of, is_other_at, without_calls_of, without_other_at, outlives, without_dead, stays, live_calls, IsNamed, IsCurrent, IsWaitingCall, IsOfOther, IsOfCalls, AreWaiting, AreVotersIdle, asks_for}
 use Rattle.alp_node.specs.declared.lock_counts.LockCounts.{LockCounts}
 use Rattle.alp_node.specs.declared.lives.Live.{Live}
 use Rattle.alp_node.specs.declared.waits.WaitingCall.{WaitingCall}
@@ -561,10 +561,10 @@ module _ {V : Type 0} (n : ℕ) (serves : Bool) (k : ServerState V) where
   }) (idle_fewer (λ w. not (is_other_at client number w)) k.joins.lives k.waits h.idle) h
 
   -- a Join or a Finish waits besides
-  pub other_waits_ready : (w : WaitingCall) → w.counts ≡ None → IsNamed w → IsReady n serves k → IsReady n serves (record k { waits = k.waits ++ w ∷ [] })
-  other_waits_ready w none named h = waits_ready (k.waits ++ w ∷ []) (record {
+  pub other_waits_ready : (w : WaitingCall) → w.counts ≡ None → IsNamed w → IsCurrent k.epoch w.call → IsReady n serves k → IsReady n serves (record k { waits = k.waits ++ w ∷ [] })
+  other_waits_ready w none named current h = waits_ready (k.waits ++ w ∷ []) (record {
     calls = pushed_each (IsWaitingCall k.server k.epoch k.given (count_of k.coordinator) k.sizes k.lives) k.waits w h.waits.calls
-        (record { named = named; file = λ z counted. (let wrong : None ≡ Some z = sym none ∙ counted in cc) });
+        (record { named = named; current = current; file = λ z counted. (let wrong : None ≡ Some z = sym none ∙ counted in cc) });
     apart = pushed_apart k.waits w h.waits.apart (each_so (λ v. IsOfOther v w) (λ v. no_file v) k.waits);
     queued = each-more (IsOfCalls k.server k.epoch k.given k.lives k.waits) (IsOfCalls k.server k.epoch k.given k.lives (k.waits ++ w ∷ []))
         (λ x o. record { live = o.live; asks = pushed_asks k.waits w x.trans o.asks; beyond = o.beyond }) k.locks.waiting h.waits.queued;

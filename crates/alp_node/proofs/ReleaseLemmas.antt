@@ -116,6 +116,7 @@ module _ {V : Type 0} (n : ℕ) (serves : Bool) (k : ServerState V) (t : TransId
       granted_call : (w : WaitingCall) → IsWaitingCall k.server k.epoch k.given (count_of k.coordinator) k.sizes now w → IsWaitingCall k.server k.epoch k.given (count_of k.coordinator) k.sizes now (record w { is_granted = true })
       granted_call w o = record {
         named = o.named;
+        current = o.current;
         file = λ z counted. (
             let q : IsFileCall k.server k.epoch k.given (count_of k.coordinator) k.sizes now w z = o.file z counted in
             record {

@@ -57,15 +57,15 @@ module _ {V : Type 0} (a : Account) (before now : ℕ) (held : Contents) (k : Se
   for_good : (f : Refusal) (x : Answer) → IsAs a held k → IsTurn k.sessions turn → k.is_down ≡ false → file_trans c ≡ Some t → part_refusal (state_of a) turn.client t ≡ Some f → is_not_yet (reply.Refused f) ≡ false → done_by (state_of a) c (reply.Refused f) (Some t) ≡ []
       → x ≡ refused_answer f []
       → Stepped a before now held (record k { sessions = counted_in k.sessions turn (reply.Refused f) }) (event.Call turn.client k.epoch turn.number c) x
-  for_good f x h is up named no later none so = refused_stepped false f x h is up (λ e. cc) named later none (part_why f no) (part_grants f no) so
+  for_good f x h is up named told later none so = refused_stepped false f x h is up (λ e. cc) named later none (part_why f told) (part_grants f told) so
 
   as_busy : (v : Waiting) (x : Answer) → IsAs a held k → IsTurn k.sessions turn → k.is_down ≡ false → file_trans c ≡ Some t → part_refusal (state_of a) turn.client t ≡ Some refusal.NotYet → waiting_of (state_of a).desk turn.client t ≡ Some v
       → x ≡ refused_answer refusal.NotYet []
       → Stepped a before now held (record k { sessions = counted_in k.sessions turn (reply.Refused refusal.NotYet) }) (event.Call turn.client k.epoch turn.number c) x
-  as_busy v x h is up named no waits so =
+  as_busy v x h is up named told waits so =
       let w : Session = session_of turn is in
       stepped_so a before now held held k (record k { sessions = counted_in k.sessions turn (reply.Refused refusal.NotYet) }) turn.client turn.number w c false (reply.Refused refusal.NotYet) [] (counted_as a turn.client turn.number w (reply.Refused refusal.NotYet)) x so h
-      (busy_leads a turn.client turn.number w t (new_life None turn.client []) c v h.quiet (h.down ∙ up) (turn_session a held k turn h is) is.number no named waits)
+      (busy_leads a turn.client turn.number w t (new_life None turn.client []) c v h.quiet (h.down ∙ up) (turn_session a held k turn h is) is.number told named waits)
       (counts_as a held k turn (reply.Refused refusal.NotYet) h is up) (λ e. cc) (stands_timely a.holder.clock (seen_in (event.Call turn.client k.epoch turn.number c)) k.clock h.clock)
 
   -- whoever asks to be let in waits for it
@@ -76,6 +76,9 @@ module _ {V : Type 0} (a : Account) (before now : ℕ) (held : Contents) (k : Se
       go None e s = let wrong : false ≡ true = s in cc
       go (Some v) e s = (v, e)
 
+  abbrev Refuses : Refusal → Answer → Type 0
+  Refuses f x = Stepped a before now held (record k { sessions = counted_in k.sessions turn (reply.Refused f) }) (event.Call turn.client k.epoch turn.number c) x
+
   pub at_once_stepped : (f : Refusal) (x : Answer) → IsAs a held k → IsTurn k.sessions turn → k.is_down ≡ false → AreNamed k.waits → file_trans c ≡ Some t → refusal_at (has_waiting turn.client t k.waits) (standing_of k turn.client t) ≡ Some f
       → x ≡ refused_answer f []
       → Stepped a before now held (record k { sessions = counted_in k.sessions turn (reply.Refused f) }) (event.Call turn.client k.epoch turn.number c) x
@@ -84,19 +87,16 @@ module _ {V : Type 0} (a : Account) (before now : ℕ) (held : Contents) (k : Se
       told : part_refusal (state_of a) turn.client t ≡ Some f
       told = sym (refusal_told a held k turn.client t h given) ∙ at
 
-      abbrev Goal : Type 0
-      Goal = Stepped a before now held (record k { sessions = counted_in k.sessions turn (reply.Refused f) }) (event.Call turn.client k.epoch turn.number c) x
-
-      busy : f ≡ refusal.NotYet → IsSome (waiting_of (state_of a).desk turn.client t) → Goal
+      busy : f ≡ refusal.NotYet → IsSome (waiting_of (state_of a).desk turn.client t) → Refuses f x
       busy is_f some =
           let v = its_waiter some in
           subst (λ (g : Refusal). Stepped a before now held (record k { sessions = counted_in k.sessions turn (reply.Refused g) }) (event.Call turn.client k.epoch turn.number c) x) (sym is_f)
           (as_busy v.0 x h is up named (told ∙ ap Some is_f) v.1 (so ∙ ap (λ (g : Refusal). refused_answer g []) is_f))
 
-      good : (g : Refusal) → g ≡ f → is_not_yet (reply.Refused g) ≡ false → done_by (state_of a) c (reply.Refused g) (Some t) ≡ [] → Goal
+      good : (g : Refusal) → g ≡ f → is_not_yet (reply.Refused g) ≡ false → done_by (state_of a) c (reply.Refused g) (Some t) ≡ [] → Refuses f x
       good g is_f later none = for_good f x h is up named told (subst (λ (y : Refusal). is_not_yet (reply.Refused y) ≡ false) is_f later) (subst (λ (y : Refusal). done_by (state_of a) c (reply.Refused y) (Some t) ≡ []) is_f none) so
 
-      go : (b : Bool) (s : Standing) → has_waiting turn.client t k.waits ≡ b → standing_of k turn.client t ≡ s → refusal_at b s ≡ Some f → Goal
+      go : (b : Bool) (s : Standing) → has_waiting turn.client t k.waits ≡ b → standing_of k turn.client t ≡ s → refusal_at b s ≡ Some f → Refuses f x
       go b standing.Unknown waits stands e = good refusal.UnknownTrans (same-some refusal.UnknownTrans f e) refl refl
       go b (standing.Ended why) waits stands e = good (refusal.Aborted why) (same-some (refusal.Aborted why) f e) refl refl
       go b standing.Finishing waits stands e = good refusal.Finishing (same-some refusal.Finishing f e) refl refl

@@ -56,7 +56,7 @@ use Rattle.alp_node.proofs.CountedLemmas.{IsCountRefusal, over_is, either_is, to
 use Rattle.alp_node.proofs.ClosedLemmas.{EitherOpen, either_open, either_change, close_open, lock_open, read_on, write_on, size_on, props_on}
 use Rattle.alp_node.proofs.IdLemmas.{known_file, unknown_file}
 use Rattle.alp_node.proofs.KeptLemmas.{IsLive, live_there}
-use Rattle.alp_node.proofs.OneServer.{lone_caller}
+use Rattle.alp_node.proofs.StandingLemmas.{unvoted_told}
 use Rattle.alp_node.proofs.ServedLemmas.{first_stepped}
 use Rattle.alp_node.proofs.WithinLemmas.{MayLock}
 
@@ -241,7 +241,7 @@ pub shape_stepped : {V : Type 0} (a : Account) (before now : ℕ) (held : Conten
     → Stepped a before now held (record k { sessions = counted_in k.sessions turn (reply.Refused f) }) (event.Call turn.client k.epoch turn.number c) x
 shape_stepped a before now held k turn t c f x h raised is up named served own idle l there e so =
     let y : IsLive a.holder.cells k.locks.held (a.locked t) t l (a.holder.lives t) = live_there a.holder.cells k.locks.held (a.locked t) t (map.get k.lives t) (a.holder.lives t) l there (h.lives t) in
-    let caller : IsCaller l y.life = lone_caller a held k h a.holder.cells k.locks.held (a.locked t) t l y.life y.is y.alike in
+    let caller : IsCaller l y.life = y.alike.calls (unvoted_told a held k turn.client t h own y.life y.is).vote in
     first_stepped a before now held k turn t c f y.life x h is up named own idle y.is (shape_told a held k h raised t l y.life caller c f (lock_refusal (state_of a) t y.life c) served e)
     (shape_now k.server k.epoch k.given (length l.part.opens.items) c f e) (shape_none a held k h raised t l y.life caller c f served e) so
 

@@ -1,5 +1,5 @@
 -- what a client has of a transaction, as the server and as its journal say it
-use Rattle.std.specs.Prelude.{cond, Bool, true, false, ◌==◌, ◌&&◌, find, Option, None, Some, is_some, is_none, IsSome, ◌⊎◌}
+use Rattle.std.specs.Prelude.{cond, Bool, true, false, ◌==◌, ◌&&◌, ◌||◌, find, Option, None, Some, is_some, is_none, IsSome, ◌⊎◌}
 use Rattle.std.specs.Option.{option_and_then}
 use Rattle.std.specs.FinMap as map
 use Rattle.std.proofs.Common.{◌≡◌, ℕ, List, [], ◌∷◌, refl, sym, ◌∙◌, ap, subst, inl, inr, eq-eqb}
@@ -9,7 +9,10 @@ use Rattle.alp_base.specs.declared.ids.TransId.{TransId}
 use Rattle.alp_files.specs.declared.refusal.Cause.{Cause}
 use Rattle.alp_files.specs.declared.refusal.Cause.TheVariants as cause
 use Rattle.alp_files.specs.declared.refusal.Refusal.{Refusal}
+use Rattle.alp_files.specs.declared.refusal.Refusal.TheVariants as refusal
 use Rattle.alp_files.specs.declared.reply.Reply.{Reply}
+use Rattle.alp_files.specs.declared.reply.Reply.TheVariants as reply
+use Rattle.alp_journal.specs.Answered.{is_read_fault}
 use Rattle.alp_vault.specs.Contents.{Contents}
 use Rattle.alp_journal.specs.Account.{Account, state_of, IsSettled, HasWaits}
 use Rattle.alp_journal.specs.Along.{Where}
@@ -37,6 +40,8 @@ use Rattle.alp_worker.proofs.WalkLemmas.{part_phase}
 use Rattle.alp_node.specs.Dead.{cause_in}
 use Rattle.alp_node.specs.Paired.{is_in, ActsFor, IsItsJoin, IsPartOf, IsPairedWith}
 use Rattle.alp_node.specs.ServerState.{IsAs, IsReady}
+use Rattle.alp_node.specs.Halts.{says_shut}
+use Rattle.alp_node.specs.Turns.{IsInSession}
 use Rattle.alp_node.specs.Standings.{ended_standing, own_standing, stage_standing, joined_standing, standing_of, refusal_at}
 use Rattle.alp_node.specs.Waits.{has_waiting}
 use Rattle.alp_node.specs.declared.lives.Live.{Live}
@@ -422,6 +427,68 @@ module _ {V : Type 0} (n : ℕ) (serves : Bool) (k : ServerState V) (h : IsReady
           → cond {A = Standing} b (own_standing client (cause_in k.dead client t) (fate_in k.coordinator t)) (joined_standing (cause_in k.dead client t) (part_of client t k.joins.lives)) ≡ standing.Work → WorksHere k client t
       go true e s = (let runs = own_works client (cause_in k.dead client t) (fate_in k.coordinator t) s in here (eqb-true t.server k.server e) runs.0 runs.1)
       go false e s = far (part_of client t k.joins.lives) refl s
+
+-- an end that is to be told is among the dead
+ended_cause : (d : Option Cause) (c : Cause) → ended_standing d ≡ standing.Ended c → d ≡ Some c
+ended_cause None c e = let wrong : standing.Unknown ≡ standing.Ended c = e in cc
+ended_cause (Some x) c e = ap cause_of e
+  where
+    cause_of : Standing → Option Cause
+    cause_of (standing.Ended y) = Some y
+    cause_of s = Some x
+
+own_cause : (client : ℕ) (d : Option Cause) (f : Fate) (c : Cause) → own_standing client d f ≡ standing.Ended c → d ≡ Some c
+own_cause client d Undrawn c e = ended_cause d c e
+own_cause client d (Running m js) c e = go (m == client) e
+  where
+    go : (b : Bool) → cond {A = Standing} b standing.Work standing.Unknown ≡ standing.Ended c → d ≡ Some c
+    go true e = let wrong : standing.Work ≡ standing.Ended c = e in cc
+    go false e = let wrong : standing.Unknown ≡ standing.Ended c = e in cc
+own_cause client d (Finishing m js vs) c e = go (m == client) e
+  where
+    go : (b : Bool) → cond {A = Standing} b standing.Finishing standing.Unknown ≡ standing.Ended c → d ≡ Some c
+    go true e = let wrong : standing.Finishing ≡ standing.Ended c = e in cc
+    go false e = let wrong : standing.Unknown ≡ standing.Ended c = e in cc
+own_cause client d (Committed x js ds) c e = ended_cause d c e
+own_cause client d (Forgotten x js) c e = ended_cause d c e
+own_cause client d (Ended why) c e = ended_cause d c e
+
+stage_cause : (s : Stage) (c : Cause) → stage_standing s ≡ standing.Ended c → ⊥
+stage_cause (stage.Joining who) c e = let wrong : standing.Joining ≡ standing.Ended c = e in cc
+stage_cause (stage.Active who) c e = let wrong : standing.Work ≡ standing.Ended c = e in cc
+stage_cause (stage.Ready ts) c e = let wrong : standing.Finishing ≡ standing.Ended c = e in cc
+
+pub ended_told : {V : Type 0} (k : ServerState V) (client : ℕ) (t : TransId) (c : Cause) → standing_of k client t ≡ standing.Ended c → cause_in k.dead client t ≡ Some c
+ended_told k client t c is = go (t.server == k.server) (part_of client t k.joins.lives) is
+  where
+    go : (b : Bool) (x : Option LiveJoin) → cond {A = Standing} b (own_standing client (cause_in k.dead client t) (fate_in k.coordinator t)) (joined_standing (cause_in k.dead client t) x) ≡ standing.Ended c → cause_in k.dead client t ≡ Some c
+    go true x e = own_cause client (cause_in k.dead client t) (fate_in k.coordinator t) c e
+    go false None e = ended_cause (cause_in k.dead client t) c e
+    go false (Some j) e = absurd (stage_cause j.stage c e)
+
+-- what is not refused at once is at work, and no other call of it waits
+pub work_idle : (b : Bool) (s : Standing) → refusal_at b s ≡ None → (s ≡ standing.Work) × (b ≡ false)
+work_idle false standing.Work e = (refl, refl)
+work_idle true standing.Work e = let wrong : Some refusal.NotYet ≡ None = e in cc
+work_idle b standing.Unknown e = let wrong : Some refusal.UnknownTrans ≡ None = e in cc
+work_idle b standing.Joining e = let wrong : Some refusal.NotYet ≡ None = e in cc
+work_idle b standing.Finishing e = let wrong : Some refusal.Finishing ≡ None = e in cc
+work_idle b (standing.Ended c) e = let wrong : Some (refusal.Aborted c) ≡ None = e in cc
+
+-- and what is refused so shows no fault, and the session keeps it
+abbrev IsCalmly : Refusal → Type 0
+IsCalmly g = ((is_read_fault (Some (reply.Refused g)) || says_shut (Some (reply.Refused g))) ≡ false) × IsInSession (reply.Refused g)
+
+same_refusal : (f g : Refusal) → Some f ≡ Some g → f ≡ g
+same_refusal f g e = cc
+
+pub refused_calm : (b : Bool) (s : Standing) (f : Refusal) → refusal_at b s ≡ Some f → IsCalmly f
+refused_calm b standing.Unknown f e = subst IsCalmly (same_refusal refusal.UnknownTrans f e) (refl, tt)
+refused_calm b standing.Joining f e = subst IsCalmly (same_refusal refusal.NotYet f e) (refl, tt)
+refused_calm true standing.Work f e = subst IsCalmly (same_refusal refusal.NotYet f e) (refl, tt)
+refused_calm false standing.Work f e = let wrong : None ≡ Some f = e in cc
+refused_calm b standing.Finishing f e = subst IsCalmly (same_refusal refusal.Finishing f e) (refl, tt)
+refused_calm b (standing.Ended c) f e = subst IsCalmly (same_refusal (refusal.Aborted c) f e) (refl, tt)
 
 -- the live part is the client's and at work
 abbrev pub IsWorking : {V : Type 0} → ServerState V → ℕ → TransId → Live → Type 0

@@ -1,5 +1,5 @@
 -- a step whose part ended
-use Rattle.std.specs.Prelude.{Bool, true, false, ◌||◌, IsTrue, None, Some, Ok}
+use Rattle.std.specs.Prelude.{cond, Bool, true, false, ◌||◌, IsTrue, None, Some, Ok}
 use Rattle.std.proofs.Common.{◌≡◌, ℕ, ◌+◌, ◌≤◌, List, [], ◌∷◌, ◌++◌, refl, sym, ◌∙◌, ap, subst, arith}
 use Rattle.alp_base.specs.Allowances.{Spends}
 use Rattle.alp_base.specs.declared.ids.TransId.{TransId}
@@ -22,9 +22,12 @@ use Rattle.alp_node.proofs.SeatLemmas.{KeepsNotes, left_alone, left_step_as, lef
 use Rattle.alp_journal.specs.declared.event.Event.{Event}
 use Rattle.alp_journal.specs.declared.event.Event.TheVariants as event
 use Rattle.alp_journal.specs.Account.{Account, state_of}
-use Rattle.alp_journal.specs.Deeds.{Ends}
+use Rattle.alp_journal.specs.Coordinator.{Fate, Undrawn, Running, Finishing, Committed, Forgotten, Ended}
+use Rattle.alp_journal.specs.Coordinator as fate
+use Rattle.alp_journal.specs.Deeds.{Begins, Ends}
+use Rattle.alp_journal.specs.Ids.{same_trans}
 use Rattle.alp_coord.specs.declared.coordinator.Coordinator.{Coordinator}
-use Rattle.alp_coord.specs.Coordinators.{IsAlong, Comes, fate_in}
+use Rattle.alp_coord.specs.Coordinators.{IsAlong, Comes, fate_in, next_id}
 use Rattle.alp_vault.specs.declared.vault.Vault.{Ghosts}
 use Rattle.alp_node.specs.ServerState.{IsAs, IsReady}
 use Rattle.alp_node.specs.Steps.{Stepped, IsStepAs, IsStep, IsTurn, counted_in, ended, told_answer, refused_answer, entry_of}
@@ -37,8 +40,12 @@ use Rattle.alp_node.specs.declared.sessions.Turn.{Turn}
 use Rattle.alp_node.proofs.GivenLemmas.{counts_none, counts_down, reply_given, calm_given}
 use Rattle.alp_node.proofs.ReadyLemmas.{own_lets, counted_ready, down_ready}
 use Rattle.alp_node.proofs.ReleaseLemmas.{ended_ready, ended_as, ended_of, let_go_voters, grants_go_with, grants_caused_with}
-use Rattle.alp_node.proofs.NotedLemmas.{noted_on, noted_decided}
-use Rattle.alp_node.specs.Noted.{AreNotesFor, decision_kept}
+use Rattle.alp_base.specs.Notes.{Notes}
+use Rattle.std.specs.FinMap as map
+use Rattle.alp_node.specs.declared.lives.Live.{Live}
+use Rattle.alp_node.proofs.NotedLemmas.{noted_on, noted_decided, voters_put}
+use Rattle.alp_node.proofs.PairedLemmas.{own_unjoined}
+use Rattle.alp_node.specs.Noted.{AreNoted, AreNotesFor, decision_kept}
 use Rattle.alp_node.specs.Releases.{grant_acts, let_go}
 use Rattle.alp_node.proofs.TransactionLemmas.{lets_end}
 use Rattle.alp_node.proofs.TurnLemmas.{counts_refused}
@@ -130,3 +137,26 @@ ended_notes n serves k turn t r z h own same notes are =
     subst (λ (y : ServerState _). AreNotesFor y notes) (ap (λ (y : ServerState _). record y { coordinator = z }) (sym (ended_of k turn t r)))
     (noted_decided k.server k.servers k.epoch (let_go k t).lives k.joins k.coordinator z notes same
     (noted_on k.lives (let_go k t).lives k.server k.servers k.epoch k.joins k.coordinator notes (let_go_voters n serves k t h own) are))
+
+-- nor is there a note of one that begins, or of its part
+pub begun_notes : {V : Type 0} (n : ℕ) (serves : Bool) (k : ServerState V) (client seen : ℕ) (who : List ℕ) (l : Live) (z : Coordinator) → IsReady n serves k → Comes (Begins (next_id k.coordinator) client who seen) k.coordinator z → (notes : Notes) → AreNotesFor k notes
+    → AreNoted k.server k.servers k.epoch (map.insert k.lives (next_id k.coordinator) l) k.joins z notes
+begun_notes n serves k client seen who l z h comes notes are =
+    noted_decided k.server k.servers k.epoch (map.insert k.lives t l) k.joins k.coordinator z notes (λ u. ap decision_kept (comes u) ∙ go u (same_trans t u))
+    (noted_on k.lives (map.insert k.lives t l) k.server k.servers k.epoch k.joins k.coordinator notes
+    (voters_put k.lives t l k.joins.lives (λ j x at voted. own_unjoined k.servers k.server k.coordinator k.joins k.lives h.paired t h.seat.0 j x at)) are)
+  where
+    t : TransId
+    t = next_id k.coordinator
+
+    this : (f : Fate) → decision_kept (fate.begun client f) ≡ decision_kept f
+    this Undrawn = refl
+    this (Running c js) = refl
+    this (Finishing c js vs) = refl
+    this (Committed s js ds) = refl
+    this (Forgotten s js) = refl
+    this (Ended c) = refl
+
+    go : (u : TransId) (b : Bool) → decision_kept (cond {A = Fate} b (fate.begun client (fate_in k.coordinator u)) (fate_in k.coordinator u)) ≡ decision_kept (fate_in k.coordinator u)
+    go u true = this (fate_in k.coordinator u)
+    go u false = refl

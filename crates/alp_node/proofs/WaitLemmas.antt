@@ -16,6 +16,7 @@ use Rattle.alp_files.specs.declared.refusal.Refusal.{Refusal}
 use Rattle.alp_files.specs.declared.refusal.Refusal.TheVariants as refusal
 use Rattle.alp_journal.specs.Answers.{if_over}
 use Rattle.alp_journal.specs.Counts.{log_need}
+use Rattle.alp_journal.specs.Desk.{file_trans}
 use Rattle.alp_journal.specs.Ids.{same_trans}
 use Rattle.alp_journal.proofs.IdLemmas.{same_trans-itself, same_trans-true}
 use Rattle.alp_locks.proofs.SoundLemmas.{each-more, each-both, each-filter}
@@ -29,7 +30,7 @@ use Rattle.alp_node.specs.Totals.{LiveMap}
 use Rattle.alp_node.specs.Dead.{cause_in}
 use Rattle.alp_worker.specs.declared.live.LiveJoin.{LiveJoin}
 use Rattle.alp_worker.specs.Lives.{is_open, join_at}
-use Rattle.alp_node.specs.Waits.{is_of, is_file_on, is_at, is_other_at, has_waiting, has_file_on, grant_one, grant_of, outlives, without_dead, without_other_at, has_part, stays, live_calls, IsWithinLimits, IsFileCall, IsNamed, IsWaitingCall, IsOfOther, AreApart, is_asking, asks_for, IsOfCalls, AreWaiting, AreVotersIdle}
+use Rattle.alp_node.specs.Waits.{is_of, is_file_on, is_at, is_other_at, has_waiting, has_file_on, grant_one, grant_of, outlives, without_dead, without_other_at, has_part, stays, live_calls, IsCurrent, IsWithinLimits, IsFileCall, IsNamed, IsWaitingCall, IsOfOther, AreApart, is_asking, asks_for, IsOfCalls, AreWaiting, AreVotersIdle}
 use Rattle.alp_node.specs.declared.dead.DeadPart.{DeadPart}
 use Rattle.alp_node.specs.declared.lives.Live.{Live}
 use Rattle.alp_node.specs.declared.lock_counts.LockCounts.{LockCounts}
@@ -122,6 +123,7 @@ module _ (server epoch m n : ℕ) (more : m ≤ n) (sizes : Sizes) where
       → IsWaitingCall server epoch m drawn sizes lives w → IsWaitingCall server epoch n drawn_then sizes now w
   call_later drawn drawn_then low lives now w was h = record {
     named = h.named;
+    current = h.current;
     file = λ z counted. (
         let o : IsFileCall server epoch m drawn sizes lives w z = h.file z counted in
         record {
@@ -452,6 +454,11 @@ pub waiting_later : (server epoch m n : ℕ) → m ≤ n → (drawn : ℕ) (size
 waiting_later server epoch m n more drawn sizes lives ws queue h = waiting_parts server epoch m n more drawn sizes lives lives ws queue (all_like lives ws) (λ t live. live) h
 
 -- each call is one of its transaction
+-- a file call is no Finish
+pub file_current : (epoch : ℕ) (t : TransId) (c : Call) → file_trans c ≡ Some t → IsCurrent epoch c
+file_current epoch t (call.Finish u commit) named = let wrong : None ≡ Some t = named in cc
+file_current epoch t c named = tt
+
 pub named_all : (server epoch given drawn : ℕ) (sizes : Sizes) (lives : LiveMap) (ws : List WaitingCall) → AllByRecursion (IsWaitingCall server epoch given drawn sizes lives) ws → AreNamed ws
 named_all server epoch given drawn sizes lives ws h = each-more (IsWaitingCall server epoch given drawn sizes lives) IsNamed (λ w o. o.named) ws h
 

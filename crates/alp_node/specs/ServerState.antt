@@ -1,5 +1,5 @@
 -- What a server keeps is what its journal says. Of each part of the journal's state:
--- the coordinator: what is kept of each transaction that began here, and the live transactions are just those that run;
+-- the coordinator: what is kept of each transaction that began here, and what was decided in this epoch is applied;
 -- the participant: the joins that are live are just those, each in its phase;
 -- the holder: the vault has the cells, and just the notes that the journal says; each live part has its intents, opens and locks;
 -- the desk: the sessions are just those, each with its principal, its last number and the reply to that; the calls that wait and
@@ -10,8 +10,10 @@
 use Rattle.std.specs.Prelude.{◌≡◌, ◌⊎◌, ℕ, zero, suc, ◌+◌, ◌^◌, ◌<◌, ◌≤◌, Bool, true, false, IsTrue, List, [], ◌∷◌, ◌++◌, length, Option, None, Some, is_some}
 use Rattle.std.specs.List.{list_all, AllByRecursion}
 use Rattle.std.specs.FinMap as map
+use Rattle.std.specs.FinMap.Entries as entries
 use Rattle.alp_base.specs.declared.ids.FileId.{FileId}
 use Rattle.alp_base.specs.declared.ids.JoinNo.{JoinNo}
+use Rattle.alp_base.specs.declared.ids.Stamp.{Stamp}
 use Rattle.alp_base.specs.declared.ids.TransId.{TransId}
 use Rattle.alp_base.specs.declared.key.Key.TheVariants.{Leader}
 use Rattle.alp_base.specs.declared.key.Resource.{Resource}
@@ -36,8 +38,9 @@ use Rattle.alp_trans.specs.Counting.{AreCountsOf}
 use Rattle.alp_journal.specs.Answers.{more_locks}
 use Rattle.alp_journal.specs.Counts.{Locked, with_resources, request_in}
 use Rattle.alp_journal.specs.Holder.{Holder, Life, view_in}
+use Rattle.alp_journal.specs.Coordinator.{decision_in}
 use Rattle.alp_journal.specs.Desk.{Session}
-use Rattle.alp_journal.specs.Ids.{is_drawn}
+use Rattle.alp_journal.specs.Ids.{is_drawn, stamp_cmp}
 use Rattle.alp_journal.specs.Account.{Account, state_of, IsQuiet, AreEarlier}
 use Rattle.alp_node.specs.Asks.{is_given}
 use Rattle.alp_node.specs.Covers.{AreHeld, AreSizedEdits}
@@ -128,6 +131,10 @@ pub record IsAskedAs (h : Holder) (locked : Locked) (w : WaitingCall) (n : LockC
 abbrev pub IsWaitingAs : Holder → Locked → WaitingCall → Type 0
 IsWaitingAs h locked w = (n : LockCounts) (l : Life) → w.counts ≡ Some n → h.lives w.trans ≡ Some l → IsAskedAs h locked w n l
 
+-- what was decided in this epoch is applied
+abbrev pub AreApplied : Account → Type 0
+AreApplied a = (t : TransId) (stamp : Stamp) (js : List JoinNo) → t.epoch ≡ a.ids.epoch → decision_in (a.fates t) ≡ Some (stamp, js) → is_some (entries.find stamp_cmp stamp a.holder.applied) ≡ true
+
 -- ---- all of it
 
 -- The server keeps what this state says, with this in its vault, which counts while it is not down; and it is down just
@@ -151,6 +158,7 @@ pub record IsAs {V : Type 0} (a : Account) (held : Contents) (k : ServerState V)
   pub room : HaveRoom k.sizes a.holder.cells (totals_of k.lives)
   pub unborn : (t : TransId) (l : Life) → a.holder.lives t ≡ Some l → PutNoneBeyond a.holder.server a.ids.epoch k.given l.edits
   pub coordinator : IsCoordinatorOf a k.coordinator
+  pub decided : AreApplied a
   pub joins : AreJoinsOf (state_of a) k.joins
   pub files : a.ids.files ≡ k.given
   pub made : AreMade a.holder.server a.ids.epoch k.given a.holder.made

@@ -146,8 +146,14 @@ pub record IsFileCall (server epoch given drawn : ℕ) (sizes : Sizes) (lives : 
   pub begun : w.trans.server ≡ server → w.trans.counter ≤ drawn
   pub limits : (l : Live) → map.get lives w.trans ≡ Some l → IsWithinLimits server epoch given sizes w n l
 
+-- a Finish is of a transaction of this epoch
+abbrev pub IsCurrent : ℕ → Call → Type 0
+IsCurrent epoch (call.Finish t commit) = t.epoch ≡ epoch
+IsCurrent epoch c = Unit {0}
+
 pub record IsWaitingCall (server epoch given drawn : ℕ) (sizes : Sizes) (lives : LiveMap) (w : WaitingCall) : Type 0 where
   pub named : IsNamed w
+  pub current : IsCurrent epoch w.call
   pub file : (n : LockCounts) → w.counts ≡ Some n → IsFileCall server epoch given drawn sizes lives w n
 
 -- no two file calls are of one transaction

@@ -1,5 +1,6 @@
 use Rattle.std.specs.Prelude.{is_some, None, Some, Ok, true, IsSome, Option}
 use Rattle.std.specs.FinMap as map
+use Rattle.std.specs.Option.{option_copied}
 use Rattle.std.proofs.Common.{◌≡◌, ℕ, ◌+◌, ◌<◌, ◌≤◌, List, [], length, le_refl, arith, refl, sym, ap, ◌∙◌, subst}
 use Rattle.alp_base.specs.declared.ids.TransId.{TransId}
 use Rattle.alp_files.specs.Born.{count_after}
@@ -141,7 +142,7 @@ returns-in-Some-too_locked g c =
     let many : too_locked k.sizes.area l.part.counts.cells n.made ≡ Some f = ap (λ (y : LockCounts). too_locked k.sizes.area l.part.counts.cells y.made) (sym c.lock_counts-counts.ensures) ∙ sym c.too_locked.ensures ∙ c.in-Some-too_locked.is in
     let counted : IsCountRefusal f = too_locked_is k.sizes.area l.part.counts.cells n.made f many in
     let refuse = c.refuse in
-    refused_step G k refuse.new.self turn call refuse.result f (counted.quiet k.server) c.requires.turn c.requires.up refuse.ensures.kept refuse.ensures.answer
+    refused_step G k refuse.new.self turn call refuse.result f (counted.quiet) c.requires.turn c.requires.up refuse.ensures.kept refuse.ensures.answer
     (λ told a h. locks_stepped a (G.faults k.vault) (G.faults k.vault) (G.held k.vault) k turn t l call c.args.needs f refuse.result h c.requires.ready.2.raised c.requires.turn c.requires.up there c.requires.works (idle_told a turn.client t k.waits h.waits named away.idle) (c.requires.ready.2.within t l there)
     c.requires.served (asked_told (G.tells k.vault) (G.held k.vault).cells (holding k.locks.held t) l.part call c.args.needs (c.requires.asked l there) told) (c.requires.shape l there) many c.requires.named refuse.ensures.answer)
     counted.inside
@@ -237,7 +238,7 @@ returns-in-Ok g c =
     ))
     (reply_given (G.faults k.vault) (G.faults M.vault) (G.allowance M.vault) M.is_down r (acts_of t rises) x is
     (counts_none (G.faults k.vault) (G.faults M.vault) M.is_down (Some r)
-    (answered_quiet k.server (G.tells k.vault) (G.held k.vault).cells l.part did.part (name_in l.who) (next_file k) call did.room r given) faults (ap (λ (y : ServerState _). y.is_down) kept_is ∙ c.requires.up)) (ap (λ (y : ServerState _). y.is_down) kept_is ∙ c.requires.up ∙ sym (acts_up t rises))
+    (answered_quiet (G.tells k.vault) (G.held k.vault).cells l.part did.part (name_in l.who) (next_file k) call did.room r given) faults (ap (λ (y : ServerState _). y.is_down) kept_is ∙ c.requires.up)) (ap (λ (y : ServerState _). y.is_down) kept_is ∙ c.requires.up ∙ sym (acts_up t rises))
     (acts_caused (G.faults k.vault) (G.faults M.vault) (G.allowance M.vault) t rises))
     (λ m h. (
     let serves = G.serves N.vault in
@@ -279,3 +280,12 @@ returns-in-Err g c =
     let w = c.without_answer in
     without_step G k (map.insert k.lives t (record l { part = did.part; locks = l.locks })) N.vault N w.new.self turn t c.args.call.now c.in-Err.fault w.result did.kept look c.requires.turn c.requires.up c.requires.named (λ a h. idle_told a turn.client t k.waits h.waits named away.idle) c.requires.works
     (part_unseen G k turn t l N.vault there own (looks_left G k.vault N.vault c.in-Err.fault look) c.requires.up (works_here c.requires.ready.0 (G.serves k.vault) k c.requires.ready.2 turn.client t c.requires.works).unvoted did.part did.sound did.outcome) w.ensures.failed w.ensures.stopped w.ensures.memory
+
+-- a part at work is live
+pub unreachable-requires : goal.unreachable-requires
+unreachable-requires g c =
+    let k = c.args.self.now in
+    let mine : WorksHere k c.args.turn.now.client c.args.trans = works_here c.requires.ready.0 (g.V.Vault.serves k.vault) k c.requires.ready.2 c.args.turn.now.client c.args.trans c.requires.works in
+    let none : map.get k.lives c.args.trans ≡ None = sym c.get.ensures ∙ ap option_copied c.in_default.is in
+    let wrong : None ≡ Some mine.live = sym none ∙ mine.there in
+    cc
