@@ -10,7 +10,7 @@ use Rattle.alp_journal.specs.declared.act.Act.TheVariants as act
 use Rattle.alp_journal.specs.declared.event.Event.TheVariants as event
 use Rattle.alp_journal.specs.declared.message.Message.TheVariants as msg
 use Rattle.alp_journal.specs.Account.{Account, state_of, sent_acts, IsQuiet, Leads}
-use Rattle.alp_journal.specs.Coordinator.{Fate, Undrawn, Running, Finishing, Committed, Forgotten, Ended, joins_of}
+use Rattle.alp_journal.specs.Coordinator.{Fate, Undrawn, Running, Finishing, Committed, Forgotten, Ended, joins_of, decision_in}
 use Rattle.alp_journal.specs.Coordinator as fate
 use Rattle.alp_journal.specs.Deeds.{Registers}
 use Rattle.alp_journal.specs.Ids.{has_join, has_server, is_drawn}
@@ -31,7 +31,8 @@ use Rattle.alp_node.specs.Transactions.{IsCoordinatorBy}
 use Rattle.alp_node.specs.declared.answer.Answer.{Answer}
 use Rattle.alp_node.specs.declared.server_state.ServerState.{ServerState}
 use Rattle.alp_node.proofs.NoteLaw.{notes_stay}
-use Rattle.alp_node.proofs.FatedLemmas.{IsFatedAs, fated_itself, fated_by}
+use Rattle.alp_node.proofs.FatedLemmas.{IsFatedAs, fated_itself, fated_by, small_as}
+use Rattle.alp_node.proofs.KeptLemmas.{applied_fated}
 use Rattle.alp_node.proofs.SayLemmas.{said_mail, away_told, said_goes_on, said_caused, silent_stepped}
 use Rattle.alp_node.specs.Halts.{HaveCauses}
 use Rattle.alp_base.specs.declared.allowance.Allowance.{Allowance}
@@ -42,8 +43,8 @@ use Rattle.alp_node.proofs.TransactionLemmas.{known_moved, run_along}
 -- ---- where fates alone move
 
 pub kept_fated : {V : Type 0} (a : Account) (held : Contents) (k : ServerState V) (g : TransId → Fate) (z : Coordinator) → IsAs a held k → IsCoordinatorBy a.holder.server a.ids.epoch a.ids.transactions g z
-    → (k.is_down ≡ false → AreNotesOf (state_of (record a { fates = g })) a.ids.epoch held.notes) → IsQuiet (record a { fates = g }) → IsAs (record a { fates = g }) held (record k { coordinator = z })
-kept_fated a held k g z h coordinated notes quiet = record {
+    → (k.is_down ≡ false → AreNotesOf (state_of (record a { fates = g })) a.ids.epoch held.notes) → ((t : TransId) → decision_in (g t) ≡ decision_in (a.fates t)) → IsQuiet (record a { fates = g }) → IsAs (record a { fates = g }) held (record k { coordinator = z })
+kept_fated a held k g z h coordinated notes same quiet = record {
   server = h.server;
   servers = h.servers;
   sizes = h.sizes;
@@ -62,6 +63,7 @@ kept_fated a held k g z h coordinated notes quiet = record {
   room = h.room;
   unborn = h.unborn;
   coordinator = coordinated;
+  decided = applied_fated a (record a { fates = g }) refl refl same h.decided;
   joins = h.joins;
   files = h.files;
   made = h.made;
@@ -210,7 +212,7 @@ module _ {V : Type 0} (a : Account) (faults : ℕ) (held : Contents) (k : Server
           (kept_fated a held k m.fates z h
           (record { run = run_along a.holder.server a.ids.epoch a.ids.transactions k.coordinator z h.coordinator.run after.0; fates = known_moved a.ids.epoch (Registers t j) k.coordinator z a.fates refl after.1 h.coordinator.fates })
           (λ still. notes_stay a m (record { event = event.Arrive from (msg.Register t j client); reply = None; acts = act.Registered t j ∷ act.Sent j.server (msg.Joined t j) ∷ [] }) quiet leads.lawful leads.leaves (λ e. let wrong : event.Arrive from (msg.Register t j client) ≡ event.Restart = e in cc) refl tt a.ids.epoch held.notes (h.notes still))
-          leads.quiet)
+          (λ u. (small_as (Registers t j) u (a.fates u) tt).decision) leads.quiet)
 
 -- ---- a register, whatever the vault tells
 

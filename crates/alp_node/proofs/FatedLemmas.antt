@@ -121,7 +121,7 @@ IsSmallDeed (Hears t j ts) = Unit {0}
 IsSmallDeed (Acknowledges t j) = Unit {0}
 IsSmallDeed d = ⊥
 
-small_as : (d : Deed) (t : TransId) (f : Fate) → IsSmallDeed d → IsFateAs f (fate_after d t f)
+pub small_as : (d : Deed) (t : TransId) (f : Fate) → IsSmallDeed d → IsFateAs f (fate_after d t f)
 small_as (Registers u j) t f h = as_if (same_trans u t) f (registered j f) (registered_as j f)
 small_as (Finishes u) t f h = as_if (same_trans u t) f (finishing f) (finishing_as f)
 small_as (Hears u j ts) t f h = as_if (same_trans u t) f (heard j ts f) (heard_as j ts f)

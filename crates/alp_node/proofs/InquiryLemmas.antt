@@ -94,7 +94,7 @@ module _ {V : Type 0} (G : Ghosts V) (k : ServerState V) (from : ℕ) (t : Trans
       go true known e = word_step G k (event.Arrive from (msg.Inquire t j)) x j.server m up so may (λ a h. leads a h (is_other_server (state_of a) j.server) refl)
         where
           may : MaySay m
-          may = inquiry_timely (epoch_of k.coordinator) t j m (fate_in k.coordinator t) (λ stamp js decided. (let low : stamp.ts ≤ k.clock = ready.1.1.times t stamp js decided in let end : k.clock ≤ 2 ^ 62 = ready.1.1.clock in omega arith)) e
+          may = inquiry_timely (epoch_of k.coordinator) t j m (fate_in k.coordinator t) (λ stamp js decided. (let low : stamp.ts ≤ k.clock = ready.2.times t stamp js decided in let end : k.clock ≤ 2 ^ 62 = ready.2.clock in omega arith)) e
 
           leads : (a : Account) (h : IsAs a (G.held k.vault) k) (b : Bool) → is_other_server (state_of a) j.server ≡ b → Leads false a (record { event = event.Arrive from (msg.Inquire t j); reply = None; acts = said_to k j.server m }) a
           leads a h true far =

@@ -2,7 +2,7 @@
 use Rattle.std.specs.Prelude.{cond, Bool, true, false, not, ◌==◌, ◌&&◌, ◌||◌, Option, None, Some, is_some, Result, Ok, map as list_map, IsTrue}
 use Rattle.std.specs.List.{list_any, list_all, AllByRecursion}
 use Rattle.std.specs.FinMap as map
-use Rattle.std.proofs.Common.{◌≡◌, ℕ, ◌+◌, ◌^◌, ◌≤◌, List, [], ◌∷◌, ◌++◌, append-nil, suc, length, refl, sym, ◌∙◌, ap, subst, arith, inl, inr, le_refl}
+use Rattle.std.proofs.Common.{◌≡◌, ℕ, ◌+◌, ◌^◌, ◌<◌, ◌≤◌, List, [], ◌∷◌, ◌++◌, append-nil, suc, length, refl, sym, ◌∙◌, ap, subst, arith, inl, inr, le_refl}
 use Rattle.alp_base.specs.declared.ids.JoinNo.{JoinNo}
 use Rattle.alp_base.specs.declared.ids.TransId.{TransId}
 use Rattle.alp_base.specs.declared.key.Key.TheVariants.{Leader}
@@ -195,6 +195,7 @@ module _ {V : Type 0} (k : ServerState V) (j : JoinNo) (t : TransId) (y : LiveJo
       server = h.joins.server;
       epoch = h.joins.epoch;
       drawn = h.joins.drawn;
+      numbered = λ i x at. (let w = was_staged j (stage_after step.Enter) k.joins.lives i x at in h.joins.numbered i w.was w.there);
       once = once_staged j (stage_after step.Enter) k.joins.lives h.joins.once;
       times = λ i x ts at voted. (let w = was_staged j (stage_after step.Enter) k.joins.lives i x at in h.joins.times i w.was ts w.there (staged_voted j w.was ts (ap (λ (z : LiveJoin). z.stage) (sym w.now) ∙ voted)));
     }
@@ -276,7 +277,7 @@ module _ {V : Type 0} (k : ServerState V) (j : JoinNo) (t : TransId) (y : LiveJo
       };
       known = known_then;
       seat = h.seat;
-      joins = record { server = joins_then.server; epoch = joins_then.epoch; drawn = (let low : (with_entered k.joins j).drawn ≤ n = joins_then.drawn in omega arith); once = joins_then.once; times = joins_then.times };
+      joins = record { server = joins_then.server; epoch = joins_then.epoch; drawn = (let low : (with_entered k.joins j).drawn ≤ n = joins_then.drawn in omega arith); numbered = joins_then.numbered; once = joins_then.once; times = joins_then.times };
       paired = paired_then;
       idle = idle_then;
       opens = each_part (λ u x. x.part.last ≤ n + 1) (let zero_opens : p.last ≡ 0 = ap (λ (w : Own). w.last) fresh in omega (arith, zero_opens)) (λ u x there. (let low : x.part.last ≤ n = h.opens u x there in omega arith));
@@ -412,10 +413,10 @@ asks_there a held k t j client who h phase =
 
 -- one that is let in is not found otherwise: it is in the list, no part of its transaction is live, and no file call on it waits
 module _ {V : Type 0} (a : Account) (held : Contents) (k : ServerState V) (t : TransId) (j : JoinNo) (h : IsAs a held k) (one : IsLetIn a t j) where
-  let_in_found : (o : Option LiveJoin) → o ≡ join_of t (join_at k.joins.lives j) → o ≡ Some (record { join = j; trans = t; client = one.client; stage = stage.Joining one.who })
+  pub let_in_found : (o : Option LiveJoin) → o ≡ join_of t (join_at k.joins.lives j) → o ≡ Some (record { join = j; trans = t; client = one.client; stage = stage.Joining one.who })
   let_in_found o is = is ∙ asks_there a held k t j one.client one.who h one.asks
 
-  let_in_live : map.get k.lives t ≡ None
+  pub let_in_live : map.get k.lives t ≡ None
   let_in_live = go (map.get k.lives t) (a.holder.lives t) one.none (h.lives t)
     where
       go : (o : Option Live) (z : Option Life) → z ≡ None → IsAlike a.holder.cells k.locks.held (a.locked t) t o z → o ≡ None
@@ -423,7 +424,7 @@ module _ {V : Type 0} (a : Account) (held : Contents) (k : ServerState V) (t : T
       go (Some l) None e alike = absurd alike
       go (Some l) (Some z) e alike = let wrong : Some z ≡ None = e in cc
 
-  let_in_off : AreNamed k.waits → has_file_on t k.waits ≡ false
+  pub let_in_off : AreNamed k.waits → has_file_on t k.waits ≡ false
   let_in_off named = sym (called_named k.waits named) ∙ ap (is_called t) (sym h.waits) ∙ one.off
     where
       called_named : (ws : List WaitingCall) → AreNamed ws → is_called t (waiting_calls ws) ≡ has_file_on t ws
@@ -451,7 +452,7 @@ join_found t (Some x) y e = go (same_trans x.trans t) refl e
 
 -- each call that waits is one of its transaction
 pub ready_named : {V : Type 0} (on : Bool) (k : ServerState V) → IsReadyForMore on k → AreNamed k.waits
-ready_named on k ready = named_all k.server k.epoch k.given (count_of k.coordinator) k.sizes k.lives k.waits ready.1.1.waits.calls
+ready_named on k ready = named_all k.server k.epoch k.given (count_of k.coordinator) k.sizes k.lives k.waits ready.2.waits.calls
 
 -- the step of one that is let in
 module _ {V : Type 0} (G : Ghosts V) (k : ServerState V) (from : ℕ) (j : JoinNo) (t : TransId) (y : LiveJoin) (who : List ℕ) (is : IsAsking k j t y who) (p : Part) (fresh : own_of p ≡ no_opens) (none : p.intents ≡ no_intents) (idle : p.counts ≡ no_counts) (ready : IsReadyForMore (G.serves k.vault) k) where
@@ -471,7 +472,7 @@ module _ {V : Type 0} (G : Ghosts V) (k : ServerState V) (from : ℕ) (j : JoinN
       (λ a h. joined_stepped a (G.faults k.vault) (G.held k.vault) k from j t y who is p fresh none idle x joins (entered k.locks t) h up (ready_named (G.serves k.vault) k ready) entered_is deed refl so)
     where
       noted_then : AreNoted k.server k.servers k.epoch k.lives k.joins k.coordinator (G.held k.vault).notes → AreNoted k.server k.servers k.epoch (map.insert k.lives t here) (with_entered k.joins j) k.coordinator (G.held k.vault).notes
-      noted_then notes = let_in_noted k j t y who is p fresh none idle ready.0 (G.serves k.vault) ready.1.1 k.server k.servers k.epoch (G.held k.vault).notes notes
+      noted_then notes = let_in_noted k j t y who is p fresh none idle ready.0 (G.serves k.vault) ready.2 k.server k.servers k.epoch (G.held k.vault).notes notes
 
   pub let_in_step : (x : Answer) (z : ServerState V) (joins : Joins) → z ≡ with_trans k t here → joins ≡ with_entered z.joins j → DoesEnter z.joins joins → k.is_down ≡ false → x ≡ told_answer None []
       → IsStepAs G None k (record z { joins = joins }) (event.Arrive from (msg.Joined t j)) (Ok x)

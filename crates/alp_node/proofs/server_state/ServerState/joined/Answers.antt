@@ -23,7 +23,7 @@ use Rattle.alp_node.specs.declared.lives.Live.{Live}
 use Rattle.alp_node.specs.declared.server_state.ServerState.{ServerState}
 use Rattle.alp_node.proofs.BesideLemmas.{AreNamed}
 use Rattle.alp_node.proofs.JoinedLemmas.{IsAsking, let_in, let_in_kept, let_in_ready, let_in_noted, let_in_found, let_in_live, let_in_off, passed_step, join_found, let_in_step, ready_named}
-use Rattle.alp_node.proofs.JoinMoves.{same_some}
+use Rattle.alp_node.proofs.JoinMoves.{same_some, some_mapped, none_there}
 use Rattle.alp_node.proofs.SayLemmas.{said_step}
 use Rattle.alp_node.proofs.server_state.ServerState.joined.Goals as goal
 
@@ -54,10 +54,7 @@ returns-then-is_some g c from =
     let t = c.args.trans in
     let j = c.args.join.now in
     passed_step g.V.Vault k from t j c.silence-then-is_some.result c.requires.up c.silence-then-is_some.ensures
-    (λ a held h one. sought c.get.result (c.get.ensures ∙ let_in_live a held k t j h one) (sym c.is_some.ensures ∙ c.if-is_some.true))
-  where
-    sought : {X : Type 0} (o : Option X) {Y : Type 0} → o ≡ None → is_some o ≡ true → ⊥
-    sought o none there = let wrong : false ≡ true = sym (ap is_some none) ∙ there in cc
+    (λ a held h one. (let wrong : false ≡ true = ap is_some (sym (let_in_live a held k t j h one) ∙ sym c.get.ensures) ∙ some_mapped (λ x. x.now) c.get.result ∙ sym c.is_some.ensures ∙ c.if-is_some.true in cc))
 
 -- a call on it waits
 pub returns-then-has_on : goal.returns-then-has_on
@@ -78,10 +75,6 @@ returns g c from =
     let y = c.in-Some.found in
     let found = join_found t (join_at k.joins.lives j) y (sym c.join_at.ensures ∙ c.in-Some.is) in
     let_in_step g.V.Vault k from j t y c.in-Joining.who
-    (record { there = found.there; trans = found.trans; asks = c.in-Joining.is; none = sought c.get.result (map.get k.lives t) c.get.ensures (sym c.is_some.ensures ∙ c.if-is_some.false); off = sym c.has_on.ensures ∙ c.if-has_on.false })
+    (record { there = found.there; trans = found.trans; asks = c.in-Joining.is; none = none_there (map.get k.lives t) (ap is_some (sym c.get.ensures) ∙ some_mapped (λ x. x.now) c.get.result ∙ sym c.is_some.ensures ∙ c.if-is_some.false); off = sym c.has_on.ensures ∙ c.if-has_on.false })
     c.new.result c.new.ensures.own c.new.ensures.intents c.new.ensures.counts c.requires.ready c.silence-2.result c.enter.new.self c.enter-2.new.self c.in_ok-enter.ensures.ok c.enter-2.ensures.same c.enter-2.ensures.deed
     c.requires.up c.silence-2.ensures
-  where
-    sought : {X : Type 0} (o z : Option X) → o ≡ z → is_some o ≡ false → z ≡ None
-    sought None z is off = sym is
-    sought (Some x) z is off = let wrong : true ≡ false = off in cc
