@@ -10,7 +10,7 @@ use Rattle.alp_journal.specs.declared.act.Act.TheVariants as act
 use Rattle.alp_journal.specs.declared.event.Event.TheVariants as event
 use Rattle.alp_journal.specs.declared.message.Message.TheVariants as msg
 use Rattle.alp_journal.specs.Account.{Account, state_of, sent_acts, IsQuiet, Leads}
-use Rattle.alp_journal.specs.Coordinator.{Fate, Undrawn, Running, Finishing, Committed, Forgotten, Ended, joins_of}
+use Rattle.alp_journal.specs.Coordinator.{Fate, Undrawn, Running, Finishing, Committed, Forgotten, Ended, joins_of, decision_in}
 use Rattle.alp_journal.specs.Coordinator as fate
 use Rattle.alp_journal.specs.Deeds.{Registers}
 use Rattle.alp_journal.specs.Ids.{has_join, has_server, is_drawn}
@@ -31,14 +31,20 @@ use Rattle.alp_node.specs.Transactions.{IsCoordinatorBy}
 use Rattle.alp_node.specs.declared.answer.Answer.{Answer}
 use Rattle.alp_node.specs.declared.server_state.ServerState.{ServerState}
 use Rattle.alp_node.proofs.NoteLaw.{notes_stay}
-use Rattle.alp_node.proofs.SayLemmas.{said_mail, away_told, silent_stepped}
+use Rattle.alp_node.proofs.FatedLemmas.{IsFatedAs, fated_itself, fated_by, small_as}
+use Rattle.alp_node.proofs.KeptLemmas.{applied_fated}
+use Rattle.alp_node.proofs.SayLemmas.{said_mail, away_told, said_goes_on, said_caused, silent_stepped}
+use Rattle.alp_node.specs.Halts.{HaveCauses}
+use Rattle.alp_base.specs.declared.allowance.Allowance.{Allowance}
+use Rattle.alp_journal.specs.Moves.{is_stop}
+use Rattle.std.specs.List.{list_any}
 use Rattle.alp_node.proofs.TransactionLemmas.{known_moved, run_along}
 
 -- ---- where fates alone move
 
 pub kept_fated : {V : Type 0} (a : Account) (held : Contents) (k : ServerState V) (g : TransId → Fate) (z : Coordinator) → IsAs a held k → IsCoordinatorBy a.holder.server a.ids.epoch a.ids.transactions g z
-    → (k.is_down ≡ false → AreNotesOf (state_of (record a { fates = g })) a.ids.epoch held.notes) → IsQuiet (record a { fates = g }) → IsAs (record a { fates = g }) held (record k { coordinator = z })
-kept_fated a held k g z h coordinated notes quiet = record {
+    → (k.is_down ≡ false → AreNotesOf (state_of (record a { fates = g })) a.ids.epoch held.notes) → ((t : TransId) → decision_in (g t) ≡ decision_in (a.fates t)) → IsQuiet (record a { fates = g }) → IsAs (record a { fates = g }) held (record k { coordinator = z })
+kept_fated a held k g z h coordinated notes same quiet = record {
   server = h.server;
   servers = h.servers;
   sizes = h.sizes;
@@ -57,6 +63,7 @@ kept_fated a held k g z h coordinated notes quiet = record {
   room = h.room;
   unborn = h.unborn;
   coordinator = coordinated;
+  decided = applied_fated a (record a { fates = g }) refl refl same h.decided;
   joins = h.joins;
   files = h.files;
   made = h.made;
@@ -143,7 +150,7 @@ is_closed a j client (Forgotten s js) e = refl
 is_closed a j client (Ended c) e = refl
 
 module _ {V : Type 0} (a : Account) (faults : ℕ) (held : Contents) (k : ServerState V) (from : ℕ) (t : TransId) (j : JoinNo) (client : ℕ) (x : Answer) (h : IsAs a held k) (up : k.is_down ≡ false) where
-  other : Bool
+  abbrev other : Bool
   other = is_other_server (state_of a) j.server
 
   far_told : is_away k j.server ≡ other
@@ -155,7 +162,7 @@ module _ {V : Type 0} (a : Account) (faults : ℕ) (held : Contents) (k : Server
   registration_told : (r : Registration) → registration_of (is_other_in k.coordinator.server k.servers j.server) j client (fate_in k.coordinator t) ≡ r → registration_of other j client (a.fates t) ≡ r
   registration_told r e =
       sym (known-registration a.ids.epoch t other j client (fate_in k.coordinator t) (a.fates t) (h.coordinator.fates t))
-      ∙ ap (λ (b : Bool). registration_of b j client (fate_in k.coordinator t)) (λ i. is_other_in (h.coordinator.run.server_same (~ i)) (h.servers i) j.server)
+      ∙ ap (λ (b : Bool). registration_of b j client (fate_in k.coordinator t)) (λ i. is_other_in (sym h.coordinator.run.server_same i) (h.servers i) j.server)
       ∙ e
 
   -- nothing of it stays
@@ -166,7 +173,10 @@ module _ {V : Type 0} (a : Account) (faults : ℕ) (held : Contents) (k : Server
       → Stepped a faults faults held (record k { coordinator = z }) (event.Arrive from (msg.Register t j client)) x
   register_stepped r z is after so = go (is_known k.coordinator t) refl r is after so
     where
+      quiet : IsQuiet a
       quiet = h.quiet
+
+      on : a.is_down ≡ false
       on = h.down ∙ up
 
       mail : (m : _) → said_if (is_away k j.server) j.server m ≡ sent_acts (to_others (state_of a) ((j.server, m) ∷ []))
@@ -202,4 +212,24 @@ module _ {V : Type 0} (a : Account) (faults : ℕ) (held : Contents) (k : Server
           (kept_fated a held k m.fates z h
           (record { run = run_along a.holder.server a.ids.epoch a.ids.transactions k.coordinator z h.coordinator.run after.0; fates = known_moved a.ids.epoch (Registers t j) k.coordinator z a.fates refl after.1 h.coordinator.fates })
           (λ still. notes_stay a m (record { event = event.Arrive from (msg.Register t j client); reply = None; acts = act.Registered t j ∷ act.Sent j.server (msg.Joined t j) ∷ [] }) quiet leads.lawful leads.leaves (λ e. let wrong : event.Arrive from (msg.Register t j client) ≡ event.Restart = e in cc) refl tt a.ids.epoch held.notes (h.notes still))
-          leads.quiet)
+          (λ u. (small_as (Registers t j) u (a.fates u) tt).decision) leads.quiet)
+
+-- ---- a register, whatever the vault tells
+
+pub registered_fated : (before after : Coordinator) (t : TransId) (j : JoinNo) (r : Registration) → AfterRegistration (Registers t j) r before after → IsFatedAs before after
+registered_fated before after t j registration.Silence same = subst (IsFatedAs before) (sym same) (fated_itself before)
+registered_fated before after t j registration.Known same = subst (IsFatedAs before) (sym same) (fated_itself before)
+registered_fated before after t j registration.Refused same = subst (IsFatedAs before) (sym same) (fated_itself before)
+registered_fated before after t j registration.Registered new = fated_by (Registers t j) before after tt new.0 new.1
+
+pub register_goes_on : (b : Bool) (t : TransId) (j : JoinNo) (r : Registration) → list_any is_stop (register_acts b t j r) ≡ false
+register_goes_on b t j registration.Silence = refl
+register_goes_on b t j registration.Known = said_goes_on b j.server (msg.Joined t j)
+register_goes_on b t j registration.Refused = said_goes_on b j.server (msg.JoinRefused t j)
+register_goes_on b t j registration.Registered = said_goes_on b j.server (msg.Joined t j)
+
+pub register_caused : (b : Bool) (t : TransId) (j : JoinNo) (r : Registration) (before now : ℕ) (allowance : Allowance) → HaveCauses before now allowance (register_acts b t j r)
+register_caused b t j registration.Silence before now allowance = tt
+register_caused b t j registration.Known before now allowance = said_caused b j.server (msg.Joined t j) tt before now allowance
+register_caused b t j registration.Refused before now allowance = said_caused b j.server (msg.JoinRefused t j) tt before now allowance
+register_caused b t j registration.Registered before now allowance = said_caused b j.server (msg.Joined t j) tt before now allowance

@@ -121,7 +121,7 @@ IsSmallDeed (Hears t j ts) = Unit {0}
 IsSmallDeed (Acknowledges t j) = Unit {0}
 IsSmallDeed d = ⊥
 
-small_as : (d : Deed) (t : TransId) (f : Fate) → IsSmallDeed d → IsFateAs f (fate_after d t f)
+pub small_as : (d : Deed) (t : TransId) (f : Fate) → IsSmallDeed d → IsFateAs f (fate_after d t f)
 small_as (Registers u j) t f h = as_if (same_trans u t) f (registered j f) (registered_as j f)
 small_as (Finishes u) t f h = as_if (same_trans u t) f (finishing f) (finishing_as f)
 small_as (Hears u j ts) t f h = as_if (same_trans u t) f (heard j ts f) (heard_as j ts f)
@@ -144,7 +144,7 @@ fated_by d before after small along comes = record {
 
 -- as many count where each does that did
 module _ (p : TransId → Bool) where
-  one_so : TransId → List TransId
+  abbrev one_so : TransId → List TransId
   one_so t = cond {A = List TransId} (p t) (t ∷ []) []
 
   all_so : (ts : List TransId) → flat_map one_so ts ≡ filter p ts

@@ -1,5 +1,5 @@
 -- joins that go on, or end, and what goes with them
-use Rattle.std.specs.Prelude.{cond, Bool, true, false, ◌&&◌, find, Option, None, Some}
+use Rattle.std.specs.Prelude.{cond, Bool, true, false, ◌&&◌, find, Option, None, Some, is_some}
 use Rattle.std.specs.Option.{option_map}
 use Rattle.std.specs.FinMap as map
 use Rattle.std.proofs.Common.{◌≡◌, ℕ, List, [], ◌∷◌, refl, sym, ◌∙◌, ap, subst}
@@ -34,13 +34,22 @@ same_some {X} x y e = ap (λ (o : Option X). from o) e
     from None = x
     from (Some z) = z
 
+-- whether anything is there
+pub some_mapped : {X Y : Type 0} (f : X → Y) (o : Option X) → is_some (option_map f o) ≡ is_some o
+some_mapped f None = refl
+some_mapped f (Some x) = refl
+
+pub none_there : {X : Type 0} (o : Option X) → is_some o ≡ false → o ≡ None
+none_there None e = refl
+none_there (Some x) e = let wrong : true ≡ false = e in cc
+
 found_so : (p : LiveJoin → Bool) (ls : List LiveJoin) (x : LiveJoin) → find p ls ≡ Some x → p x ≡ true
 found_so p [] x e = let wrong : None ≡ Some x = e in cc
-found_so p (l ∷ ls) x e = go (p l) refl e
+found_so p (l ∷ ls) x e = go (found_so p ls x) (p l) refl e
   where
-    go : (b : Bool) → p l ≡ b → cond {A = Option LiveJoin} b (Some l) (find p ls) ≡ Some x → p x ≡ true
-    go true is e = ap p (sym (same_some l x e)) ∙ is
-    go false is e = found_so p ls x e
+    go : (find p ls ≡ Some x → p x ≡ true) → (b : Bool) → p l ≡ b → cond {A = Option LiveJoin} b (Some l) (find p ls) ≡ Some x → p x ≡ true
+    go rest true is e = ap p (sym (same_some l x e)) ∙ is
+    go rest false is e = rest e
 
 -- who is found has that number
 pub found_number : (ls : List LiveJoin) (j : JoinNo) (x : LiveJoin) → join_at ls j ≡ Some x → j ≡ x.join
@@ -141,7 +150,7 @@ joined_by servers here c k lives t l j h live join = go (join_at k.lives j) refl
 -- ---- a join is let in
 
 module _ (servers here : ℕ) (c : Coordinator) (k : Joins) (lives : LiveMap) (h : ArePaired servers here c k lives) (j : JoinNo) (y : LiveJoin) (who : List ℕ) (l : Live) where
-  entered_at : Stage → Stage
+  abbrev entered_at : Stage → Stage
   entered_at = stage_after step.Enter
 
   pub paired_entered : join_at k.lives j ≡ Some y → y.stage ≡ stage.Joining who → map.get lives y.trans ≡ None → l.client ≡ y.client → l.who ≡ Some who → l.join ≡ Some j → ArePaired servers here c (with_entered k j) (map.insert lives y.trans l)

@@ -1,8 +1,8 @@
 -- a join that is let in: its part is live from then on, and holds no lock; and one that is not: it is over, and its call goes
-use Rattle.std.specs.Prelude.{cond, Bool, true, false, not, ◌==◌, ◌&&◌, ◌||◌, Option, None, Some, is_some, map as list_map, IsTrue}
+use Rattle.std.specs.Prelude.{cond, Bool, true, false, not, ◌==◌, ◌&&◌, ◌||◌, Option, None, Some, is_some, Result, Ok, map as list_map, IsTrue}
 use Rattle.std.specs.List.{list_any, list_all, AllByRecursion}
 use Rattle.std.specs.FinMap as map
-use Rattle.std.proofs.Common.{◌≡◌, ℕ, ◌+◌, ◌^◌, ◌≤◌, List, [], ◌∷◌, ◌++◌, append-nil, suc, length, refl, sym, ◌∙◌, ap, subst, arith, inl, inr, le_refl}
+use Rattle.std.proofs.Common.{◌≡◌, ℕ, ◌+◌, ◌^◌, ◌<◌, ◌≤◌, List, [], ◌∷◌, ◌++◌, append-nil, suc, length, refl, sym, ◌∙◌, ap, subst, arith, inl, inr, le_refl}
 use Rattle.alp_base.specs.declared.ids.JoinNo.{JoinNo}
 use Rattle.alp_base.specs.declared.ids.TransId.{TransId}
 use Rattle.alp_base.specs.declared.key.Key.TheVariants.{Leader}
@@ -26,7 +26,7 @@ use Rattle.alp_journal.specs.Ids.{same_trans, same_join}
 use Rattle.alp_journal.specs.Counts.{lock_set}
 use Rattle.alp_journal.specs.Moves.{enters, refused_join}
 use Rattle.alp_journal.specs.Participant.{Phase, Unseen, Joining, Active, Ready, Applied, Over, entered as entered_phase}
-use Rattle.alp_journal.specs.State.{state_deed}
+use Rattle.alp_journal.specs.State.{State, state_deed}
 use Rattle.alp_journal.proofs.IdLemmas.{same_trans-true, same_trans-itself}
 use Rattle.alp_journal.proofs.RegisterSteps.{IsLetIn, joined_either, joined_passed_leads, refused_passed_leads, joined_leads, with_entered as with_entered_join, refused_leads, with_refused}
 use Rattle.alp_locks.specs.Asks.{entered}
@@ -63,16 +63,16 @@ use Rattle.alp_node.specs.Noted.{AreNoted, IsNotedAs, IsNotedJoin, HasReadyRoom,
 use Rattle.alp_node.specs.Paired.{is_in, ArePaired}
 use Rattle.alp_node.specs.Releases.{with_trans}
 use Rattle.alp_node.specs.Rooms.{IsWithin}
-use Rattle.alp_node.specs.ServerState.{IsAs, IsAlike, IsReady, AreAlive, AreJoinsHere, IsAlive, PutNoneBeyond}
-use Rattle.alp_node.specs.Steps.{Stepped, told_answer}
+use Rattle.alp_node.specs.ServerState.{IsAs, IsAlike, IsReady, IsReadyForMore, AreAlive, AreJoinsHere, IsAlive, PutNoneBeyond}
+use Rattle.alp_node.specs.Steps.{IsStepAs, Stepped, told_answer}
 use Rattle.alp_node.specs.Totals.{LiveMap}
-use Rattle.alp_node.specs.Waits.{has_file_on, is_file_on, without_calls_of, IsWaitingCall, IsOfCalls, AreWaiting, AreVotersIdle}
+use Rattle.alp_node.specs.Waits.{waiting_calls, has_file_on, is_file_on, without_calls_of, IsWaitingCall, IsOfCalls, AreWaiting, AreVotersIdle}
 use Rattle.alp_node.specs.declared.answer.Answer.{Answer}
 use Rattle.alp_node.specs.declared.lives.Live.{Live}
 use Rattle.alp_node.specs.declared.server_state.ServerState.{ServerState}
 use Rattle.alp_node.specs.declared.waits.WaitingCall.{WaitingCall}
 use Rattle.alp_node.specs.declared.lock_counts.LockCounts.{LockCounts}
-use Rattle.alp_node.proofs.BesideLemmas.{AreNamed, AreOthers, others_told, queue_beside, asked_beside}
+use Rattle.alp_node.proofs.BesideLemmas.{AreNamed, AreOthers, file_named, others_told, queue_beside, asked_beside}
 use Rattle.alp_node.proofs.KeptLemmas.{alike_set, each_set, none_held}
 use Rattle.alp_node.proofs.TotalLemmas.{added_room}
 use Rattle.alp_node.proofs.WithinLemmas.{new_within}
@@ -80,8 +80,8 @@ use Rattle.alp_node.proofs.JoinMoves.{same_some, found_number, phase_back, WasSt
 use Rattle.alp_node.proofs.MapLemmas.{get_put}
 use Rattle.alp_node.proofs.NoteLaw.{notes_stay}
 use Rattle.alp_node.proofs.NotedLemmas.{HasNoVoter, voters_put, room_on, noted_on}
-use Rattle.alp_node.proofs.SayLemmas.{silent_stepped}
-use Rattle.alp_node.proofs.WaitLemmas.{call_later, like_itself, file_on}
+use Rattle.alp_node.proofs.SayLemmas.{said_step, silent_step, silent_stepped}
+use Rattle.alp_node.proofs.WaitLemmas.{call_later, like_itself, file_on, named_all}
 
 -- ---- stages
 
@@ -195,6 +195,7 @@ module _ {V : Type 0} (k : ServerState V) (j : JoinNo) (t : TransId) (y : LiveJo
       server = h.joins.server;
       epoch = h.joins.epoch;
       drawn = h.joins.drawn;
+      numbered = λ i x at. (let w = was_staged j (stage_after step.Enter) k.joins.lives i x at in h.joins.numbered i w.was w.there);
       once = once_staged j (stage_after step.Enter) k.joins.lives h.joins.once;
       times = λ i x ts at voted. (let w = was_staged j (stage_after step.Enter) k.joins.lives i x at in h.joins.times i w.was ts w.there (staged_voted j w.was ts (ap (λ (z : LiveJoin). z.stage) (sym w.now) ∙ voted)));
     }
@@ -276,7 +277,7 @@ module _ {V : Type 0} (k : ServerState V) (j : JoinNo) (t : TransId) (y : LiveJo
       };
       known = known_then;
       seat = h.seat;
-      joins = record { server = joins_then.server; epoch = joins_then.epoch; drawn = (let low : (with_entered k.joins j).drawn ≤ n = joins_then.drawn in omega arith); once = joins_then.once; times = joins_then.times };
+      joins = record { server = joins_then.server; epoch = joins_then.epoch; drawn = (let low : (with_entered k.joins j).drawn ≤ n = joins_then.drawn in omega arith); numbered = joins_then.numbered; once = joins_then.once; times = joins_then.times };
       paired = paired_then;
       idle = idle_then;
       opens = each_part (λ u x. x.part.last ≤ n + 1) (let zero_opens : p.last ≡ 0 = ap (λ (w : Own). w.last) fresh in omega (arith, zero_opens)) (λ u x there. (let low : x.part.last ≤ n = h.opens u x there in omega arith));
@@ -409,3 +410,72 @@ pub asks_there : {V : Type 0} (a : Account) (held : Contents) (k : ServerState V
     → join_of t (join_at k.joins.lives j) ≡ Some (record { join = j; trans = t; client = client; stage = stage.Joining who })
 asks_there a held k t j client who h phase =
     ap (join_of t) (h.joins.live j ∙ ap (live_at j) phase) ∙ ap (λ (b : Bool). cond {A = Option LiveJoin} b (Some (record { join = j; trans = t; client = client; stage = stage.Joining who })) None) (same_trans-itself t)
+
+-- one that is let in is not found otherwise: it is in the list, no part of its transaction is live, and no file call on it waits
+module _ {V : Type 0} (a : Account) (held : Contents) (k : ServerState V) (t : TransId) (j : JoinNo) (h : IsAs a held k) (one : IsLetIn a t j) where
+  pub let_in_found : (o : Option LiveJoin) → o ≡ join_of t (join_at k.joins.lives j) → o ≡ Some (record { join = j; trans = t; client = one.client; stage = stage.Joining one.who })
+  let_in_found o is = is ∙ asks_there a held k t j one.client one.who h one.asks
+
+  pub let_in_live : map.get k.lives t ≡ None
+  let_in_live = go (map.get k.lives t) (a.holder.lives t) one.none (h.lives t)
+    where
+      go : (o : Option Live) (z : Option Life) → z ≡ None → IsAlike a.holder.cells k.locks.held (a.locked t) t o z → o ≡ None
+      go None z e alike = refl
+      go (Some l) None e alike = absurd alike
+      go (Some l) (Some z) e alike = let wrong : Some z ≡ None = e in cc
+
+  pub let_in_off : AreNamed k.waits → has_file_on t k.waits ≡ false
+  let_in_off named = sym (called_named k.waits named) ∙ ap (is_called t) (sym h.waits) ∙ one.off
+    where
+      called_named : (ws : List WaitingCall) → AreNamed ws → is_called t (waiting_calls ws) ≡ has_file_on t ws
+      called_named [] named = refl
+      called_named (w ∷ ws) named = (λ i. file_named t w named.0 i || called_named ws named.1 i)
+
+-- a word that is passed by changes nothing
+pub passed_step : {V : Type 0} (G : Ghosts V) (k : ServerState V) (from : ℕ) (t : TransId) (j : JoinNo) (x : Answer) → k.is_down ≡ false → x ≡ told_answer None []
+    → ((a : Account) (held : Contents) → IsAs a held k → IsLetIn a t j → ⊥) → IsStepAs G None k k (event.Arrive from (msg.Joined t j)) (Ok x)
+passed_step G k from t j x up so out = silent_step G k (event.Arrive from (msg.Joined t j)) x up so
+    (λ a h. joined_passed_leads a from t j h.quiet (h.down ∙ up) (elim (joined_either a t j) [ inl e ↦ e | inr e ↦ absurd (out a (G.held k.vault) h e) ]))
+
+-- what is found of the transaction is the join, and is the transaction's
+pub record IsFound (t : TransId) (o : Option LiveJoin) (y : LiveJoin) : Type 0 where
+  pub there : o ≡ Some y
+  pub trans : y.trans ≡ t
+
+pub join_found : (t : TransId) (o : Option LiveJoin) (y : LiveJoin) → join_of t o ≡ Some y → IsFound t o y
+join_found t None y e = (let wrong : ◌≡◌ {A = Option LiveJoin} None (Some y) = e in cc)
+join_found t (Some x) y e = go (same_trans x.trans t) refl e
+  where
+    go : (b : Bool) → same_trans x.trans t ≡ b → cond {A = Option LiveJoin} b (Some x) None ≡ Some y → IsFound t (Some x) y
+    go true its is = (let one : x ≡ y = same_some x y is in record { there = ap Some one; trans = ap (λ (z : LiveJoin). z.trans) (sym one) ∙ same_trans-true x.trans t its })
+    go false its is = (let wrong : ◌≡◌ {A = Option LiveJoin} None (Some y) = is in cc)
+
+-- each call that waits is one of its transaction
+pub ready_named : {V : Type 0} (on : Bool) (k : ServerState V) → IsReadyForMore on k → AreNamed k.waits
+ready_named on k ready = named_all k.server k.epoch k.given (count_of k.coordinator) k.sizes k.lives k.waits ready.2.waits.calls
+
+-- the step of one that is let in
+module _ {V : Type 0} (G : Ghosts V) (k : ServerState V) (from : ℕ) (j : JoinNo) (t : TransId) (y : LiveJoin) (who : List ℕ) (is : IsAsking k j t y who) (p : Part) (fresh : own_of p ≡ no_opens) (none : p.intents ≡ no_intents) (idle : p.counts ≡ no_counts) (ready : IsReadyForMore (G.serves k.vault) k) where
+  abbrev DoesEnter : Joins → Joins → Type 0
+  DoesEnter old new = (s : State) (u : TransId) (client : ℕ) (name : List ℕ) → AreJoinsOf s old → AreJoinsOf (state_deed s (Enters j u client name)) new
+
+  abbrev here : Live
+  here = let_in k j t y who is p fresh none idle
+
+  base_step : (x : Answer) (joins : Joins) → joins ≡ with_entered k.joins j → DoesEnter k.joins joins → k.is_down ≡ false → x ≡ told_answer None []
+      → IsStepAs G None k (record (with_trans k t here) { joins = joins }) (event.Arrive from (msg.Joined t j)) (Ok x)
+  base_step x joins entered_is deed up so =
+      said_step G k (record (with_trans k t here) { joins = joins }) (event.Arrive from (msg.Joined t j)) x []
+      (record { vault = refl; server = refl; servers = refl; sizes = refl; epoch = refl; clock = refl; sessions = refl; down = refl }) up so refl (λ before now allowance. tt)
+      (λ n h. subst (λ (js : Joins). IsReady (n + 1) (G.serves k.vault) (record (with_trans k t here) { joins = js })) (sym entered_is) (let_in_ready k j t y who is p fresh none idle n (G.serves k.vault) h))
+      (λ notes. subst (λ (js : Joins). AreNoted k.server k.servers k.epoch (map.insert k.lives t here) js k.coordinator (G.held k.vault).notes) (sym entered_is) (noted_then notes))
+      (λ a h. joined_stepped a (G.faults k.vault) (G.held k.vault) k from j t y who is p fresh none idle x joins (entered k.locks t) h up (ready_named (G.serves k.vault) k ready) entered_is deed refl so)
+    where
+      noted_then : AreNoted k.server k.servers k.epoch k.lives k.joins k.coordinator (G.held k.vault).notes → AreNoted k.server k.servers k.epoch (map.insert k.lives t here) (with_entered k.joins j) k.coordinator (G.held k.vault).notes
+      noted_then notes = let_in_noted k j t y who is p fresh none idle ready.0 (G.serves k.vault) ready.2 k.server k.servers k.epoch (G.held k.vault).notes notes
+
+  pub let_in_step : (x : Answer) (z : ServerState V) (joins : Joins) → z ≡ with_trans k t here → joins ≡ with_entered z.joins j → DoesEnter z.joins joins → k.is_down ≡ false → x ≡ told_answer None []
+      → IsStepAs G None k (record z { joins = joins }) (event.Arrive from (msg.Joined t j)) (Ok x)
+  let_in_step x z joins z_is entered_is deed up so =
+      subst (λ (s : ServerState V). joins ≡ with_entered s.joins j → DoesEnter s.joins joins → IsStepAs G None k (record s { joins = joins }) (event.Arrive from (msg.Joined t j)) (Ok x)) (sym z_is)
+      (λ e d. base_step x joins e d up so) entered_is deed

@@ -18,6 +18,9 @@ pub mod OtherCollects
 pub mod FatedLemmas
 pub mod JoinMoves
 pub mod JoinedLemmas
+pub mod InquiryLemmas
+pub mod AskedLemmas
+pub mod JoinEnds
 pub mod SayLemmas
 pub mod ArrivalLemmas
 pub mod CountLemmas

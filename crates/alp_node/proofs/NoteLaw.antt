@@ -67,7 +67,7 @@ says_on s m n h k = record {
 
 pub notes_along : (s m : State) (epoch : ℕ) (notes : Notes) → SaysAsBefore s m → AreNotesOf s epoch notes → AreNotesOf m epoch notes
 notes_along s m epoch notes h k = record {
-  clock = k.clock ∙ (λ i. record { epoch = epoch; clock = h.kept (~ i) });
+  clock = k.clock ∙ (λ i. record { epoch = epoch; clock = sym h.kept i });
   ready = λ j fits. h.ready j (ready_at notes j) (k.ready j fits);
   decided = λ t fits. k.decided t fits ∙ sym (h.decided t);
   format = λ name value is. subst (λ (n : ℕ). is_server_note n m.servers name value ≡ true) (sym h.server) (subst (λ (n : ℕ). is_server_note s.holder.server n name value ≡ true) (sym h.servers) (k.format name value is));
@@ -252,8 +252,7 @@ module _ (e : Event) (s : State) (j : JoinNo) (u : TransId) (client ts : ℕ) (r
       ap (λ (b : Bool). cond {A = Option Life} b (Some (new_life (Some k) c who)) (s.holder.lives u)) n
   life_stays (Grants t c) h law = granted t c (s.holder.lives t) (unvoted_other t law.locks.0)
   life_stays (Performs t d) h law =
-      let l = law.view.0 in
-      performed t d (s.holder.lives t) (unvoted_other t (λ k is. subst (λ (x : Option Life). vote_is x) (sym law.view.1.0 ∙ is) law.view.1.1.active))
+      performed t d (s.holder.lives t) (unvoted_other t (λ k is. subst (λ (x : Option Life). vote_is x) (sym law.view.1 ∙ is) law.view.2.active))
     where
       vote_is : Option Life → Type 0
       vote_is None = ⊥
@@ -401,7 +400,7 @@ none_note lives Over x n h = h
 same_note : (lives after : TransId → Option Life) (p q : Phase) → IsReadyLike p q → ((t : TransId) (client ts : ℕ) → p ≡ Ready t client ts → after t ≡ lives t) → (x : Option ReadyPart) → IsReadyNote lives p x → IsReadyNote after q x
 same_note lives after (Ready t client ts) q like stays None h = absurd h
 same_note lives after (Ready t client ts) q like stays (Some p) h =
-    subst (λ (r : Phase). IsReadyNote after r (Some p)) (sym like) (h.0, h.1.0, h.1.1.0, subst (λ (o : Option Life). IsKeptIf o p) (sym (stays t client ts refl)) h.1.1.1)
+    subst (λ (r : Phase). IsReadyNote after r (Some p)) (sym like) (h.0, h.1, h.2, subst (λ (o : Option Life). IsKeptIf o p) (sym (stays t client ts refl)) h.3)
 same_note lives after Unseen q like stays x h = none_note after q x like h
 same_note lives after (Joining t c w) q like stays x h = none_note after q x like h
 same_note lives after (Active t c w) q like stays x h = none_note after q x like h
@@ -409,17 +408,17 @@ same_note lives after (Applied t stamp) q like stays x h = none_note after q x l
 same_note lives after Over q like stays x h = none_note after q x like h
 
 module _ (e : Event) (s : State) (d : Deed) (free : IsUnkeptIn s d) (law : IsLawfulDeed e s d) (voted : AreVoted s) where
-  holds_as : IsHolderAs s.holder (holder_after s.holder d)
-  holds_as = deed_as s d free
+  alike : IsHolderAs s.holder (holder_after s.holder d)
+  alike = deed_as s d free
 
   stays : (j : JoinNo) (t : TransId) (client ts : ℕ) → s.phases j ≡ Ready t client ts → (holder_after s.holder d).lives t ≡ s.holder.lives t
   stays j t client ts is = life_stays e s j t client ts is (voted j t client ts is) d free law
 
   pub deed_says : SaysAsBefore s (state_deed s d)
   deed_says = record {
-    server = holds_as.server;
+    server = alike.server;
     servers = refl;
-    kept = holds_as.kept;
+    kept = alike.kept;
     ready = λ j. same_note s.holder.lives (holder_after s.holder d).lives (s.phases j) (phase_after d j (s.phases j)) (phases_like s d j free) (stays j);
     decided = λ t. fates_kept s d t (s.fates t) free;
   }
@@ -428,7 +427,7 @@ module _ (e : Event) (s : State) (d : Deed) (free : IsUnkeptIn s d) (law : IsLaw
   deed_voted j t client ts is =
       let was : s.phases j ≡ Ready t client ts = was_ready (s.phases j) (phase_after d j (s.phases j)) t client ts (phases_like s d j free) is in
       let v : IsVoted s j t ts = voted j t client ts was in
-      record { life = v.life; live = stays j t client ts was ∙ v.live; vote = v.vote; join = v.join; away = ap (λ (n : ℕ). t.server == n) holds_as.server ∙ v.away }
+      record { life = v.life; live = stays j t client ts was ∙ v.live; vote = v.vote; join = v.join; away = ap (λ (n : ℕ). t.server == n) alike.server ∙ v.away }
 
 pub deeds_say : (e : Event) (ds : List Deed) (s : State) → Along state_deed IsUnkeptIn s ds → Along state_deed (IsLawfulDeed e) s ds → AreVoted s → SaysAsBefore s (state_after state_deed s ds)
 deeds_say e [] s free law voted = says_same s
@@ -605,9 +604,8 @@ performed_free s event.Restart r = tt
 
 pub entry_free : (s : State) (e : Entry) → list_any is_write e.acts ≡ false → AbortsNoVote s e.event → Along state_deed IsUnkeptIn s (tried s e)
 entry_free s e n a =
-    let rest : List Deed = flat_map (act_deeds s e.event) e.acts ++ done_deeds s e.event e.reply in
-    first_then (event_deeds s e.event e.reply e.acts) rest
-    (all-append IsUnkept (flat_map (act_deeds s e.event) e.acts) (done_deeds s e.event e.reply) (acts_free s e.event e.acts n) (performed_free s e.event e.reply)) s (event_free s e.event e.reply e.acts a)
+    first_then (event_deeds s e.event e.reply e.acts ++ flat_map (act_deeds s e.event) e.acts) (done_deeds s e.event e.reply) (performed_free s e.event e.reply) s
+    (first_then (event_deeds s e.event e.reply e.acts) (flat_map (act_deeds s e.event) e.acts) (acts_free s e.event e.acts n) s (event_free s e.event e.reply e.acts a))
 
 -- ---- an entry
 
@@ -615,14 +613,10 @@ entry_free s e n a =
 pub stands_voted : (a : Account) → IsQuiet a → AreVoted (state_of a)
 stands_voted a q j t client ts is =
     let life = subst (HasLife a.holder.lives j) is (q.settled.stands.held j) in
-    let paired : IsPaired t a.phases (Some life.0) (a.fates t) = subst (λ (o : Option Life). IsPaired t a.phases o (a.fates t)) life.1.0 (q.settled.stands.paired t) in
+    let paired : IsPaired t a.phases (Some life.0) (a.fates t) = subst (λ (o : Option Life). IsPaired t a.phases o (a.fates t)) life.1 (q.settled.stands.paired t) in
     let known = subst (IsPhaseOf a.servers a.holder.server a.ids.epoch a.ids.joins a.joined j) is (q.settled.stands.phases j) in
-    record { life = life.0; live = life.1.0; vote = voted life.0 life.0.join life.1.1 paired; join = life.1.1; away = away_of (is_other_parts known.1) }
+    record { life = life.0; live = life.1; vote = voted life.0 life.0.join life.2 paired; join = life.2; away = away_of (is_other_parts known.1) }
   where
-    voted : (l : Life) (o : Option JoinNo) → o ≡ Some j → IsPartAs t a.phases l (a.fates t) o → l.vote ≡ Some ts
-    voted l None at h = let wrong : None ≡ Some j = at in cc
-    voted l (Some k) at h = from l k (some_same at) h.0
-
     some_same : {k : JoinNo} → Some k ≡ Some j → k ≡ j
     some_same {k} at = ap (λ (x : Option JoinNo). or_this x) at
       where
@@ -632,7 +626,7 @@ stands_voted a q j t client ts is =
 
     from : (l : Life) (k : JoinNo) → k ≡ j → IsJoined t l (a.phases k) → l.vote ≡ Some ts
     from l k at (inl h) = let wrong : Active t l.client l.who ≡ Ready t client ts = sym h.0 ∙ ap a.phases at ∙ is in cc
-    from l k at (inr h) = h.1.1.0 ∙ ap Some (time_same (sym h.1.0 ∙ ap a.phases at ∙ is))
+    from l k at (inr h) = h.2 ∙ ap Some (time_same (sym h.1 ∙ ap a.phases at ∙ is))
       where
         time_in : Phase → ℕ
         time_in (Ready u c us) = us
@@ -640,6 +634,10 @@ stands_voted a q j t client ts is =
 
         time_same : Ready t l.client h.0 ≡ Ready t client ts → h.0 ≡ ts
         time_same x = ap time_in x
+
+    voted : (l : Life) (o : Option JoinNo) → o ≡ Some j → IsPartAs t a.phases l (a.fates t) o → l.vote ≡ Some ts
+    voted l None at h = let wrong : None ≡ Some j = at in cc
+    voted l (Some k) at h = from l k (some_same at) h.0
 
     is_other_parts : is_other a.servers a.holder.server t.server ≡ true → not (t.server == a.holder.server) ≡ true
     is_other_parts h = (and_parts (nat_lt 0 t.server && nat_lt t.server (a.servers + 1)) (not (t.server == a.holder.server)) h).1

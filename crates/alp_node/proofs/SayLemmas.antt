@@ -24,6 +24,7 @@ use Rattle.alp_node.specs.declared.answer.Answer.{Answer}
 use Rattle.alp_node.specs.declared.server_state.ServerState.{ServerState}
 use Rattle.alp_worker.specs.Again.{is_other}
 use Rattle.alp_journal.specs.Answered.{is_read_fault}
+use Rattle.alp_node.proofs.ReadyLemmas.{stepped_ready}
 use Rattle.alp_node.proofs.SeatLemmas.{spends_same, left_alone, left_leaves}
 
 -- ---- what is said
@@ -38,7 +39,7 @@ said_mail s to m = go (is_other_server s to)
 
 -- the server of a journal knows the others
 pub away_told : {V : Type 0} (a : Account) (held : Contents) (k : ServerState V) (n : ℕ) → IsAs a held k → is_away k n ≡ is_other_server (state_of a) n
-away_told a held k n h = λ i. is_other (h.servers (~ i)) (h.server (~ i)) n
+away_told a held k n h = λ i. is_other (sym h.servers i) (sym h.server i) n
 
 -- it stops nothing, and may be said
 pub said_goes_on : (b : Bool) (to : ℕ) (m : Message) → list_any is_stop (said_if b to m) ≡ false
@@ -115,3 +116,23 @@ silent_stepped a m faults held k new e x acts h clock so leads kept = record {
   kept = kept;
   clock = stands_timely a.holder.clock (seen_in e) new.clock (h.clock ∙ sym clock);
 }
+
+-- a step by which all stays, and this is said
+pub told_step : {V : Type 0} (G : Ghosts V) (k : ServerState V) (e : Event) (x : Answer) (acts : List Act) → k.is_down ≡ false → x ≡ told_answer None acts
+    → list_any is_stop acts ≡ false → ((before now : ℕ) (allowance : Allowance) → HaveCauses before now allowance acts)
+    → ((a : Account) → IsAs a (G.held k.vault) k → Leads false a (record { event = e; reply = None; acts = acts }) a) → IsStepAs G None k k e (Ok x)
+told_step G k e x acts up so none causes leads =
+    said_step G k k e x acts (record { vault = refl; server = refl; servers = refl; sizes = refl; epoch = refl; clock = refl; sessions = refl; down = refl }) up so none causes
+    (λ n h. stepped_ready n (G.serves k.vault) k h) (λ notes. notes)
+    (λ a h. silent_stepped a a (G.faults k.vault) (G.held k.vault) k k e x acts h refl so (leads a h) h)
+
+-- nothing comes of it
+pub silent_step : {V : Type 0} (G : Ghosts V) (k : ServerState V) (e : Event) (x : Answer) → k.is_down ≡ false → x ≡ told_answer None []
+    → ((a : Account) → IsAs a (G.held k.vault) k → Leads false a (record { event = e; reply = None; acts = [] }) a) → IsStepAs G None k k e (Ok x)
+silent_step G k e x up so leads = told_step G k e x [] up so refl (λ before now allowance. tt) leads
+
+-- a message goes to another server of the run
+pub word_step : {V : Type 0} (G : Ghosts V) (k : ServerState V) (e : Event) (x : Answer) (to : ℕ) (m : Message) → k.is_down ≡ false → x ≡ told_answer None (said_to k to m) → MaySay m
+    → ((a : Account) → IsAs a (G.held k.vault) k → Leads false a (record { event = e; reply = None; acts = said_to k to m }) a) → IsStepAs G None k k e (Ok x)
+word_step G k e x to m up so may leads =
+    told_step G k e x (said_to k to m) up so (said_goes_on (is_away k to) to m) (said_caused (is_away k to) to m may) leads

@@ -174,7 +174,7 @@ impl<V: Vault> ServerState<V> {
         let Some(found) = self.join_at(&trans, join) else {
             return Ok(self.silence());
         };
-        let Stage::Joining(who) = found.stage else {
+        let Stage::Joining(who) = &found.stage else {
             return Ok(self.silence());
         };
         if self.lives.get(&trans).is_some() {
@@ -185,7 +185,7 @@ impl<V: Vault> ServerState<V> {
         }
         let live = Live {
             client: found.client,
-            who: Some(who),
+            who: Some(*who),
             part: Part::new(self.alloc),
             locks: 0,
             join: Some(*join),
@@ -204,7 +204,7 @@ impl<V: Vault> ServerState<V> {
         let Some(live) = self.join_at(&trans, join) else {
             return self.silence();
         };
-        let Stage::Joining(_) = live.stage else {
+        let Stage::Joining(_) = &live.stage else {
             return self.silence();
         };
         self.joins.quit(join);

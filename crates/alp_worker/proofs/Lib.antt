@@ -1,5 +1,5 @@
-mod ListLemmas
-mod LiveLemmas
+pub mod ListLemmas
+pub mod LiveLemmas
 pub mod WalkLemmas
 pub mod MoveLemmas
 mod DrawLemmas
