@@ -27,11 +27,12 @@ ghost use Rattle.alp_node.specs.Waits.{has_waiting};
 ghost use Rattle.alp_node.specs.Steps.{IsStep, IsNoted, IsOn, IsTurn, IsRefused, IsDown, counted_in, ended, refused_answer};
 
 use crate::answer::Answer;
+use crate::decide::Decided;
 use crate::messages::{tell_aborts, tell_asks};
 use crate::server_state::ServerState;
 use crate::sessions::Turn;
 use crate::waits::WaitingCall;
-use alp_base::{JoinNo, OutOfMemory, TransId};
+use alp_base::{JoinNo, OutOfMemory, Stamp, TransId};
 use alp_calls::CallFault;
 use alp_files::{Call, Cause, Refusal, Reply, Why};
 use alp_journal::{Act, Acts};
@@ -127,6 +128,36 @@ impl<V: Vault> ServerState<V> {
             Some(why) => self.vote_against_own(turn, trans, why),
             None => self.commit_alone(turn, trans),
         }
+    }
+
+    // A transaction without parts elsewhere is committed at the next time.
+    fn commit_alone(&mut self, turn: &Turn, trans: TransId) -> Result<Answer, OutOfMemory>
+        requires turn { IsTurn self.old.sessions turn.now }
+        requires works { standing_of self.old turn.now.client trans ≡ standing.Work }
+        requires alone { joins_of_said (fate_in self.old.coordinator trans) ≡ [] }
+        requires may { own_why self.old trans ≡ None }
+        requires journal { (a : Account) (held : Contents) → IsAs a held self.old → why_not_own false (state_of a) trans ≡ own_why self.old trans }
+        requires idle { has_waiting turn.now.client trans self.old.waits ≡ false }
+        requires here { trans.server ≡ self.old.server }
+        requires up { self.old.is_down ≡ false }
+        requires ready { IsReadyForMore (V.serves self.old.vault) self.old }
+        requires noted { IsNoted V.Vault self.old }
+        requires on { IsOn V.Vault self.old }
+        requires known { IsTrue (V.tells self.old.vault) → IsOfJournal (V.held self.old.vault) self.old }
+        requires sound { IsTrue (V.tells self.old.vault) → AreLivesSound (V.held self.old.vault) self.old }
+        ensures { IsStep V.Vault self.old self.new (event.Call turn.now.client self.old.epoch turn.now.number (call.Finish trans true)) result }
+    {
+        let stamp = Stamp {
+            ts: self.clock + 1,
+            trans,
+        };
+        let pending = self.decision(stamp, &[])?;
+        let acts = match self.decide(pending)? {
+            Decided::Made(acts) => acts,
+            Decided::Halted(acts) => return Ok(Answer::refused(Refusal::Down, Acts::new(acts))),
+        };
+        self.sessions.count(turn, Reply::Committed { stamp });
+        Ok(Answer::committed(stamp, Acts::new(acts)))
     }
 
     // This server's own vote is against a transaction that has no parts elsewhere.

@@ -39,26 +39,4 @@ impl<V: Vault> ServerState<V> {
         let _ = event;
         unreachable!()
     }
-
-    /// A transaction without parts elsewhere is committed at the next time.
-    pub(super) fn commit_alone(&mut self, turn: &Turn, trans: TransId) -> Result<Answer, OutOfMemory>
-        requires turn { IsTurn self.old.sessions turn.now }
-        requires works { standing_of self.old turn.now.client trans ≡ standing.Work }
-        requires alone { joins_of_said (fate_in self.old.coordinator trans) ≡ [] }
-        requires may { own_why self.old trans ≡ None }
-        requires journal { (a : Account) (held : Contents) → IsAs a held self.old → why_not_own false (state_of a) trans ≡ own_why self.old trans }
-        requires idle { has_waiting turn.now.client trans self.old.waits ≡ false }
-        requires here { trans.server ≡ self.old.server }
-        requires up { self.old.is_down ≡ false }
-        requires ready { IsReadyForMore (V.serves self.old.vault) self.old }
-        requires noted { IsNoted V.Vault self.old }
-        requires on { IsOn V.Vault self.old }
-        requires known { IsTrue (V.tells self.old.vault) → IsOfJournal (V.held self.old.vault) self.old }
-        requires sound { IsTrue (V.tells self.old.vault) → AreLivesSound (V.held self.old.vault) self.old }
-        ensures { IsStep V.Vault self.old self.new (event.Call turn.now.client self.old.epoch turn.now.number (call.Finish trans true)) result }
-    {
-        let _ = turn;
-        let _ = trans;
-        unreachable!()
-    }
 }
