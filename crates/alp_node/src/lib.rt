@@ -11,6 +11,7 @@ mod collect;
 mod dead;
 mod down;
 mod easing;
+mod endings;
 mod finish;
 mod joining;
 mod lives;
@@ -31,6 +32,7 @@ mod start;
 mod stored;
 mod stub;
 mod totals;
+mod votes;
 mod waits;
 
 pub use down::Down;

@@ -10,7 +10,7 @@ ghost use Rattle.alp_node.specs.Served.{IsServed, AreLivesSound};
 ghost use Rattle.alp_node.specs.Standings.{standing_of};
 ghost use Rattle.alp_node.specs.declared.served.Standing.TheVariants as standing;
 ghost use Rattle.alp_node.specs.Steps.{IsStep, IsStepAs, IsNoted, IsOn, IsTurn};
-ghost use Rattle.alp_node.specs.Votes.{own_why};
+ghost use Rattle.alp_node.specs.Votes.{own_why, why_against};
 ghost use Rattle.alp_node.specs.Waits.{has_waiting};
 
 use crate::answer::Answer;
@@ -44,6 +44,15 @@ impl<V: Vault> ServerState<V> {
         ensures { IfOk result (λ w. w ≡ own_why self.now trans.now) }
     {
         let _ = trans;
+        unreachable!()
+    }
+
+    /// What is in the way of the vote of the client's part of another server's transaction.
+    pub(super) fn why_not(&self, client: u8, trans: &TransId) -> Result<Option<Why>, OutOfMemory>
+        requires ready { IsReadyForMore (V.serves self.now.vault) self.now }
+        ensures { IfOk result (λ w. w ≡ why_against self.now client trans.now) }
+    {
+        let _ = (client, trans);
         unreachable!()
     }
 
