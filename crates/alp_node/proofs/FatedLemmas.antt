@@ -191,6 +191,7 @@ fated_paired servers here before after k lives h p = record {
   parts = λ t. paired_as k t (fate_in before t) (fate_in after t) (map.get lives t) (h.fates t).client (p.parts t);
   joins = p.joins;
   others = p.others;
+  own = λ t client runs. p.own t client (sym (h.fates t).client ∙ runs);
 }
 
 pub fated_times : (clock : ℕ) (before after : Coordinator) → IsFatedAs before after → AreDecidedBy clock before → AreDecidedBy clock after

@@ -20,7 +20,7 @@ use Rattle.alp_worker.specs.declared.room.ReadySum.{ReadySum}
 use Rattle.alp_worker.specs.Lives.{phase_of, is_at, is_open, join_at, without, AreOnce}
 use Rattle.alp_worker.specs.Rooms.{sum_of, sum_with}
 use Rattle.alp_worker.specs.Walks.{ready_in}
-use Rattle.alp_worker.proofs.LiveLemmas.{same_join-itself, stays_if, without_at, once_filter}
+use Rattle.alp_worker.proofs.LiveLemmas.{same_join-itself, stays_if, without_at, once_filter, single_filter}
 use Rattle.alp_ready.specs.NoteLooks.{ready_at}
 use Rattle.alp_node.specs.Noted.{AreNoted, IsNotedAs, IsNotedJoin, HasReadyRoom, ready_room, size_in}
 use Rattle.alp_node.specs.Paired.{is_in, ArePaired}
@@ -82,6 +82,7 @@ module _ {V : Type 0} (n : ℕ) (serves : Bool) (k : ServerState V) (j : JoinNo)
     drawn = h.joins.drawn;
     numbered = λ i x at. h.joins.numbered i x (still i x at);
     once = once_filter (λ l. not (is_at j l && p l)) k.joins.lives h.joins.once;
+    single = single_filter (λ l. not (is_at j l && p l)) k.joins.lives h.joins.single;
     times = λ i x ts at voted. h.joins.times i x ts (still i x at) voted;
   }
 

@@ -158,6 +158,7 @@ module _ (servers here : ℕ) (c : Coordinator) (k : Joins) (lives : LiveMap) (h
     parts = λ u. subst (IsPairedWith (with_entered k j) u (fate_in c u)) (sym (get_put lives y.trans l u)) (part u (same_trans u y.trans) refl);
     joins = λ i x at. has i x (was_staged j entered_at k.lives i x at);
     others = λ i x at. other i x (was_staged j entered_at k.lives i x at);
+    own = h.own;
   }
     where
       its : is_at j y ≡ true
@@ -223,6 +224,7 @@ paired_quit servers here c k lives j p once out h = record {
   parts = λ u. part u (map.get lives u) refl (h.parts u);
   joins = λ i x at. h.joins i x (was_there j p k.lives once i x at);
   others = λ i x at. h.others i x (was_there j p k.lives once i x at);
+  own = h.own;
 }
   where
     now : Joins

@@ -48,7 +48,7 @@ use Rattle.alp_worker.specs.declared.live.Step.TheVariants as step
 use Rattle.alp_worker.specs.Joins.{AreJoins, AreJoinsOf, with_entered, with_quit}
 use Rattle.alp_worker.specs.Lives.{is_at, is_open, join_at, live_at, phase_in, phase_of, staged, staged_one, stage_after, AreOnce}
 use Rattle.alp_worker.specs.Walks.{ready_in}
-use Rattle.alp_worker.proofs.LiveLemmas.{staged_at, once_staged}
+use Rattle.alp_worker.proofs.LiveLemmas.{staged_at, once_staged, single_staged}
 use Rattle.alp_worker.specs.Rooms.{sum_of}
 use Rattle.alp_coord.specs.Coordinators.{count_of, counted_of}
 use Rattle.alp_journal.specs.Messages.{trans_ready}
@@ -197,6 +197,7 @@ module _ {V : Type 0} (k : ServerState V) (j : JoinNo) (t : TransId) (y : LiveJo
       drawn = h.joins.drawn;
       numbered = λ i x at. (let w = was_staged j (stage_after step.Enter) k.joins.lives i x at in h.joins.numbered i w.was w.there);
       once = once_staged j (stage_after step.Enter) k.joins.lives h.joins.once;
+      single = single_staged j (stage_after step.Enter) k.joins.lives h.joins.single;
       times = λ i x ts at voted. (let w = was_staged j (stage_after step.Enter) k.joins.lives i x at in h.joins.times i w.was ts w.there (staged_voted j w.was ts (ap (λ (z : LiveJoin). z.stage) (sym w.now) ∙ voted)));
     }
 
@@ -277,7 +278,7 @@ module _ {V : Type 0} (k : ServerState V) (j : JoinNo) (t : TransId) (y : LiveJo
       };
       known = known_then;
       seat = h.seat;
-      joins = record { server = joins_then.server; epoch = joins_then.epoch; drawn = (let low : (with_entered k.joins j).drawn ≤ n = joins_then.drawn in omega arith); numbered = joins_then.numbered; once = joins_then.once; times = joins_then.times };
+      joins = record { server = joins_then.server; epoch = joins_then.epoch; drawn = (let low : (with_entered k.joins j).drawn ≤ n = joins_then.drawn in omega arith); numbered = joins_then.numbered; once = joins_then.once; single = joins_then.single; times = joins_then.times };
       paired = paired_then;
       idle = idle_then;
       opens = each_part (λ u x. x.part.last ≤ n + 1) (let zero_opens : p.last ≡ 0 = ap (λ (w : Own). w.last) fresh in omega (arith, zero_opens)) (λ u x there. (let low : x.part.last ≤ n = h.opens u x there in omega arith));

@@ -22,7 +22,7 @@ use Rattle.alp_coord.specs.Coordinators.{counted_of, fate_in}
 use Rattle.alp_ready.specs.NoteLooks.{ready_at}
 use Rattle.alp_worker.specs.Again.{is_other}
 use Rattle.alp_worker.specs.Joins.{next_of, joining, with_drawn, is_drawn_in}
-use Rattle.alp_worker.specs.Lives.{is_open, join_at, phase_in}
+use Rattle.alp_worker.specs.Lives.{is_open, join_at, part_of, phase_in}
 use Rattle.alp_worker.specs.Rooms.{sum_of}
 use Rattle.alp_journal.specs.Messages.{trans_ready}
 use Rattle.alp_worker.specs.Walks.{ready_in}
@@ -30,6 +30,7 @@ use Rattle.alp_worker.specs.declared.joins.Joins.{Joins}
 use Rattle.alp_worker.specs.declared.live.LiveJoin.{LiveJoin}
 use Rattle.alp_worker.specs.declared.live.Stage.{Stage}
 use Rattle.alp_worker.specs.declared.live.Stage.TheVariants as stage
+use Rattle.alp_worker.proofs.LiveLemmas.{single_pushed}
 use Rattle.alp_node.specs.Dead.{cause_in, without_client}
 use Rattle.alp_node.specs.Draws.{join_call, with_joining}
 use Rattle.alp_node.specs.Noted.{AreNoted, AreNotesFor, IsNotedJoin, HasReadyRoom, ready_room, size_in}
@@ -112,7 +113,7 @@ module _ (k : Joins) (t : TransId) (client : ℕ) (who : List ℕ) where
   at_old : (j : JoinNo) (x : LiveJoin) → join_at k.lives j ≡ Some x → join_at more j ≡ Some x
   at_old j x is = at_more j k.lives new_join ∙ ap (λ (y : Option LiveJoin). option_or y (cond {A = Option LiveJoin} (same_join j (next_of k)) (Some new_join) None)) is
 
-  module _ (here epoch steps : ℕ) (h : AreJoinsHere here epoch steps k) (raised : 0 < epoch) where
+  module _ (here epoch steps : ℕ) (h : AreJoinsHere here epoch steps k) (raised : 0 < epoch) (first : part_of client t k.lives ≡ None) where
     none_next : join_at k.lives (next_of k) ≡ None
     none_next = go (join_at k.lives (next_of k)) refl
       where
@@ -128,6 +129,7 @@ module _ (k : Joins) (t : TransId) (client : ℕ) (who : List ℕ) where
       numbered = λ j x is. at_one j x is (is_drawn_in (with_drawn k t client who) j ≡ true) (λ old. drawn_more k.server k.epoch k.drawn j (h.numbered j x old))
           (λ at same none. ap (is_drawn_in (with_drawn k t client who)) at ∙ next_drawn k.server k.epoch k.drawn (subst (λ (n : ℕ). 0 < n) (sym h.epoch) raised));
       once = once_more k.lives new_join h.once none_next;
+      single = single_pushed k.lives new_join h.single first;
       times = λ j x ts is stands. at_one j x is (ts ≤ 2 ^ 62) (λ old. h.times j x ts old stands)
           (λ at same none. let wrong : stage.Joining who ≡ stage.Ready ts = sym (ap (λ (y : LiveJoin). y.stage) same) ∙ stands in cc);
     }
@@ -143,6 +145,7 @@ module _ (k : Joins) (t : TransId) (client : ℕ) (who : List ℕ) where
     parts = λ u. parts u (fate_in c u) (map.get lives u) (h.parts u);
     joins = λ j x is e. at_one j x is ((l : Live) × (map.get lives x.trans ≡ Some l) × (l.join ≡ Some j)) (λ old. h.joins j x old e) (λ at same none. absurd (not_in j x same e));
     others = λ j x is. at_one j x is (is_other servers here x.trans.server ≡ true) (λ old. h.others j x old) (λ at same none. ap (λ (y : LiveJoin). is_other servers here y.trans.server) same ∙ far);
+    own = h.own;
   }
     where
       its : (u : TransId) (l : Live) (j : JoinNo) (x : Option LiveJoin) → join_at k.lives j ≡ x → IsItsJoin u l x → IsItsJoin u l (join_at more j)
@@ -191,9 +194,9 @@ module _ {V : Type 0} (n : ℕ) (serves : Bool) (k : ServerState V) (turn : Turn
   drawn_joins = with_drawn k.joins t turn.client turn.who
 
   -- with the join, where the client's dead parts are gone
-  pub drawn_ready : IsTurn k.sessions turn → is_other k.servers k.server t.server ≡ true → counted_of k.coordinator + length k.joins.lives < 64 → IsReady n serves k
-      → IsReady (n + 1) serves (record (with_joining k turn t) { sessions = counted_in k.sessions turn (reply.Refused refusal.NotYet) })
-  drawn_ready is far few h =
+  pub drawn_ready : IsTurn k.sessions turn → is_other k.servers k.server t.server ≡ true → counted_of k.coordinator + length k.joins.lives < 64
+      → part_of turn.client t k.joins.lives ≡ None → IsReady n serves k → IsReady (n + 1) serves (record (with_joining k turn t) { sessions = counted_in k.sessions turn (reply.Refused refusal.NotYet) })
+  drawn_ready is far few first h =
       let r : IsReady (n + 1) serves (record (buried k turn.client) { waits = without_dead turn.client k.dead k.waits ++ join_call turn t ∷ []; sessions = counted_in k.sessions turn (reply.Refused refusal.NotYet) }) =
       buried_ready (n + 1) serves (record k { waits = without_dead turn.client k.dead k.waits ++ join_call turn t ∷ []; sessions = counted_in k.sessions turn (reply.Refused refusal.NotYet) }) (without_client turn.client k.dead)
       (alive_buried turn.client k.dead k.lives k.joins.lives h.alive)
@@ -207,7 +210,7 @@ module _ {V : Type 0} (n : ℕ) (serves : Bool) (k : ServerState V) (turn : Turn
         waits = r.waits;
         known = r.known;
         seat = r.seat;
-        joins = joins_more k.joins t turn.client turn.who k.server k.epoch n h.joins h.raised;
+        joins = joins_more k.joins t turn.client turn.who k.server k.epoch n h.joins h.raised first;
         paired = paired_more k.joins t turn.client turn.who k.servers k.server k.coordinator k.lives far r.paired;
         idle = idle_more k.joins t turn.client turn.who (λ u. has_file_on u (without_dead turn.client k.dead k.waits ++ join_call turn t ∷ []) ≡ false) r.idle;
         opens = r.opens;

@@ -90,6 +90,7 @@ module _ (servers here : ℕ) (c : Coordinator) (k : Joins) (m now : LiveMap) (s
     parts = λ t. on_part t (map.get m t) (map.get now t) (same t) (fate_in c t) (h.parts t);
     joins = λ j x is inside. there x j (h.joins j x is inside);
     others = h.others;
+    own = h.own;
   }
     where
       there : (x : LiveJoin) (j : JoinNo) → (l : Live) × (map.get m x.trans ≡ Some l) × (l.join ≡ Some j) → (l : Live) × (map.get now x.trans ≡ Some l) × (l.join ≡ Some j)
@@ -215,6 +216,7 @@ module _ (servers here : ℕ) (c : Coordinator) (k : Joins) (m : LiveMap) (h : A
     parts = λ u. subst (λ (f : Fate). IsPairedWith k u f (map.get (map.insert m t l) u)) (sym (comes u)) (subst (IsPairedWith k u (fate_after (Begins t client who seen) u (fate_in c u))) (sym (get_put m t l u)) (go u (same_trans t u) (same_trans u t) refl refl));
     joins = λ j x is inside. (let p = h.joins j x is inside in (p.0, get_put m t l x.trans ∙ stays x p.0 p.1 (same_trans x.trans t) refl, p.2));
     others = h.others;
+    own = λ u n runs. began u n (same_trans t u) refl (sym (ap client_of (comes u)) ∙ runs);
   }
     where
       t : TransId
@@ -223,6 +225,10 @@ module _ (servers here : ℕ) (c : Coordinator) (k : Joins) (m : LiveMap) (h : A
       stays : (x : LiveJoin) (p : Live) → map.get m x.trans ≡ Some p → (b : Bool) → same_trans x.trans t ≡ b → cond {A = Option Live} b (Some l) (map.get m x.trans) ≡ Some p
       stays x p there false e = there
       stays x p there true e = let wrong : None ≡ Some p = sym (next_new seat) ∙ sym (ap (map.get m) (same_trans-true x.trans t e)) ∙ there in cc
+
+      began : (u : TransId) (n : ℕ) (b : Bool) → same_trans t u ≡ b → client_of (cond {A = Fate} b (fate.begun client (fate_in c u)) (fate_in c u)) ≡ Some n → u.server ≡ here
+      began u n false e runs = h.own u n runs
+      began u n true e runs = ap (λ (v : TransId). v.server) (sym (same_trans-true t u e)) ∙ seat
 
       this : (f : Fate) → f ≡ Undrawn → (x : Option JoinNo) → x ≡ None → (u : TransId) → IsPartOf k u l (fate.begun client f) x
       this f new None none u = (ap (λ (y : Fate). client_of (fate.begun client y)) new ∙ ap Some (sym its), caller)
@@ -240,8 +246,13 @@ module _ (servers here : ℕ) (c : Coordinator) (k : Joins) (m : LiveMap) (h : A
     parts = λ u. subst (IsPairedWith k u (fate_in after u)) (sym (get_gone m t u)) (go u (same_trans t u) (same_trans u t) refl refl);
     joins = λ j x is inside. (let p = h.joins j x is inside in (p.0, get_gone m t x.trans ∙ ap (λ (b : Bool). cond {A = Option Live} b None (map.get m x.trans)) (none j x is) ∙ p.1, p.2));
     others = h.others;
+    own = λ u n runs. ran u n (same_trans t u) refl runs;
   }
     where
+      ran : (u : TransId) (n : ℕ) (b : Bool) → same_trans t u ≡ b → client_of (fate_in after u) ≡ Some n → u.server ≡ here
+      ran u n false e runs = h.own u n (ap client_of (sym (lets.others u e)) ∙ runs)
+      ran u n true e runs = let wrong : None ≡ Some n = sym lets.gone ∙ ap (λ (v : TransId). client_of (fate_in after v)) (same_trans-true t u e) ∙ runs in cc
+
       go : (u : TransId) (b d : Bool) → same_trans t u ≡ b → same_trans u t ≡ d → IsPairedWith k u (fate_in after u) (cond {A = Option Live} d None (map.get m u))
       go u true true e f = ap (λ (v : TransId). client_of (fate_in after v)) (sym (same_trans-true t u e)) ∙ lets.gone
       go u false false e f = subst (λ (x : Fate). IsPairedWith k u x (map.get m u)) (sym (lets.others u e)) (h.parts u)
@@ -254,6 +265,7 @@ module _ (servers here : ℕ) (c : Coordinator) (k : Joins) (m : LiveMap) (h : A
     parts = λ t. subst (λ (f : Fate). IsPairedWith k t f (map.get m t)) (sym (keeps t)) (h.parts t);
     joins = h.joins;
     others = h.others;
+    own = λ u n runs. h.own u n (sym (ap client_of (keeps u)) ∙ runs);
   }
 
 -- ---- how many are live

@@ -143,7 +143,7 @@ alive_buried client dead lives joins h = record {
 
 -- the joins of a server are within more steps
 pub joins_later : (server epoch m n : ℕ) (js : Joins) → m ≤ n → AreJoinsHere server epoch m js → AreJoinsHere server epoch n js
-joins_later server epoch m n js more h = record { server = h.server; epoch = h.epoch; drawn = omega (arith, more, h.drawn); numbered = h.numbered; once = h.once; times = h.times }
+joins_later server epoch m n js more h = record { server = h.server; epoch = h.epoch; drawn = omega (arith, more, h.drawn); numbered = h.numbered; once = h.once; single = h.single; times = h.times }
 
 entered_unheld : (t : Table) (u v : TransId) (r : Resource) → holding t.held v r ≡ None → holding (entered t u).held v r ≡ None
 entered_unheld t u v r none = ap (λ h. map.get h r) (entering-keeps-held t u v) ∙ none

@@ -1,5 +1,5 @@
 -- a step by which nothing is asked of the vault and nobody is answered: what it says, and what stays
-use Rattle.std.specs.Prelude.{cond, Bool, true, false, ◌||◌, filter, Option, None, Some, is_some, Result, Ok, map as list_map, IsTrue}
+use Rattle.std.specs.Prelude.{cond, Bool, true, false, ◌||◌, filter, Option, None, Some, is_some, Result, Ok, Err, IfOk, map as list_map, IsTrue}
 use Rattle.std.specs.List.{list_any, AllByRecursion}
 use Rattle.std.proofs.Common.{◌≡◌, ℕ, ◌+◌, ◌≤◌, max, List, [], ◌∷◌, refl, sym, ◌∙◌, ap, subst, arith}
 use Rattle.alp_base.specs.declared.allowance.Allowance.{Allowance}
@@ -24,8 +24,10 @@ use Rattle.alp_node.specs.declared.answer.Answer.{Answer}
 use Rattle.alp_node.specs.declared.server_state.ServerState.{ServerState}
 use Rattle.alp_worker.specs.Again.{is_other}
 use Rattle.alp_journal.specs.Answered.{is_read_fault}
+use Rattle.alp_calls.proofs.LookLemmas.{left_same}
+use Rattle.alp_node.proofs.GivenLemmas.{wanting_as}
 use Rattle.alp_node.proofs.ReadyLemmas.{stepped_ready}
-use Rattle.alp_node.proofs.SeatLemmas.{spends_same, left_alone, left_leaves}
+use Rattle.alp_node.proofs.SeatLemmas.{left_seated, spends_same, left_alone, left_leaves}
 
 -- ---- what is said
 
@@ -136,3 +138,10 @@ pub word_step : {V : Type 0} (G : Ghosts V) (k : ServerState V) (e : Event) (x :
     → ((a : Account) → IsAs a (G.held k.vault) k → Leads false a (record { event = e; reply = None; acts = said_to k to m }) a) → IsStepAs G None k k e (Ok x)
 word_step G k e x to m up so may leads =
     told_step G k e x (said_to k to m) up so (said_goes_on (is_away k to) to m) (said_caused (is_away k to) to m may) leads
+
+-- where memory was wanting all is as before
+pub said_or_wanting : {V : Type 0} (G : Ghosts V) (k : ServerState V) (e : Event) (P : Answer → Type 0) (r : Result Answer OutOfMemory) → IfOk r P → ((x : Answer) → P x → IsStepAs G None k k e (Ok x)) → IsStepAs G None k k e r
+said_or_wanting G k e P (Ok x) h step = step x h
+said_or_wanting G k e P (Err f) h step =
+    wanting_as G k k None e (Err f) refl (record { kept = λ a h. h; ready = λ n h. h; up = refl; sessions = refl; clock = refl; vault = record { held = refl; faults = refl; allowance = refl } }) (λ h. h)
+    (left_seated G k k refl refl refl refl (left_same G k.vault)) (left_same G k.vault)

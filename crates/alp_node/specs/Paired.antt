@@ -45,7 +45,10 @@ IsPairedWith k t f (Some l) = IsPartOf k t l f l.join
 abbrev pub HasPart : LiveMap → JoinNo → LiveJoin → Type 0
 HasPart lives j x = is_in x.stage ≡ true → (l : Live) × (map.get lives x.trans ≡ Some l) × (l.join ≡ Some j)
 
+-- each transaction that is running or finishing began here, each part and each join that was let in go together, and each join is of another
+-- server's transaction
 pub record ArePaired (servers here : ℕ) (c : Coordinator) (k : Joins) (lives : LiveMap) : Type 0 where
   pub parts : (t : TransId) → IsPairedWith k t (fate_in c t) (map.get lives t)
   pub joins : (j : JoinNo) (x : LiveJoin) → join_at k.lives j ≡ Some x → HasPart lives j x
   pub others : (j : JoinNo) (x : LiveJoin) → join_at k.lives j ≡ Some x → is_other servers here x.trans.server ≡ true
+  pub own : (t : TransId) (client : ℕ) → client_of (fate_in c t) ≡ Some client → t.server ≡ here

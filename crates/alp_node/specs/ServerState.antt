@@ -33,7 +33,7 @@ use Rattle.alp_worker.specs.declared.joins.Joins.{Joins}
 use Rattle.alp_worker.specs.declared.live.LiveJoin.{LiveJoin}
 use Rattle.alp_worker.specs.declared.live.Stage.TheVariants as stage
 use Rattle.alp_worker.specs.Joins.{AreJoinsOf, is_drawn_in}
-use Rattle.alp_worker.specs.Lives.{join_at, AreOnce}
+use Rattle.alp_worker.specs.Lives.{join_at, AreOnce, AreSingle}
 use Rattle.alp_trans.specs.Counting.{AreCountsOf}
 use Rattle.alp_journal.specs.Answers.{more_locks}
 use Rattle.alp_journal.specs.Counts.{Locked, with_resources, request_in}
@@ -183,6 +183,7 @@ pub record AreJoinsHere (here now steps : ℕ) (joins : Joins) : Type 0 where
   pub drawn : joins.drawn ≤ steps
   pub numbered : (j : JoinNo) (x : LiveJoin) → join_at joins.lives j ≡ Some x → is_drawn_in joins j ≡ true
   pub once : AreOnce joins.lives
+  pub single : AreSingle joins.lives
   pub times : (j : JoinNo) (x : LiveJoin) (ts : ℕ) → join_at joins.lives j ≡ Some x → x.stage ≡ stage.Ready ts → ts ≤ 2 ^ 62
 
 -- Whatever its vault tells: its vault serves just while it is up, the table's locks agree, nobody is woken and not taken, those who

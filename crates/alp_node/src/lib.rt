@@ -12,6 +12,7 @@ mod dead;
 mod decide;
 mod down;
 mod easing;
+mod endings;
 mod finish;
 mod joining;
 mod lives;
@@ -32,6 +33,7 @@ mod start;
 mod stored;
 mod stub;
 mod totals;
+mod votes;
 mod waits;
 
 pub use down::Down;

@@ -10,10 +10,6 @@ ghost use Rattle.alp_node.specs.Served.{IsServed, AreLivesSound};
 ghost use Rattle.alp_node.specs.Standings.{standing_of};
 ghost use Rattle.alp_node.specs.declared.served.Standing.TheVariants as standing;
 ghost use Rattle.alp_node.specs.Steps.{IsStep, IsStepAs, IsNoted, IsOn, IsTurn};
-ghost use Rattle.alp_node.specs.Votes.{own_why};
-ghost use Rattle.alp_vault.specs.Contents.{Contents};
-ghost use Rattle.alp_journal.specs.Account.{Account, state_of};
-ghost use Rattle.alp_journal.specs.Messages.{why_not_own};
 ghost use Rattle.alp_node.specs.Waits.{has_waiting};
 
 use crate::answer::Answer;

@@ -49,7 +49,7 @@ returns g c =
     subst (λ (y : ServerState _). IsStep G k y e (Ok c.refused.result)) (sym kept)
     (plain_step G k after turn (call.Join t) c.refused.result (reply.Refused refusal.NotYet) (asks (next_of k.joins) ∷ []) refl refl refl refl refl c.requires.up c.requires.up
     (λ notes q. noted_more k.joins t turn.client turn.who k.server k.servers k.epoch k.lives k.coordinator notes q) refl so refl (λ before now allowance. (tt, tt))
-    (λ n h. drawn_ready n serves k turn t c.requires.turn c.requires.far c.requires.few h)
+    (λ n h. drawn_ready n serves k turn t c.requires.turn c.requires.far c.requires.few (none_kept k turn.client t (far_from k t.server c.requires.far) c.requires.none) h)
     (λ told a h. (
     let far = far_from k t.server c.requires.far in
     let number : next_of k.joins ≡ next_join (state_of a) = (λ i. record { server = h.joins.server i; epoch = h.joins.current i; counter = h.joins.count i + 1 }) in

@@ -1,0 +1,113 @@
+//! Votes: of the parts here of other servers' transactions, and those that arrive for this server's own.
+ghost use Rattle.std.specs.Prelude.{◌≡◌, ◌×◌, ℕ, List, IsTrue, Ok, None, Some, false};
+ghost use Rattle.alp_journal.specs.declared.event.Event.TheVariants as event;
+ghost use Rattle.alp_journal.specs.declared.message.Message.TheVariants as msg;
+ghost use Rattle.alp_node.specs.Arrivals.{join_of};
+ghost use Rattle.alp_node.specs.ServerState.{IsReadyForMore, IsOfJournal};
+ghost use Rattle.alp_node.specs.Served.{AreLivesSound};
+ghost use Rattle.alp_node.specs.Steps.{IsStepAs, IsNoted, IsOn};
+ghost use Rattle.alp_node.specs.Votes.{why_against};
+ghost use Rattle.alp_worker.specs.Lives.{join_at};
+ghost use Rattle.alp_worker.specs.declared.live.Stage.TheVariants as stage;
+
+use crate::answer::Answer;
+use crate::server_state::ServerState;
+use alp_base::{JoinNo, OutOfMemory, TransId};
+use alp_files::{Cause, Why};
+use alp_journal::{Acts, Message};
+use alp_vault::Vault;
+use alp_worker::{LiveJoin, Stage};
+
+impl<V: Vault> ServerState<V> {
+    // ---- the vote of a part here
+
+    /// The part is asked for its vote.
+    pub(super) fn ask(&mut self, trans: TransId, join: JoinNo) -> Result<Answer, OutOfMemory>
+        requires up { self.old.is_down ≡ false }
+        requires ready { IsReadyForMore (V.serves self.old.vault) self.old }
+        requires known { IsTrue (V.tells self.old.vault) → IsOfJournal (V.held self.old.vault) self.old }
+        requires noted { IsNoted V.Vault self.old }
+        requires on { IsOn V.Vault self.old }
+        requires sound { IsTrue (V.tells self.old.vault) → AreLivesSound (V.held self.old.vault) self.old }
+        ensures { (from : ℕ) → IsStepAs V.Vault None self.old self.new (event.Arrive from (msg.Ask trans join)) result }
+    {
+        let Some(live) = self.join_at(&trans, &join) else {
+            return self.unknown_join(trans, join);
+        };
+        match &live.stage {
+            Stage::Ready(ts) => {
+                let ts = *ts;
+                self.word(trans.server, Message::Ready { trans, join, ts })
+            }
+            Stage::Joining(_) => self.vote_early(trans, join, live.client),
+            Stage::Active(_) => match self.why_not(live.client, &trans)? {
+                Some(why) => self.vote_against(trans, join, live.client, why),
+                None => self.vote_for(trans, join, live.client),
+            },
+        }
+    }
+
+    // A join that was not let in votes against the commit, and is over.
+    fn vote_early(
+        &mut self,
+        trans: TransId,
+        join: JoinNo,
+        client: u8,
+    ) -> Result<Answer, OutOfMemory>
+        requires asks { (who : List ℕ) × (join_of trans (join_at self.old.joins.lives join) ≡ Some (record { join = join; trans = trans; client = client; stage = stage.Joining who })) }
+        requires up { self.old.is_down ≡ false }
+        requires ready { IsReadyForMore (V.serves self.old.vault) self.old }
+        ensures { (from : ℕ) → IsStepAs V.Vault None self.old self.new (event.Arrive from (msg.Ask trans join)) result }
+    {
+        let why = Why::Waiting;
+        let answer = self.word(trans.server, Message::No { trans, join, why })?;
+        let server = self.server;
+        self.dead.add(client, trans, Cause::Voted { server, why })?;
+        self.joins.quit(&join);
+        Ok(answer)
+    }
+
+    // An active part votes against it, and is over.
+    fn vote_against(
+        &mut self,
+        trans: TransId,
+        join: JoinNo,
+        client: u8,
+        why: Why,
+    ) -> Result<Answer, OutOfMemory>
+        requires active { (who : List ℕ) × (join_of trans (join_at self.old.joins.lives join) ≡ Some (record { join = join; trans = trans; client = client; stage = stage.Active who })) }
+        requires against { why_against self.old client trans ≡ Some why }
+        requires up { self.old.is_down ≡ false }
+        requires ready { IsReadyForMore (V.serves self.old.vault) self.old }
+        ensures { (from : ℕ) → IsStepAs V.Vault None self.old self.new (event.Arrive from (msg.Ask trans join)) result }
+    {
+        let mut acts = self.released(trans, 1)?;
+        let server = self.server;
+        self.dead.add(client, trans, Cause::Voted { server, why })?;
+        self.release(trans, &mut acts);
+        self.joins.quit(&join);
+        self.say(&mut acts, trans.server, Message::No { trans, join, why });
+        Ok(Answer::silence(Acts::new(acts)))
+    }
+
+    // An active part votes for the commit, once its note stands. From then on it does what its coordinator says.
+    fn vote_for(
+        &mut self,
+        trans: TransId,
+        join: JoinNo,
+        client: u8,
+    ) -> Result<Answer, OutOfMemory>
+        requires active { (who : List ℕ) × (join_of trans (join_at self.old.joins.lives join) ≡ Some (record { join = join; trans = trans; client = client; stage = stage.Active who })) }
+        requires may { why_against self.old client trans ≡ None }
+        requires up { self.old.is_down ≡ false }
+        requires ready { IsReadyForMore (V.serves self.old.vault) self.old }
+        requires known { IsTrue (V.tells self.old.vault) → IsOfJournal (V.held self.old.vault) self.old }
+        requires noted { IsNoted V.Vault self.old }
+        requires on { IsOn V.Vault self.old }
+        requires sound { IsTrue (V.tells self.old.vault) → AreLivesSound (V.held self.old.vault) self.old }
+        ensures { (from : ℕ) → IsStepAs V.Vault None self.old self.new (event.Arrive from (msg.Ask trans join)) result }
+    {
+        let _ = (trans, join, client);
+        unreachable!()
+    }
+}
