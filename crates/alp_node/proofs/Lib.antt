@@ -9,6 +9,7 @@ pub mod PairedLemmas
 pub mod NotedLemmas
 pub mod NoteLaw
 pub mod NoteCalls
+pub mod CommitNotes
 pub mod ClearLemmas
 pub mod OtherLemmas
 pub mod MoreJoins
