@@ -1,6 +1,6 @@
 -- a decision of one of a server's own transactions, without parts on other servers: its notes get the clock, and say the rest as before
 use Rattle.std.specs.Prelude.{Bool, true, false, cond, ◌&&◌, ◌==◌, max, flat_map, Option, None, Some, is_some}
-use Rattle.std.specs.List.{list_any, AllByRecursion}
+use Rattle.std.specs.List.{AllByRecursion}
 use Rattle.std.specs.Ordering.{is_eq}
 use Rattle.std.specs.declared.cmp.Ordering.{Ordering}
 use Rattle.std.specs.FinMap as map
@@ -18,23 +18,19 @@ use Rattle.alp_fields.specs.declared.clock_note.ClockNote.{ClockNote}
 use Rattle.alp_fields.specs.declared.ready_note.ReadyPart.{ReadyPart}
 use Rattle.alp_files.specs.History.{Decided}
 use Rattle.alp_files.specs.declared.call.Call.{Call}
-use Rattle.alp_files.specs.declared.reply.Reply.{Reply}
-use Rattle.alp_journal.specs.declared.act.Act.{Act}
 use Rattle.alp_journal.specs.declared.event.Event.{Event}
 use Rattle.alp_journal.specs.declared.entry.Entry.{Entry}
-use Rattle.alp_journal.specs.Account.{Account, state_of, IsQuiet, Leads, grant_acts}
+use Rattle.alp_journal.specs.Account.{grant_acts}
 use Rattle.alp_journal.specs.Along.{Along, state_after}
 use Rattle.alp_journal.specs.Coordinator.{Fate, Undrawn, Running, Finishing, Committed, Forgotten, Ended, decision_in, joins_of}
 use Rattle.alp_journal.specs.Coordinator as fate
 use Rattle.alp_journal.specs.Deeds.{Deed, Finishes, Decides, Grants}
-use Rattle.alp_journal.specs.Desk.{Session}
 use Rattle.alp_journal.specs.Holder.{Holder, Life, commits, emptied, grants}
 use Rattle.alp_journal.specs.Ids.{same_trans, stamp_cmp}
 use Rattle.alp_journal.specs.Laws.{IsLawfulDeed}
-use Rattle.alp_journal.specs.Moves.{act_deeds, asks_for, did, grants_to, halted, next, stops, told, tried}
+use Rattle.alp_journal.specs.Moves.{act_deeds, asks_for, did, grants_to, halted, next, stops, told}
 use Rattle.alp_journal.specs.Participant.{Ready}
 use Rattle.alp_journal.specs.State.{State, state_deed}
-use Rattle.alp_journal.proofs.CallLemmas.{call_entry}
 use Rattle.alp_journal.proofs.StampLemmas.{stamps_total, itself}
 use Rattle.alp_coord.specs.declared.coordinator.Coordinator.{Coordinator}
 use Rattle.alp_coord.specs.Coordinators.{Comes, fate_in}

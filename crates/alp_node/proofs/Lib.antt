@@ -51,6 +51,7 @@ pub mod CountedLemmas
 pub mod StepLemmas
 pub mod IdleLemmas
 pub mod CommitLemmas
+pub mod AloneCommits
 pub mod CallLemmas
 pub mod UnderLemmas
 pub mod IdLemmas
