@@ -33,12 +33,14 @@ use Rattle.alp_journal.specs.Moves.{is_stop}
 use Rattle.alp_coord.specs.declared.coordinator.Coordinator.{Coordinator}
 use Rattle.alp_coord.specs.Coordinators.{Comes, fate_in}
 use Rattle.alp_worker.specs.Rooms.{applying_of}
+use Rattle.alp_node.specs.Dead.{cause_in}
 use Rattle.alp_node.specs.Durable.{NoOther, IsWritten}
 use Rattle.alp_node.specs.Eases.{eased}
 use Rattle.alp_node.specs.Halts.{Ends, HaveCauses}
 use Rattle.alp_node.specs.Noted.{AreNoted, AreNotesFor, size_in, size_of}
 use Rattle.alp_node.specs.Releases.{granted_behind, grant_acts, let_go}
 use Rattle.alp_node.specs.ServerState.{IsAs, IsReady}
+use Rattle.alp_node.specs.Standings.{standing_of}
 use Rattle.alp_node.specs.Steps.{IsNoted, IsStep, IsTurn, counted_in, refused_answer, told_answer}
 use Rattle.alp_node.specs.Turns.{HasTurned}
 use Rattle.alp_node.specs.Votes.{own_why}
@@ -47,6 +49,7 @@ use Rattle.alp_node.specs.Writes.{HasDecided, HasHalted, HasLogFor, HasMade, Has
 use Rattle.alp_node.specs.declared.answer.Answer.{Answer}
 use Rattle.alp_node.specs.declared.decide.Pending.{Pending}
 use Rattle.alp_node.specs.declared.lives.Live.{Live}
+use Rattle.alp_node.specs.declared.served.Standing.TheVariants as standing
 use Rattle.alp_node.specs.declared.server_state.ServerState.{ServerState}
 use Rattle.alp_node.specs.declared.sessions.CallOrder.TheVariants as order
 use Rattle.alp_node.specs.declared.sessions.Turn.{Turn}
@@ -63,6 +66,7 @@ use Rattle.alp_node.proofs.NotedLemmas.{noted_decided, noted_on, voters_same, vo
 use Rattle.alp_node.proofs.ReadyLemmas.{counted_ready, own_lets, ready_with}
 use Rattle.alp_node.proofs.ReleaseLemmas.{grants_caused, grants_go_on, let_go_of, let_go_ready, let_go_voters, let_gone}
 use Rattle.alp_node.proofs.SeatLemmas.{left_leaves, spends_nothing}
+use Rattle.alp_node.proofs.StandingLemmas.{own_works, standing_here}
 use Rattle.alp_node.proofs.StepLemmas.{down_step}
 use Rattle.alp_node.proofs.TransactionLemmas.{LetsGo, lets_decide}
 use Rattle.alp_node.proofs.TurnLemmas.{counts_on}
@@ -150,6 +154,12 @@ module _ {V : Type 0} (n : ℕ) (serves : Bool) (k : ServerState V) (t : TransId
       (let_go_ready n k t z k.joins serves (k.clock + 1) (omega arith) (omega (arith, early)) (own_lets n serves k t z (k.clock + 1) lets own h) h))))
 
 -- ---- the steps
+
+-- a part at work of a transaction that has no others
+pub alone_runs : {V : Type 0} (k : ServerState V) (client : ℕ) (t : TransId) → t.server ≡ k.server → standing_of k client t ≡ standing.Work → joins_of (fate_in k.coordinator t) ≡ [] → fate_in k.coordinator t ≡ Running client []
+alone_runs k client t here works alone =
+    let runs = own_works client (cause_in k.dead client t) (fate_in k.coordinator t) (standing_here k client t standing.Work here works) in
+    runs.1 ∙ ap (Running client) (sym (ap joins_of runs.1) ∙ alone)
 
 module _ {V : Type 0} (G : Ghosts V) (n : ℕ) (k : ServerState V) (turn : Turn) (t : TransId) (l : Live) (ready : IsReady n (G.serves k.vault) k) (is : IsTurn k.sessions turn) (up : k.is_down ≡ false) (here : t.server ≡ k.server) (there : map.get k.lives t ≡ Some l)
     (own : l.client ≡ turn.client) (runs : fate_in k.coordinator t ≡ Running turn.client []) (idle : has_waiting turn.client t k.waits ≡ false) (may : own_why k t ≡ None)
