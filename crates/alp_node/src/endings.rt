@@ -1,5 +1,5 @@
 //! How parts of other servers' transactions end, and how this server's own are forgotten.
-ghost use Rattle.std.specs.Prelude.{◌≡◌, ◌×◌, ℕ, List, IsTrue, IfOk, Ok, None, Some, false};
+ghost use Rattle.std.specs.Prelude.{◌≡◌, ℕ, List, IsTrue, IfOk, Ok, None, Some, false};
 ghost use Rattle.alp_journal.specs.declared.event.Event.TheVariants as event;
 ghost use Rattle.alp_journal.specs.declared.message.Message.TheVariants as msg;
 ghost use Rattle.alp_node.specs.Arrivals.{join_of};
