@@ -312,7 +312,7 @@ module _ {V : Type 0} (k : ServerState V) (j : JoinNo) (t : TransId) (y : LiveJo
 -- ---- by what the journal says
 
 -- the journal has the join's phase
-phase_told : {V : Type 0} (a : Account) (held : Contents) (k : ServerState V) (j : JoinNo) (y : LiveJoin) → IsAs a held k → join_at k.joins.lives j ≡ Some y → a.phases j ≡ phase_of y
+pub phase_told : {V : Type 0} (a : Account) (held : Contents) (k : ServerState V) (j : JoinNo) (y : LiveJoin) → IsAs a held k → join_at k.joins.lives j ≡ Some y → a.phases j ≡ phase_of y
 phase_told a held k j y h there = phase_back j (a.phases j) y (sym (h.joins.live j) ∙ there)
 
 -- no file call of it waits

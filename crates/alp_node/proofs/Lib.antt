@@ -18,6 +18,8 @@ pub mod JoinedLemmas
 pub mod InquiryLemmas
 pub mod AskedLemmas
 pub mod JoinEnds
+pub mod SingleLemmas
+pub mod QuitLemmas
 pub mod SayLemmas
 pub mod ArrivalLemmas
 pub mod CountLemmas

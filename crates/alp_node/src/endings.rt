@@ -1,5 +1,5 @@
 //! How parts of other servers' transactions end, and how this server's own are forgotten.
-ghost use Rattle.std.specs.Prelude.{◌≡◌, ◌×◌, ℕ, List, IsTrue, IfOk, Ok, None, Some, false};
+ghost use Rattle.std.specs.Prelude.{◌≡◌, ℕ, List, IsTrue, IfOk, Ok, None, Some, false};
 ghost use Rattle.alp_journal.specs.declared.event.Event.TheVariants as event;
 ghost use Rattle.alp_journal.specs.declared.message.Message.TheVariants as msg;
 ghost use Rattle.alp_node.specs.Arrivals.{join_of};
@@ -127,7 +127,7 @@ impl<V: Vault> ServerState<V> {
         ensures { (from : ℕ) → IsStepAs V.Vault None self.old self.new (event.Arrive from (msg.Abort trans join cause)) result }
     {
         self.dead.add(client, trans, cause)?;
-        self.joins.abort(&join, &trans);
+        self.joins.quit(&join);
         Ok(self.silence())
     }
 

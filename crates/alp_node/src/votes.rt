@@ -1,5 +1,5 @@
 //! Votes: of the parts here of other servers' transactions, and those that arrive for this server's own.
-ghost use Rattle.std.specs.Prelude.{◌≡◌, ◌×◌, ℕ, List, IsTrue, Ok, None, Some, false};
+ghost use Rattle.std.specs.Prelude.{◌≡◌, ℕ, List, IsTrue, Ok, None, Some, false};
 ghost use Rattle.alp_journal.specs.declared.event.Event.TheVariants as event;
 ghost use Rattle.alp_journal.specs.declared.message.Message.TheVariants as msg;
 ghost use Rattle.alp_node.specs.Arrivals.{join_of};

@@ -1,0 +1,13 @@
+use Rattle.alp_node.proofs.server_state.ServerState.vote_against.Goals as goal
+
+pub release-requires-clause-most : goal.release-requires-clause-most
+release-requires-clause-most g c = ?
+
+pub release-requires-clause-part : goal.release-requires-clause-part
+release-requires-clause-part g c = ?
+
+pub say-requires : goal.say-requires
+say-requires g c = ?
+
+pub returns : goal.returns
+returns g c = ?
