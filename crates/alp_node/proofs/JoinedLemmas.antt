@@ -455,6 +455,13 @@ join_found t (Some x) y e = go (same_trans x.trans t) refl e
 pub ready_named : {V : Type 0} (on : Bool) (k : ServerState V) → IsReadyForMore on k → AreNamed k.waits
 ready_named on k ready = named_all k.server k.epoch k.given (count_of k.coordinator) k.sizes k.lives k.waits ready.2.waits.calls
 
+-- and what it is, by its stage
+pub found_as : (t : TransId) (j : JoinNo) (ls : List LiveJoin) (y : LiveJoin) (s : Stage) → join_of t (join_at ls j) ≡ Some y → y.stage ≡ s → join_of t (join_at ls j) ≡ Some (record { join = j; trans = t; client = y.client; stage = s })
+found_as t j ls y s e is =
+    let found : IsFound t (join_at ls j) y = join_found t (join_at ls j) y e in
+    let number : j ≡ y.join = found_number ls j y found.there in
+    e ∙ (λ i. Some (record y { join = sym number i; trans = found.trans i; stage = is i }))
+
 -- the step of one that is let in
 module _ {V : Type 0} (G : Ghosts V) (k : ServerState V) (from : ℕ) (j : JoinNo) (t : TransId) (y : LiveJoin) (who : List ℕ) (is : IsAsking k j t y who) (p : Part) (fresh : own_of p ≡ no_opens) (none : p.intents ≡ no_intents) (idle : p.counts ≡ no_counts) (ready : IsReadyForMore (G.serves k.vault) k) where
   abbrev DoesEnter : Joins → Joins → Type 0
