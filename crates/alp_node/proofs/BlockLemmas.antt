@@ -31,7 +31,7 @@ use Rattle.alp_journal.specs.declared.event.Event.TheVariants as event
 use Rattle.alp_journal.specs.Coordinator.{Running}
 use Rattle.alp_journal.specs.Counts.{request_in}
 use Rattle.alp_journal.specs.Desk.{Session, Waiting, file_trans, waiting_of}
-use Rattle.alp_journal.specs.Holder.{Life}
+use Rattle.alp_journal.specs.Holder.{Life, new_life}
 use Rattle.alp_journal.specs.Laws.{IsFree}
 use Rattle.alp_journal.specs.Answers.{choice_of, shape_refusal, lock_refusal}
 use Rattle.alp_journal.specs.Answered.{IsWaitingFor}
@@ -95,7 +95,7 @@ module _ {V : Type 0} (a : Account) (before now : ℕ) (held : Contents) (k : Se
       → Stepped a before now held kept_back (event.Call turn.client k.epoch turn.number (call.Finish t true)) x
   busy_finish_stepped js own runs busy so =
       let leads : Leads false a (call_entry a turn.client turn.number (session_of turn is) (call.Finish t true) (reply.Refused refusal.NotYet) []) (counted_as a turn.client turn.number (session_of turn is) (reply.Refused refusal.NotYet)) =
-      busy_finish_leads a turn.client turn.number (session_of turn is) t v h.quiet (h.down ∙ up) (turn_session a held k turn h is) is.number (own ∙ sym h.server) {js = js} runs busy in
+      busy_finish_leads a turn.client turn.number (session_of turn is) t (new_life None turn.client []) v h.quiet (h.down ∙ up) (turn_session a held k turn h is) is.number (own ∙ sym h.server) {js = js} runs busy in
       stepped_so a before now held held k kept_back turn.client turn.number (session_of turn is) (call.Finish t true) false (reply.Refused refusal.NotYet) [] (counted_as a turn.client turn.number (session_of turn is) (reply.Refused refusal.NotYet)) x so h leads
       (counts_as a held k turn (reply.Refused refusal.NotYet) h is up) (λ e. cc) (omega (arith, h.clock))
 

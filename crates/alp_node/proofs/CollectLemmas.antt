@@ -19,7 +19,7 @@ use Rattle.alp_vault.specs.Contents.{Contents}
 use Rattle.alp_journal.specs.declared.act.Act.TheVariants as act
 use Rattle.alp_journal.specs.declared.entry.Entry.{Entry}
 use Rattle.alp_journal.specs.declared.event.Event.TheVariants as event
-use Rattle.alp_journal.specs.Account.{Account, state_of, Stands, IsPartOf, IsOfPart, IsJoined, HasWaits, HasNoCall, is_on_trans}
+use Rattle.alp_journal.specs.Account.{Account, state_of, Stands, IsPartOf, IsOfPart, IsJoined, HasWaits, HasNoCall, HasNoJoin, is_on_trans}
 use Rattle.alp_journal.specs.Answers.{Part, NoPart, AtJoining, AtWork, AtFinish, AtReady, AtEnd, own_part, phase_part, join_part, part_at}
 use Rattle.alp_journal.specs.Coordinator.{Fate, Undrawn, Running, Finishing, Committed, Forgotten, Ended, client_of}
 use Rattle.alp_journal.specs.Participant.{Joining, live_in}
@@ -221,7 +221,7 @@ module _ {V : Type 0} (a : Account) (held : Contents) (k : ServerState V) (clien
       is_its = (λ i. eq-eqb w.client l.client (its_owner ∙ mine) i && is_of_trans w.trans (file_part w.call w.trans its_name i)) ∙ same_trans-itself w.trans
 
       own : (f : Fate) → a.fates w.trans ≡ f → client_of f ≡ Some l.client → w.trans.server ≡ a.holder.server → part_at (state_of a) client w.trans ≡ AtWork
-      own (Running c js) is runs here = own_at_work a w.trans client {js} here (is ∙ ap (λ (d : ℕ). Running d js) (same_client c l.client runs ∙ sym mine))
+      own (Running c js) is runs here = own_at_work a w.trans client {js = js} here (is ∙ ap (λ (d : ℕ). Running d js) (same_client c l.client runs ∙ sym mine))
       own (Finishing c js vs) is runs here =
           let none : AllByRecursion (λ (u : Waiting). is_on_trans w.trans u ≡ false) a.waits = subst (HasNoCall a.waits w.trans) is (h.quiet.settled.tells.finishing w.trans) in
           let wrong : true ≡ false = sym is_on ∙ (found-is (λ (u : Waiting). is_on_trans w.trans u ≡ false) is_it a.waits (waiting w) found_here none).1 in
@@ -249,6 +249,7 @@ module _ {V : Type 0} (a : Account) (held : Contents) (k : ServerState V) (clien
   ends : (c : Cause) → a.dead client w.trans ≡ Some c → part_at (state_of a) client w.trans ≡ AtEnd c
   ends c dead = go (w.trans.server == a.holder.server) refl
     where
+      over : (w.trans.server ≡ a.holder.server → a.fates w.trans ≡ Ended c) × HasNoJoin a.phases client w.trans
       over = h.quiet.settled.tells.ended client w.trans c dead
 
       none : join_for (state_of a) client w.trans ≡ None

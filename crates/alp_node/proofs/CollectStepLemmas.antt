@@ -3,7 +3,7 @@ use Rattle.std.specs.Prelude.{Bool, true, false, IsTrue, Option, Some, is_some, 
 use Rattle.std.specs.List.{AllByRecursion}
 use Rattle.std.specs.Result.{IsErr}
 use Rattle.std.specs.FinMap as map
-use Rattle.std.proofs.Common.{◌≡◌, ℕ, ◌+◌, ◌≤◌, [], ◌∷◌, length, refl, sym, ◌∙◌, subst, arith, le_refl}
+use Rattle.std.proofs.Common.{◌≡◌, ℕ, ◌+◌, ◌≤◌, [], ◌∷◌, length, refl, sym, ◌∙◌, subst, arith, le_refl, ap}
 use Rattle.alp_base.specs.Causes.{Rose}
 use Rattle.alp_base.specs.declared.allowance.Allowance.TheVariants.{Spent}
 use Rattle.alp_base.specs.declared.memory.OutOfMemory.{OutOfMemory}

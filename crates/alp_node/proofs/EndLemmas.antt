@@ -3,7 +3,7 @@ use Rattle.std.specs.Prelude.{cond, Bool, true, false, ◌==◌, ◌&&◌, ◌||
 use Rattle.std.specs.List.{AllByRecursion}
 use Rattle.std.specs.FinMap as map
 use Rattle.std.proofs.Common.{◌≡◌, ℕ, ◌+◌, ◌<◌, ◌≤◌, List, [], ◌∷◌, length, refl, sym, ◌∙◌, ap, subst, arith, eq-eqb}
-use Rattle.std.proofs.lemmas.Bool.{leb-false, eqb-true}
+use Rattle.std.proofs.lemmas.Bool.{leb-false, lt-leb, eqb-true}
 use Rattle.alp_base.specs.declared.ids.JoinNo.{JoinNo}
 use Rattle.alp_base.specs.declared.ids.Stamp.{Stamp}
 use Rattle.alp_base.specs.declared.ids.TransId.{TransId}
@@ -153,6 +153,10 @@ few_of k none = go (nat_le 64 (counted_of k.coordinator + length k.joins.lives))
     go : (b : Bool) → nat_le 64 (counted_of k.coordinator + length k.joins.lives) ≡ b → if_over b (refusal.TooMany what.Transactions 64) ≡ None → counted_of k.coordinator + length k.joins.lives < 64
     go true e over = let wrong : Some (refusal.TooMany what.Transactions 64) ≡ None = over in cc
     go false e over = leb-false 64 (counted_of k.coordinator + length k.joins.lives) e
+
+-- and the other way
+pub many_none : {V : Type 0} (k : ServerState V) → counted_of k.coordinator + length k.joins.lives < 64 → many_of k ≡ None
+many_none k few = ap (λ (b : Bool). if_over b (refusal.TooMany what.Transactions 64)) (lt-leb 64 (counted_of k.coordinator + length k.joins.lives) few)
 
 -- ---- calls of dead parts go
 

@@ -29,7 +29,7 @@ use Rattle.alp_journal.proofs.JoinSteps.{DrawOwes, register_mail, with_join, joi
 use Rattle.alp_journal.proofs.KnownJoins.{HasNoLife, JoinOwes, join_unknown_leads, join_known_leads}
 use Rattle.alp_journal.proofs.PartLemmas.{own_part_at}
 use Rattle.alp_journal.proofs.RefusedCalls.{counted_as}
-use Rattle.alp_journal.proofs.StandLemmas.{pair_of, own_pair, own_here, holding_of, far_of_held}
+use Rattle.alp_journal.proofs.StandLemmas.{pair_of, own_pair, own_here, holding_of, far_of_held, not_both_servers}
 use Rattle.alp_worker.specs.declared.live.LiveJoin.{LiveJoin}
 use Rattle.alp_worker.specs.declared.live.Stage.{Stage}
 use Rattle.alp_worker.specs.declared.live.Stage.TheVariants as stage
@@ -40,6 +40,7 @@ use Rattle.alp_journal.proofs.IdLemmas.{all-append}
 use Rattle.alp_node.specs.Dead.{cause_in}
 use Rattle.alp_node.specs.Draws.{join_call, with_joining}
 use Rattle.alp_node.specs.Halts.{says_shut}
+use Rattle.alp_node.specs.Says.{is_away}
 use Rattle.alp_node.specs.Releases.{buried}
 use Rattle.alp_node.specs.ServerState.{IsAs, IsWaitingAs}
 use Rattle.alp_node.specs.Standings.{standing_of, is_no_standing, joined_standing, own_standing, stage_standing}
@@ -113,6 +114,14 @@ none_kept k client t far none = go (part_of client t k.joins.lives) (sym (ap (λ
     go : (x : Option LiveJoin) → is_no_standing (joined_standing (cause_in k.dead client t) x) ≡ true → x ≡ None
     go None e = refl
     go (Some y) e = absurd (stands y.stage e)
+
+-- another server of the run is not this one
+pub far_from : {V : Type 0} (k : ServerState V) (n : ℕ) → is_away k n ≡ true → (n == k.server) ≡ false
+far_from k n away = go (n == k.server) refl
+  where
+    go : (b : Bool) → (n == k.server) ≡ b → b ≡ false
+    go false e = refl
+    go true e = absurd (not_both_servers k.servers k.server n away (eqb-true n k.server e))
 
 -- ---- steps
 

@@ -11,6 +11,9 @@ pub mod NoteLaw
 pub mod NoteCalls
 pub mod ClearLemmas
 pub mod OtherLemmas
+pub mod MoreJoins
+pub mod AskVotes
+pub mod VoteLemmas
 pub mod OtherCollects
 pub mod FatedLemmas
 pub mod JoinMoves

@@ -160,3 +160,16 @@ begun_notes n serves k client seen who l z h comes notes are =
     go : (u : TransId) (b : Bool) → decision_kept (cond {A = Fate} b (fate.begun client (fate_in k.coordinator u)) (fate_in k.coordinator u)) ≡ decision_kept (fate_in k.coordinator u)
     go u true = this (fate_in k.coordinator u)
     go u false = refl
+
+-- there is none of one that ends
+pub ends_kept : (c z : Coordinator) (t : TransId) (cause : Cause) → ((client : ℕ) → Comes (Ends t client cause) c z) → (u : TransId) → decision_kept (fate_in z u) ≡ decision_kept (fate_in c u)
+ends_kept c z t cause ends u = ap decision_kept (ends 0 u) ∙ go (same_trans t u) (fate_in c u)
+  where
+    go : (b : Bool) (f : Fate) → decision_kept (cond {A = Fate} b (fate.ended cause f) f) ≡ decision_kept f
+    go false f = refl
+    go true Undrawn = refl
+    go true (Running m js) = refl
+    go true (Finishing m js vs) = refl
+    go true (Committed s js ds) = refl
+    go true (Forgotten s js) = refl
+    go true (Ended why) = refl

@@ -30,3 +30,4 @@ pub mod DownStates
 pub mod Downs
 pub mod Arrivals
 pub mod Says
+pub mod Writes

@@ -10,10 +10,13 @@ ghost use Rattle.alp_coord.specs.Coordinators.{IsAlong, Comes, fate_in};
 ghost use Rattle.alp_journal.specs.Coordinator.{joins_of as joins_of_said};
 ghost use Rattle.alp_node.specs.Served.{AreLivesSound};
 ghost use Rattle.alp_node.specs.Votes.{own_why};
+ghost use Rattle.alp_vault.specs.Contents.{Contents};
+ghost use Rattle.alp_journal.specs.Account.{Account, state_of};
+ghost use Rattle.alp_journal.specs.Messages.{why_not_own};
 ghost use Rattle.alp_node.specs.declared.lives.Live.{Live as ALive};
 ghost use Rattle.alp_node.specs.Standings.{standing_of};
 ghost use Rattle.alp_node.specs.declared.served.Standing.TheVariants as standing;
-ghost use Rattle.alp_node.specs.ServerState.{IsReadyForMore, IsOfJournal};
+ghost use Rattle.alp_node.specs.ServerState.{IsAs, IsReadyForMore, IsOfJournal};
 ghost use Rattle.alp_files.specs.declared.reply.Reply.TheVariants as reply;
 ghost use Rattle.std.specs.Result.{IsErr};
 ghost use Rattle.alp_files.specs.declared.refusal.Refusal.TheVariants as refusal;
@@ -24,11 +27,12 @@ ghost use Rattle.alp_node.specs.Waits.{has_waiting};
 ghost use Rattle.alp_node.specs.Steps.{IsStep, IsNoted, IsOn, IsTurn, IsRefused, IsDown, counted_in, ended, refused_answer};
 
 use crate::answer::Answer;
+use crate::decide::Decided;
 use crate::messages::{tell_aborts, tell_asks};
 use crate::server_state::ServerState;
 use crate::sessions::Turn;
 use crate::waits::WaitingCall;
-use alp_base::{JoinNo, OutOfMemory, TransId};
+use alp_base::{JoinNo, OutOfMemory, Stamp, TransId};
 use alp_calls::CallFault;
 use alp_files::{Call, Cause, Refusal, Reply, Why};
 use alp_journal::{Act, Acts};
@@ -63,7 +67,7 @@ impl<V: Vault> ServerState<V> {
         let members = self.coordinator.members(trans);
         let mut joins = Vec::with_capacity(self.alloc, members.len())?;
         for member in members {
-            joins.push_reserved(member.join);
+            joins.push(member.join)?;
         }
         Ok(joins)
     }
@@ -126,6 +130,36 @@ impl<V: Vault> ServerState<V> {
         }
     }
 
+    // A transaction without parts elsewhere is committed at the next time.
+    fn commit_alone(&mut self, turn: &Turn, trans: TransId) -> Result<Answer, OutOfMemory>
+        requires turn { IsTurn self.old.sessions turn.now }
+        requires works { standing_of self.old turn.now.client trans ≡ standing.Work }
+        requires alone { joins_of_said (fate_in self.old.coordinator trans) ≡ [] }
+        requires may { own_why self.old trans ≡ None }
+        requires journal { (a : Account) (held : Contents) → IsAs a held self.old → why_not_own false (state_of a) trans ≡ own_why self.old trans }
+        requires idle { has_waiting turn.now.client trans self.old.waits ≡ false }
+        requires here { trans.server ≡ self.old.server }
+        requires up { self.old.is_down ≡ false }
+        requires ready { IsReadyForMore (V.serves self.old.vault) self.old }
+        requires noted { IsNoted V.Vault self.old }
+        requires on { IsOn V.Vault self.old }
+        requires known { IsTrue (V.tells self.old.vault) → IsOfJournal (V.held self.old.vault) self.old }
+        requires sound { IsTrue (V.tells self.old.vault) → AreLivesSound (V.held self.old.vault) self.old }
+        ensures { IsStep V.Vault self.old self.new (event.Call turn.now.client self.old.epoch turn.now.number (call.Finish trans true)) result }
+    {
+        let stamp = Stamp {
+            ts: self.clock + 1,
+            trans,
+        };
+        let pending = self.decision(stamp, &[])?;
+        let acts = match self.decide(pending)? {
+            Decided::Made(acts) => acts,
+            Decided::Halted(acts) => return Ok(Answer::refused(Refusal::Down, Acts::new(acts))),
+        };
+        self.sessions.count(turn, Reply::Committed { stamp });
+        Ok(Answer::committed(stamp, Acts::new(acts)))
+    }
+
     // This server's own vote is against a transaction that has no parts elsewhere.
     fn vote_against_own(
         &mut self,
@@ -137,6 +171,7 @@ impl<V: Vault> ServerState<V> {
         requires works { standing_of self.old turn.now.client trans ≡ standing.Work }
         requires alone { joins_of_said (fate_in self.old.coordinator trans) ≡ [] }
         requires against { own_why self.old trans ≡ Some why }
+        requires journal { (a : Account) (held : Contents) → IsAs a held self.old → why_not_own false (state_of a) trans ≡ own_why self.old trans }
         requires idle { has_waiting turn.now.client trans self.old.waits ≡ false }
         requires here { trans.server ≡ self.old.server }
         requires up { self.old.is_down ≡ false }

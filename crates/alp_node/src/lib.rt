@@ -9,6 +9,7 @@ mod blocks;
 mod calls;
 mod collect;
 mod dead;
+mod decide;
 mod down;
 mod easing;
 mod endings;

@@ -33,6 +33,7 @@ impl<V: Vault> ServerState<V> {
         requires part { (t : TransId) (l : ALive) → map.get self.old.lives t ≡ Some l → IsPart l.part }
         ensures after { self.new ≡ let_go self.old trans }
         ensures acts { acts.new.items ≡ acts.old.items ++ grant_acts (granted_behind self.old trans) }
+        ensures capacity { vec_capacity acts.new ≡ vec_capacity acts.old }
     {
         self.lives.remove(&trans);
         self.locks.release_all(trans);
@@ -46,6 +47,7 @@ impl<V: Vault> ServerState<V> {
         requires part { (t : TransId) (l : ALive) → map.get self.old.lives t ≡ Some l → IsPart l.part }
         ensures after { self.new ≡ woken_taken self.old }
         ensures acts { acts.new.items ≡ acts.old.items ++ grant_acts self.old.locks.woken }
+        ensures capacity { vec_capacity acts.new ≡ vec_capacity acts.old }
     {
         while let Some(woken) = self.locks.take_woken() {
             self.grant(woken);

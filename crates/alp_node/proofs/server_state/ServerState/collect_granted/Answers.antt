@@ -1,4 +1,4 @@
-use Rattle.std.specs.Prelude.{Bool, true, false, is_some, IfSome, IsSome, Option, Some, Ok, Err}
+use Rattle.std.specs.Prelude.{Bool, true, false, is_some, IfSome, IsSome, Option, None, Some, Ok, Err}
 use Rattle.std.specs.FinMap as map
 use Rattle.std.proofs.Common.{◌≡◌, ℕ, ◌+◌, ◌<◌, ◌≤◌, List, [], ◌∷◌, length, refl, sym, ap, ◌∙◌, subst, arith}
 use Rattle.alp_base.specs.declared.ids.TransId.{TransId}

@@ -34,7 +34,7 @@ returns-in-Some g c =
     let k = c.args.self.now in
     let turn = c.args.turn.now in
     let t = c.args.trans in
-    let refuse = c.refuse-in-Some in
+    let refuse = c.refuse in
     let f = c.in-Some.refusal in
     let at : refusal_at (has_waiting turn.client t k.waits) (standing_of k turn.client t) ≡ Some f = sym c.part_refusal.ensures ∙ c.in-Some.is in
     let calm = refused_calm (has_waiting turn.client t k.waits) (standing_of k turn.client t) f at in
@@ -59,7 +59,7 @@ returns-in-Some-shape_refusal g c =
     let away : HasNoCall turn.client t k.waits = none_waiting k.server k.epoch k.given (count_of k.coordinator) k.sizes k.lives turn.client t l k.waits there mine works.1 c.requires.ready.2.waits.calls in
     let is : shape_of k.server k.epoch k.given (length l.part.opens.items) c.args.call.now ≡ Some f =
     ap (λ (n : ℕ). shape_of k.server k.epoch k.given n c.args.call.now) (sym l.part.opens.ok.0 ∙ sym c.len.ensures) ∙ sym c.shape_refusal.ensures ∙ c.in-Some-shape_refusal.is in
-    refused_step G k refuse.new.self turn c.args.call.now refuse.result f (shape_quiet k.server k.server k.epoch k.given (length l.part.opens.items) c.args.call.now f is) c.requires.turn c.requires.up refuse.ensures.kept refuse.ensures.answer
+    refused_step G k refuse.new.self turn c.args.call.now refuse.result f (shape_quiet k.server k.epoch k.given (length l.part.opens.items) c.args.call.now f is) c.requires.turn c.requires.up refuse.ensures.kept refuse.ensures.answer
     (λ told a h. shape_stepped a (G.faults k.vault) (G.faults k.vault) (G.held k.vault) k turn t c.args.call.now f refuse.result h c.requires.ready.2.raised c.requires.turn c.requires.up c.requires.named c.requires.served works.0 (idle_told a turn.client t k.waits h.waits named away.idle) l there is refuse.ensures.answer)
     (shape_inside k.server k.epoch k.given (length l.part.opens.items) c.args.call.now f is)
 

@@ -1,7 +1,7 @@
 use Rattle.std.proofs.Common.{ap, ◌∙◌, rules}
 use Rattle.std.proofs.lemmas.Fn.{filter_same}
 use Rattle.alp_node.specs.Waits.{without_other_at}
-use Rattle.alp_node.proofs.waits.Waits.remove_at.Goals as goal
+use Rattle.alp_node.proofs.waits.Waits.remove_other.Goals as goal
 
 pub returns : goal.returns
 returns c =
