@@ -23,6 +23,7 @@ pub mod AskedLemmas
 pub mod JoinEnds
 pub mod SingleLemmas
 pub mod QuitLemmas
+pub mod HoldingLemmas
 pub mod SayLemmas
 pub mod ArrivalLemmas
 pub mod CountLemmas
