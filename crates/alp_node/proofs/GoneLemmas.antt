@@ -25,6 +25,10 @@ use Rattle.alp_queue.specs.Order.{without as without_of}
 use Rattle.alp_queue.specs.declared.waiter.Waiter.{Waiter}
 use Rattle.alp_trans.specs.declared.part.Part.{Part}
 use Rattle.alp_vault.specs.Contents.{Contents}
+use Rattle.alp_base.specs.declared.ids.JoinNo.{JoinNo}
+use Rattle.alp_journal.specs.Participant.{Phase}
+use Rattle.alp_worker.specs.Joins.{AreJoins}
+use Rattle.alp_worker.specs.declared.joins.Joins.{Joins}
 use Rattle.alp_journal.specs.Account.{Account, state_of, AreApart, AreTwo, IsQuiet, with_granted, granted_calls, call_on, is_on_trans, holder_granted}
 use Rattle.alp_journal.specs.Answered.{in_turn, IsWalk}
 use Rattle.alp_journal.specs.Counts.{lock_set, request_in, with_resources}
@@ -402,19 +406,19 @@ module _ {V : Type 0} (a : Account) (held : Contents) (k : ServerState V) (t : T
       pub let_go_is : let_go k t ≡ record k { lives = server_then.lives; waits = server_then.waits; locks = record (released k.locks t) { woken = [] } }
       let_go_is = ap (granted_all (gone_of k t)) g.woken ∙ granted_rest (trans_in g.given) (gone_of k t)
 
-      -- with these fates, sessions, ends that are to be told, and waiting calls
-      module _ (fates : TransId → Fate) (sessions : ℕ → Option Session) (dead : ℕ → TransId → Option Cause) (waits : List Waiting) (kept_sessions : Sessions) (kept_dead : List DeadPart) (kept_waits : List WaitingCall) (c : Coordinator) where
-        abbrev pub state_told : Account
-        state_told = record state_then { fates = fates; sessions = sessions; dead = dead; waits = waits; is_down = false; pending = [] }
+      -- with these fates, joins, sessions, ends that are to be told, and waiting calls
+      module _ (fates : TransId → Fate) (phases : JoinNo → Phase) (sessions : ℕ → Option Session) (dead : ℕ → TransId → Option Cause) (waits : List Waiting) (kept_sessions : Sessions) (kept_dead : List DeadPart) (kept_waits : List WaitingCall) (c : Coordinator) (js : Joins) where
+        abbrev pub state_left : Account
+        state_left = record state_then { fates = fates; phases = phases; sessions = sessions; dead = dead; waits = waits; is_down = false; pending = [] }
 
-        abbrev pub server_told : ServerState V
-        server_told = record k { lives = server_then.lives; locks = record (released k.locks t) { woken = [] }; sessions = kept_sessions; dead = kept_dead; waits = kept_waits; coordinator = c }
+        abbrev pub server_left : ServerState V
+        server_left = record k { lives = server_then.lives; locks = record (released k.locks t) { woken = [] }; sessions = kept_sessions; dead = kept_dead; waits = kept_waits; coordinator = c; joins = js }
 
-        pub gone_as : k.is_down ≡ false → IsCoordinatorBy a.holder.server a.ids.epoch a.ids.transactions fates c → ((u : TransId) → decision_in (fates u) ≡ decision_in (a.fates u)) → (AreNotesOf (state_of a) a.ids.epoch held.notes → AreNotesOf (state_of state_told) a.ids.epoch held.notes)
+        pub left_as : k.is_down ≡ false → IsCoordinatorBy a.holder.server a.ids.epoch a.ids.transactions fates c → AreJoins a.holder.server a.ids.epoch a.ids.joins phases a.joined js → ((u : TransId) → decision_in (fates u) ≡ decision_in (a.fates u)) → (AreNotesOf (state_of a) a.ids.epoch held.notes → AreNotesOf (state_of state_left) a.ids.epoch held.notes)
             → length kept_sessions.places ≡ 17 → ((client : ℕ) → sessions client ≡ session_at kept_sessions client) → ((client : ℕ) (u : TransId) → dead client u ≡ cause_in kept_dead client u)
             → waits ≡ waiting_calls kept_waits → AllByRecursion (IsWaitingAs state_then.holder state_then.locked) kept_waits → (released k.locks t).waiting ≡ queue_of state_then.holder (released k.locks t).held waits
-            → IsQuiet state_told → IsAs state_told held server_told
-        gone_as up coordinated none_decided noted places same_sessions same_dead same_waits asked queue quiet = subst (λ (x : Holder). IsAs (record state_told { holder = x }) held server_told) (sym rest) (record {
+            → IsQuiet state_left → IsAs state_left held server_left
+        left_as up coordinated joined none_decided noted places same_sessions same_dead same_waits asked queue quiet = subst (λ (x : Holder). IsAs (record state_left { holder = x }) held server_left) (sym rest) (record {
           server = h.server;
           servers = h.servers;
           sizes = h.sizes;
@@ -422,25 +426,25 @@ module _ {V : Type 0} (a : Account) (held : Contents) (k : ServerState V) (t : T
           clock = h.clock;
           cells = h.cells;
           sized = h.sized;
-          notes = λ on. subst (λ (x : Holder). AreNotesOf (state_of (record state_told { holder = x })) a.ids.epoch held.notes) rest (noted (h.notes on));
+          notes = λ on. subst (λ (x : Holder). AreNotesOf (state_of (record state_left { holder = x })) a.ids.epoch held.notes) rest (noted (h.notes on));
           places = places;
           sessions = same_sessions;
           dead = same_dead;
           waits = same_waits;
           queue = subst (λ (x : Holder). (released k.locks t).waiting ≡ queue_of x (released k.locks t).held waits) rest queue;
-          asked = subst (λ (x : Holder). AllByRecursion (IsWaitingAs x state_told.locked) kept_waits) rest asked;
+          asked = subst (λ (x : Holder). AllByRecursion (IsWaitingAs x state_left.locked) kept_waits) rest asked;
           lives = lives_then a held k t a.holder.cells a.holder.clock a.holder.kept a.holder.applied a.holder.left none_beyond a.holder.cells m on h ready (λ u l c live unvoted away. refl) (λ u l life there live away. h.unborn u life live)
               (gone_room k.sizes a.holder.cells k.lives t h.room) g;
           room = g.all.fits;
           unborn = λ u l is. unborn_then u l (map.get server_then.lives u) refl is (g.all.lives u);
           coordinator = coordinated;
-          decided = applied_fated a (record state_told { holder = record first { lives = (holder_granted first g.given).lives } }) refl refl none_decided h.decided;
-          joins = h.joins;
+          decided = applied_fated a (record state_left { holder = record first { lives = (holder_granted first g.given).lives } }) refl refl none_decided h.decided;
+          joins = joined;
           files = h.files;
           made = h.made;
           born = h.born;
           earlier = h.earlier;
-          quiet = subst (λ (x : Holder). IsQuiet (record state_told { holder = x })) rest quiet;
+          quiet = subst (λ (x : Holder). IsQuiet (record state_left { holder = x })) rest quiet;
           down = sym up;
         })
           where
@@ -454,6 +458,21 @@ module _ {V : Type 0} (a : Account) (held : Contents) (k : ServerState V) (t : T
 
             rest : (holder_granted first g.given) ≡ record first { lives = (holder_granted first g.given).lives }
             rest = holder_rest g.given first
+
+      -- with the joins as they were
+      module _ (fates : TransId → Fate) (sessions : ℕ → Option Session) (dead : ℕ → TransId → Option Cause) (waits : List Waiting) (kept_sessions : Sessions) (kept_dead : List DeadPart) (kept_waits : List WaitingCall) (c : Coordinator) where
+        abbrev pub state_told : Account
+        state_told = record state_then { fates = fates; sessions = sessions; dead = dead; waits = waits; is_down = false; pending = [] }
+
+        abbrev pub server_told : ServerState V
+        server_told = record k { lives = server_then.lives; locks = record (released k.locks t) { woken = [] }; sessions = kept_sessions; dead = kept_dead; waits = kept_waits; coordinator = c }
+
+        pub gone_as : k.is_down ≡ false → IsCoordinatorBy a.holder.server a.ids.epoch a.ids.transactions fates c → ((u : TransId) → decision_in (fates u) ≡ decision_in (a.fates u)) → (AreNotesOf (state_of a) a.ids.epoch held.notes → AreNotesOf (state_of state_told) a.ids.epoch held.notes)
+            → length kept_sessions.places ≡ 17 → ((client : ℕ) → sessions client ≡ session_at kept_sessions client) → ((client : ℕ) (u : TransId) → dead client u ≡ cause_in kept_dead client u)
+            → waits ≡ waiting_calls kept_waits → AllByRecursion (IsWaitingAs state_then.holder state_then.locked) kept_waits → (released k.locks t).waiting ≡ queue_of state_then.holder (released k.locks t).held waits
+            → IsQuiet state_told → IsAs state_told held server_told
+        gone_as up coordinated none_decided noted places same_sessions same_dead same_waits asked queue quiet =
+            left_as fates a.phases sessions dead waits kept_sessions kept_dead kept_waits c k.joins up coordinated h.joins none_decided noted places same_sessions same_dead same_waits asked queue quiet
 
       -- where the waiting call of the part goes too
       module _ (client : ℕ) where

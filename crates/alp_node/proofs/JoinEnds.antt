@@ -109,7 +109,7 @@ module _ (joins : Joins) (j : JoinNo) (y : LiveJoin) (p : LiveJoin → Bool) (on
 
   -- it has no note where it had not voted, and the others have theirs
   pub noted_left : (lives : LiveMap) (server servers epoch : ℕ) (c : Coordinator) (notes : Notes) → is_open y.stage ≡ true → AreNoted server servers epoch lives joins c notes → AreNoted server servers epoch lives (record joins { lives = without j p joins.lives }) c notes
-  noted_left lives server servers epoch c notes open h = record {
+  noted_left lives server servers epoch c notes early h = record {
     epoch = h.epoch;
     ready = λ i fits. at i (same_join j i) refl (ready_at notes i) (h.ready i fits);
     decided = h.decided;
@@ -124,7 +124,7 @@ module _ (joins : Joins) (j : JoinNo) (y : LiveJoin) (p : LiveJoin → Bool) (on
       at : (i : JoinNo) (b : Bool) → same_join j i ≡ b → (x : Option ReadyPart) → IsNotedJoin lives (join_at joins.lives i) x → IsNotedJoin lives (join_at (without j p joins.lives) i) x
       at i true e x h =
           subst (λ (o : Option LiveJoin). IsNotedJoin lives o x) (sym (ap (join_at (without j p joins.lives)) (sym (same_join-true j i e)) ∙ join_gone))
-          (unvoted y.stage open x (subst (λ (o : Option LiveJoin). IsNotedJoin lives o x) (ap (join_at joins.lives) (sym (same_join-true j i e)) ∙ there) h))
+          (unvoted y.stage early x (subst (λ (o : Option LiveJoin). IsNotedJoin lives o x) (ap (join_at joins.lives) (sym (same_join-true j i e)) ∙ there) h))
       at i false e x h = subst (λ (o : Option LiveJoin). IsNotedJoin lives o x) (sym (without_at j i p joins.lives once ∙ as_was (join_at joins.lives i) refl)) h
         where
           as_was : (o : Option LiveJoin) → join_at joins.lives i ≡ o → stays_if p j o ≡ o

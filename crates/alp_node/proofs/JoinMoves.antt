@@ -127,7 +127,7 @@ abbrev pub IsUnjoined : List LiveJoin → JoinNo → Type 0
 IsUnjoined ls j = (x : LiveJoin) → join_at ls j ≡ Some x → is_in x.stage ≡ false
 
 -- a part of another join stands with that where the join is as it was
-part_stands : (k now : Joins) (t : TransId) (l : Live) (f : Fate) (o : Option JoinNo) → ((i : JoinNo) (y : LiveJoin) → o ≡ Some i → join_at k.lives i ≡ Some y → join_at now.lives i ≡ Some y) → IsPartOf k t l f o → IsPartOf now t l f o
+pub part_stands : (k now : Joins) (t : TransId) (l : Live) (f : Fate) (o : Option JoinNo) → ((i : JoinNo) (y : LiveJoin) → o ≡ Some i → join_at k.lives i ≡ Some y → join_at now.lives i ≡ Some y) → IsPartOf k t l f o → IsPartOf now t l f o
 part_stands k now t l f None same h = h
 part_stands k now t l f (Some i) same h = (h.0, go (join_at k.lives i) refl h.1)
   where

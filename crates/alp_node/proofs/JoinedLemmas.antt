@@ -312,7 +312,7 @@ module _ {V : Type 0} (k : ServerState V) (j : JoinNo) (t : TransId) (y : LiveJo
 -- ---- by what the journal says
 
 -- the journal has the join's phase
-phase_told : {V : Type 0} (a : Account) (held : Contents) (k : ServerState V) (j : JoinNo) (y : LiveJoin) → IsAs a held k → join_at k.joins.lives j ≡ Some y → a.phases j ≡ phase_of y
+pub phase_told : {V : Type 0} (a : Account) (held : Contents) (k : ServerState V) (j : JoinNo) (y : LiveJoin) → IsAs a held k → join_at k.joins.lives j ≡ Some y → a.phases j ≡ phase_of y
 phase_told a held k j y h there = phase_back j (a.phases j) y (sym (h.joins.live j) ∙ there)
 
 -- no file call of it waits
@@ -454,6 +454,13 @@ join_found t (Some x) y e = go (same_trans x.trans t) refl e
 -- each call that waits is one of its transaction
 pub ready_named : {V : Type 0} (on : Bool) (k : ServerState V) → IsReadyForMore on k → AreNamed k.waits
 ready_named on k ready = named_all k.server k.epoch k.given (count_of k.coordinator) k.sizes k.lives k.waits ready.2.waits.calls
+
+-- and what it is, by its stage
+pub found_as : (t : TransId) (j : JoinNo) (ls : List LiveJoin) (y : LiveJoin) (s : Stage) → join_of t (join_at ls j) ≡ Some y → y.stage ≡ s → join_of t (join_at ls j) ≡ Some (record { join = j; trans = t; client = y.client; stage = s })
+found_as t j ls y s e is =
+    let found : IsFound t (join_at ls j) y = join_found t (join_at ls j) y e in
+    let number : j ≡ y.join = found_number ls j y found.there in
+    e ∙ (λ i. Some (record y { join = sym number i; trans = found.trans i; stage = is i }))
 
 -- the step of one that is let in
 module _ {V : Type 0} (G : Ghosts V) (k : ServerState V) (from : ℕ) (j : JoinNo) (t : TransId) (y : LiveJoin) (who : List ℕ) (is : IsAsking k j t y who) (p : Part) (fresh : own_of p ≡ no_opens) (none : p.intents ≡ no_intents) (idle : p.counts ≡ no_counts) (ready : IsReadyForMore (G.serves k.vault) k) where

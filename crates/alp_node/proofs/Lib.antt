@@ -22,6 +22,9 @@ pub mod JoinedLemmas
 pub mod InquiryLemmas
 pub mod AskedLemmas
 pub mod JoinEnds
+pub mod SingleLemmas
+pub mod QuitLemmas
+pub mod HoldingLemmas
 pub mod SayLemmas
 pub mod ArrivalLemmas
 pub mod CountLemmas

@@ -127,7 +127,7 @@ impl<V: Vault> ServerState<V> {
         ensures { (from : ℕ) → IsStepAs V.Vault None self.old self.new (event.Arrive from (msg.Abort trans join cause)) result }
     {
         self.dead.add(client, trans, cause)?;
-        self.joins.abort(&join, &trans);
+        self.joins.quit(&join);
         Ok(self.silence())
     }
 

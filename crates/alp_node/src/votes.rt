@@ -3,7 +3,10 @@ ghost use Rattle.std.specs.Prelude.{◌≡◌, ℕ, List, IsTrue, Ok, None, Some
 ghost use Rattle.alp_journal.specs.declared.event.Event.TheVariants as event;
 ghost use Rattle.alp_journal.specs.declared.message.Message.TheVariants as msg;
 ghost use Rattle.alp_node.specs.Arrivals.{join_of};
-ghost use Rattle.alp_node.specs.ServerState.{IsReadyForMore, IsOfJournal};
+ghost use Rattle.alp_journal.specs.Account.{Account, state_of};
+ghost use Rattle.alp_journal.specs.Messages.{why_not};
+ghost use Rattle.alp_node.specs.ServerState.{IsAs, IsReadyForMore, IsOfJournal};
+ghost use Rattle.alp_vault.specs.Contents.{Contents};
 ghost use Rattle.alp_node.specs.Served.{AreLivesSound};
 ghost use Rattle.alp_node.specs.Steps.{IsStepAs, IsNoted, IsOn};
 ghost use Rattle.alp_node.specs.Votes.{why_against};
@@ -77,6 +80,7 @@ impl<V: Vault> ServerState<V> {
     ) -> Result<Answer, OutOfMemory>
         requires active { (who : List ℕ) × (join_of trans (join_at self.old.joins.lives join) ≡ Some (record { join = join; trans = trans; client = client; stage = stage.Active who })) }
         requires against { why_against self.old client trans ≡ Some why }
+        requires told { (a : Account) (held : Contents) → IsAs a held self.old → why_not false (state_of a) client trans ≡ Some why }
         requires up { self.old.is_down ≡ false }
         requires ready { IsReadyForMore (V.serves self.old.vault) self.old }
         ensures { (from : ℕ) → IsStepAs V.Vault None self.old self.new (event.Arrive from (msg.Ask trans join)) result }
