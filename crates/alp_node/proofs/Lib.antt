@@ -89,7 +89,7 @@ pub mod StopLemmas
 pub mod PastLemmas
 pub mod DownLemmas
 pub mod RaiseLemmas
-pub mod LiveLemmas
+pub mod RestLemmas
 pub mod NoteLemmas
 pub mod StoreLemmas
 pub mod StartLemmas
