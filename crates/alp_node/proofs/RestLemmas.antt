@@ -1,12 +1,14 @@
 -- whether all is at rest at a server, by what it keeps
-use Rattle.std.specs.Prelude.{cond, Bool, true, false, ◌&&◌, ◌||◌, ◌==◌, filter, slice_get, Option, None, Some, is_some, ◌↔◌}
+use Rattle.std.specs.Prelude.{cond, Bool, true, false, ◌&&◌, ◌||◌, ◌==◌, filter, slice_get, IsTrue, Option, None, Some, is_none, is_some}
 use Rattle.std.specs.FinMap as map
 use Rattle.std.proofs.Common.{◌⊎◌, ◌≡◌, ℕ, List, [], ◌∷◌, length, refl, sym, ◌∙◌, ap, subst, arith, eq-eqb, inl, inr}
+use Rattle.std.proofs.lemmas.Bool.{and_parts, eqb-true}
 use Rattle.alp_base.specs.declared.ids.JoinNo.{JoinNo}
 use Rattle.alp_base.specs.declared.ids.Stamp.{Stamp}
 use Rattle.alp_base.specs.declared.ids.TransId.{TransId}
 use Rattle.alp_base.specs.declared.key.Resource.{Resource}
 use Rattle.alp_vault.specs.Contents.{Contents}
+use Rattle.alp_vault.specs.declared.vault.Vault.{Ghosts}
 use Rattle.alp_journal.specs.Account.{Account, state_of, HasLife, IsPaired, IsFateOf as IsToldFate}
 use Rattle.alp_journal.specs.Along.{Where}
 use Rattle.alp_journal.specs.Answers.{is_counted}
@@ -20,7 +22,9 @@ use Rattle.alp_coord.specs.declared.coordinator.Coordinator.{Coordinator}
 use Rattle.alp_coord.specs.Coordinators.{counted_of, fate_in, is_running_fate, open_ids}
 use Rattle.alp_coord.specs.Likeness.{IsLike, same, finishing, committed, is_over, IsLikeOld, standing, nothing, IsFateOf}
 use Rattle.alp_coord.specs.Ticks.{has_trans}
-use Rattle.alp_node.specs.Opens.{IsAtRest, is_unasked}
+use Rattle.alp_node.specs.NodeStates.{NodeState}
+use Rattle.alp_node.specs.Nodes.{IsConsistent, IsRight, start_in, state_of as journal_state}
+use Rattle.alp_node.specs.Opens.{IsAtRest, IsRestOf, is_unasked}
 use Rattle.alp_node.specs.ServerState.{IsAs, IsAlike}
 use Rattle.alp_node.specs.Totals.{LiveMap}
 use Rattle.alp_node.specs.declared.lives.Live.{Live}
@@ -234,3 +238,23 @@ module _ {V : Type 0} (a : Account) (held : Contents) (k : ServerState V) (h : I
       uncounted : (t : TransId) (b : Bool) → is_counted (fate_in k.coordinator t) ≡ b → b ≡ false
       uncounted t false e = refl
       uncounted t true e = absurd (for_none t (counts_for a.ids.epoch t (fate_in k.coordinator t) (a.fates t) (h.coordinator.fates t) e))
+
+-- a node tells it
+pub rest_said : {V : Type 0} (G : Ghosts V) (n : NodeState V) (counted : ℕ) (first : Option TransId) → IsConsistent G n → counted ≡ counted_of n.kept.coordinator → first ≡ slice_get (map.keys n.kept.lives) 0 → IsTrue (G.tells n.kept.vault)
+    → IsRestOf ((counted == 0) && is_none first) (journal_state (start_in G n) n.journal)
+rest_said G n counted first h same least told =
+    let r : IsRight (start_in G n) (G.held n.kept.vault) n = h.right told in
+    subst (IsRestOf ((counted == 0) && is_none first)) (sym r.says) (
+      (λ e. (
+          let both = and_parts (counted == 0) (is_none first) e in
+          rests_told r.state (G.held n.kept.vault) n.kept r.kept (sym same ∙ eqb-true counted 0 both.0) (sym least ∙ none_is first both.1)
+          )),
+      (λ rest. (
+          let q = rests_kept r.state (G.held n.kept.vault) n.kept r.kept rest in
+          ap (λ (b : Bool). b && is_none first) (eq-eqb counted 0 (same ∙ q.0)) ∙ ap (λ (x : Option TransId). is_none x) (least ∙ q.1)
+          )),
+    )
+  where
+    none_is : (x : Option TransId) → is_none x ≡ true → x ≡ None
+    none_is None e = refl
+    none_is (Some t) e = let wrong : false ≡ true = e in cc
