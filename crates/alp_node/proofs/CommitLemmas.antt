@@ -153,8 +153,8 @@ module _ {V : Type 0} (a : Account) (held : Contents) (k : ServerState V) (turn 
         ∙ ap (λ (ws : List Deed). (Finishes t ∷ ws) ++ (Decides write_stamp [] ∷ ds) ++ []) none
         ∙ ap (λ (ws : List Deed). Finishes t ∷ Decides write_stamp [] ∷ ws) (append-nil ds)
 
-    clock_is : max a.holder.clock (a.holder.clock + 1) ≡ k.clock + 1
-    clock_is = omega (arith, h.clock)
+    write_clock : max a.holder.clock (a.holder.clock + 1) ≡ k.clock + 1
+    write_clock = omega (arith, h.clock)
 
     fits : clock_form.Fits (record { epoch = a.ids.epoch; clock = max a.holder.clock (a.holder.clock + 1) })
     fits = time_fits (record { epoch = a.ids.epoch; clock = max a.holder.clock (a.holder.clock + 1) }) (omega (arith, h.epoch, epoch)) (omega (arith, h.clock, early))
@@ -162,7 +162,7 @@ module _ {V : Type 0} (a : Account) (held : Contents) (k : ServerState V) (turn 
     -- the notes that are written are those with the clock of the journal
     notes_are : (c : Contents) → c.notes ≡ notes_after (decision_changes k.epoch (record { ts = k.clock + 1; trans = t }) []) held.notes
         → c.notes ≡ noted clock_name (Some (clock_form.spell (record { epoch = a.ids.epoch; clock = max a.holder.clock (a.holder.clock + 1) }))) held.notes
-    notes_are c so = so ∙ (λ i. noted clock_name (Some (clock_form.spell (record { epoch = sym h.epoch i; clock = sym clock_is i }))) held.notes)
+    notes_are c so = so ∙ (λ i. noted clock_name (Some (clock_form.spell (record { epoch = sym h.epoch i; clock = sym write_clock i }))) held.notes)
 
     module _ (m : Account) (acts : List Act) (ds : List Deed) (brings : flat_map (act_deeds (state_of a) finish_event) acts ≡ Decides write_stamp [] ∷ ds) (free : AllByRecursion IsUnkept ds) (leads : Leads false a (finish_entry acts) m) where
       law : Along state_deed (IsLawfulDeed finish_event) (state_of a) (Finishes t ∷ Decides write_stamp [] ∷ ds)

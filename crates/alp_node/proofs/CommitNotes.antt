@@ -120,7 +120,7 @@ module _ (x : Event) (s : State) (t : TransId) (time : ℕ) (l : Life) (rest : L
       let first_voted : AreVoted first = deed_voted x s (Finishes t) tt law.0 voted in
       let first_notes : AreNotesOf first epoch notes = notes_along s first epoch notes (deed_says x s (Finishes t) tt law.0 voted) h in
       notes_along second (state_after state_deed second rest) epoch (noted_then epoch notes)
-      (deeds_say x rest second (behind rest free second) law.2 (decided_voted first stamp_of l first_voted here live))
+      (deeds_say x rest second (behind rest free second) law.1.1 (decided_voted first stamp_of l first_voted here live))
       (decided_notes first stamp_of l first_voted here live epoch notes fits first_notes)
 
 -- what was told says of notes what was done

@@ -90,7 +90,6 @@ pub mod PastLemmas
 pub mod DownLemmas
 pub mod RaiseLemmas
 pub mod RestLemmas
-pub mod LeastOpens
 pub mod NoteLemmas
 pub mod StoreLemmas
 pub mod StartLemmas

@@ -40,6 +40,7 @@ use Rattle.alp_turns.specs.Queues.{request_at, queue_of}
 use Rattle.alp_turns.proofs.MoveLemmas.{GoesIdle, queue_without}
 use Rattle.alp_node.specs.Dead.{cause_in}
 use Rattle.alp_node.specs.Halts.{says_shut}
+use Rattle.alp_node.specs.Outcomes.{stamp_if}
 use Rattle.alp_node.specs.ServerState.{IsAs, IsReady, IsWaitingAs}
 use Rattle.alp_node.specs.Standings.{standing_of}
 use Rattle.alp_node.specs.Steps.{Stepped, IsStep, IsTurn, counted_in, told_answer, refused_answer}
@@ -91,23 +92,17 @@ module _ {V : Type 0} (a : Account) (held : Contents) (k : ServerState V) (t : T
   abbrev told_ending : Fate → Ending
   told_ending f = ending_of (state_of a) t f
 
-  stamp_in : Ending → Option Stamp
-  stamp_in (ending.Committed x) = Some x
-  stamp_in e = None
+  stamp_same : (p q : Stamp × List JoinNo) → Some p ≡ Some q → p.0 ≡ q.0
+  stamp_same p q e = ap (λ (o : Option (Stamp × List JoinNo)). first o) e
+    where
+      first : Option (Stamp × List JoinNo) → Stamp
+      first None = p.0
+      first (Some z) = z.0
 
   committed_now : (stamp : Stamp) (js : List JoinNo) (f : Fate) → decision_in f ≡ Some (stamp, js) → told_ending f ≡ ending.Committed stamp
-  committed_now stamp js (Committed x [] ds) e = ap (λ (b : Bool). cond {A = Ending} b (ending.Committed x) ending.Unknown) of_now ∙ ap ending.Committed (first_of e)
-    where
-      first_of : Some (x, []) ≡ Some (stamp, js) → x ≡ stamp
-      first_of e = cc
-  committed_now stamp js (Committed x (i ∷ is) ds) e = ap ending.Committed (first_of e)
-    where
-      first_of : Some (x, i ∷ is) ≡ Some (stamp, js) → x ≡ stamp
-      first_of e = cc
-  committed_now stamp js (Forgotten x ks) e = ap (λ (b : Bool). cond {A = Ending} b (ending.Committed x) ending.Unknown) of_now ∙ ap ending.Committed (first_of e)
-    where
-      first_of : Some (x, ks) ≡ Some (stamp, js) → x ≡ stamp
-      first_of e = cc
+  committed_now stamp js (Committed x [] ds) e = ap (λ (b : Bool). cond {A = Ending} b (ending.Committed x) ending.Unknown) of_now ∙ ap ending.Committed (stamp_same (x, []) (stamp, js) e)
+  committed_now stamp js (Committed x (i ∷ is) ds) e = ap ending.Committed (stamp_same (x, i ∷ is) (stamp, js) e)
+  committed_now stamp js (Forgotten x ks) e = ap (λ (b : Bool). cond {A = Ending} b (ending.Committed x) ending.Unknown) of_now ∙ ap ending.Committed (stamp_same (x, ks) (stamp, js) e)
   committed_now stamp js Undrawn e = let wrong : None ≡ Some (stamp, js) = e in cc
   committed_now stamp js (Running c ks) e = let wrong : None ≡ Some (stamp, js) = e in cc
   committed_now stamp js (Finishing c ks vs) e = let wrong : None ≡ Some (stamp, js) = e in cc
@@ -356,3 +351,22 @@ collected_step {V} G k new turn number r x is up keeps quiet kept so steps turne
     (plain_step G k after turn (call.Collect number) x r [] refl refl refl refl refl up up (λ notes h. h) quiet so refl (λ before now allowance. tt)
     (λ m h. counted_ready m (G.serves k.vault) (record k { waits = without_other_at turn.client number k.waits }) turn r is keeps (without_other_ready m (G.serves k.vault) k turn.client number h))
     steps turned)
+
+-- ---- the stamp of a decision
+
+pub stamp_some : (x : Option Ending) (stamp : Stamp) → stamp_if x ≡ Some stamp → x ≡ Some (ending.Committed stamp)
+stamp_some None stamp e = let wrong : None ≡ Some stamp = e in cc
+stamp_some (Some (ending.Committed s)) stamp e = ap (λ (o : Option Stamp). Some (ending.Committed (or_else o))) e
+  where
+    or_else : Option Stamp → Stamp
+    or_else None = s
+    or_else (Some z) = z
+stamp_some (Some ending.Running) stamp e = let wrong : None ≡ Some stamp = e in cc
+stamp_some (Some ending.Aborted) stamp e = let wrong : None ≡ Some stamp = e in cc
+stamp_some (Some ending.Unknown) stamp e = let wrong : None ≡ Some stamp = e in cc
+
+pub stamp_none : (x : Option Ending) → stamp_if x ≡ None → (stamp : Stamp) → x ≡ Some (ending.Committed stamp) → ⊥
+stamp_none x none stamp e = no (sym (ap stamp_if e) ∙ none)
+  where
+    no : Some stamp ≡ None → ⊥
+    no e = cc

@@ -2,6 +2,7 @@ pub mod Sessions
 pub mod Orders
 pub mod Noted
 pub mod Opens
+pub mod Outcomes
 pub mod Durable
 pub mod Paired
 pub mod Transactions
