@@ -7,7 +7,7 @@ use Rattle.alp_node.proofs.server_state.ServerState.joins_of.Goals as goal
 
 pub loop-member-preserved : goal.loop-member-preserved
 loop-member-preserved g c =
-    let ms : List Member = c.loop-member.members in
+    let ms : List Member = c.members.result.now in
     let i : ℕ = c.loop-member.member-index in
     let none : Member = record { join = record { server = 0; epoch = 0; counter = 0 }; said = None } in
     let m : Member = slice_index_or ms i none in

@@ -11,7 +11,7 @@ use Rattle.alp_node.proofs.server_state.ServerState.ready_sum.Goals as goal
 pub loop-trans-preserved : goal.loop-trans-preserved
 loop-trans-preserved g c =
     let lives : LiveMap = c.args.self.now.lives in
-    let ts : List TransId = c.in_ok-ready.ready.items in
+    let ts : List TransId = c.as_slice-trans-items.result.now in
     let i : ℕ = c.loop-trans.trans-index in
     let none : TransId = record { server = 0; epoch = 0; counter = 0 } in
     let t : TransId = slice_index_or ts i none in
