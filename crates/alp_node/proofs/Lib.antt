@@ -24,6 +24,7 @@ pub mod JoinEnds
 pub mod SingleLemmas
 pub mod QuitLemmas
 pub mod HoldingLemmas
+pub mod HeardLemmas
 pub mod SayLemmas
 pub mod ArrivalLemmas
 pub mod CountLemmas
