@@ -11,20 +11,26 @@ use Rattle.alp_journal.specs.declared.event.Event.TheVariants as event
 use Rattle.alp_journal.specs.declared.message.Message.TheVariants as msg
 use Rattle.alp_journal.specs.declared.act.Act.{Act}
 use Rattle.alp_journal.specs.Account.{Account, state_of, IsQuiet, Leads}
-use Rattle.alp_journal.specs.Coordinator.{Fate, Undrawn, Running, Finishing, Committed, Forgotten, Ended, has_all, joins_of, fate_after}
+use Rattle.alp_journal.specs.Coordinator.{Fate, Undrawn, Running, Finishing, Committed, Forgotten, Ended, Vote, voted, with_vote, has_all, joins_of, fate_after}
 use Rattle.alp_journal.specs.Deeds.{Deed, Hears, Acknowledges}
 use Rattle.alp_journal.specs.Along.{Where}
 use Rattle.alp_journal.specs.Answered.{is_all_done}
 use Rattle.alp_journal.specs.Ids.{has_join, same_join}
-use Rattle.alp_journal.specs.Moves.{acknowledges}
+use Rattle.alp_journal.specs.Laws.{latest_vote}
+use Rattle.alp_journal.specs.Messages.{Mail, has_all_votes, on_ready, own_vote, why_not_own}
+use Rattle.alp_journal.specs.Moves.{abort_in, first_sent, ends_for, hears, acknowledges}
+use Rattle.alp_journal.proofs.DecideSteps.{ready_passed_leads, ready_kept_leads}
+use Rattle.alp_files.specs.declared.refusal.Why.{Why}
+use Rattle.alp_coord.specs.declared.answers.Ballot.{Ballot}
+use Rattle.alp_coord.specs.declared.answers.Ballot.TheVariants as ballot
 use Rattle.alp_journal.proofs.DecisionSteps.{done_passed_leads, done_leads, with_done, undone}
 use Rattle.alp_coord.specs.declared.answers.Receipt.{Receipt}
 use Rattle.alp_coord.specs.declared.answers.Receipt.TheVariants as receipt
 use Rattle.alp_coord.specs.declared.coordinator.Coordinator.{Coordinator}
-use Rattle.alp_coord.specs.Coordinators.{IsAlong, ComesLike, fate_in, receipt_of}
+use Rattle.alp_coord.specs.Coordinators.{IsAlong, ComesLike, fate_in, ballot_of, receipt_of}
 use Rattle.alp_coord.specs.Likeness.{IsLike, IsLikeOld, IsFateOf, AreLikeDones, is_over, standing, nothing}
 use Rattle.alp_coord.proofs.LikeLemmas.{like-receipt, all_done_alike}
-use Rattle.alp_coord.proofs.TieLemmas.{known-after}
+use Rattle.alp_coord.proofs.TieLemmas.{known-ballot, known-after}
 use Rattle.alp_vault.specs.Contents.{Contents}
 use Rattle.alp_vault.specs.declared.vault.Vault.{Ghosts}
 use Rattle.alp_node.specs.ServerState.{IsAs, IsReady}
@@ -146,3 +152,73 @@ module _ {V : Type 0} (G : Ghosts V) (k : ServerState V) (from : ℕ) (t : Trans
           go : (b c : Bool) → b ≡ false → (not b && c) ≡ false → c ≡ false
           go false c e f = f
           go true c e f = (let wrong : true ≡ false = e in cc)
+
+-- ---- a vote
+
+module _ {V : Type 0} (G : Ghosts V) (k : ServerState V) (from : ℕ) (t : TransId) (j : JoinNo) (ts least : ℕ) (up : k.is_down ≡ false) where
+  ballot_told : (a : Account) (held : Contents) (b : Ballot) → IsAs a held k → ballot_of j ts least (fate_in k.coordinator t) ≡ b → ballot_of j ts least (a.fates t) ≡ b
+  ballot_told a held b h is = sym (known-ballot a.ids.epoch t j ts least (fate_in k.coordinator t) (a.fates t) (h.coordinator.fates t)) ∙ is
+
+  -- it is none of a transaction that is finishing
+  unheard : (s : _) (acts : List Act) (f : Fate) → ballot_of j ts least f ≡ ballot.Dropped → hears s acts t j ts f ≡ []
+  unheard s acts Undrawn e = refl
+  unheard s acts (Running c js) e = refl
+  unheard s acts (Finishing c js vs) e = go (Hears t j ts ∷ ends_for t c (first_sent (abort_in t) acts)) (has_join j js) (list_all (λ i. voted i (with_vote j ts vs)) js) e
+    where
+      go : (xs : List Deed) (b d : Bool) → cond {A = Ballot} b (cond {A = Ballot} d (ballot.Last (latest_vote least (with_vote j ts vs))) ballot.Kept) ballot.Dropped ≡ ballot.Dropped → cond {A = List Deed} b xs [] ≡ []
+      go xs false d e = refl
+      go xs true true e = (let wrong : ballot.Last (latest_vote least (with_vote j ts vs)) ≡ ballot.Dropped = e in cc)
+      go xs true false e = (let wrong : ballot.Kept ≡ ballot.Dropped = e in cc)
+  unheard s acts (Committed stamp js ds) e = refl
+  unheard s acts (Forgotten stamp js) e = refl
+  unheard s acts (Ended c) e = refl
+
+  unsaid : (a : Account) (w : Option Why) (f : Fate) → ballot_of j ts least f ≡ ballot.Dropped → on_ready (state_of a) (state_of a) t j ts w f ≡ []
+  unsaid a w Undrawn e = refl
+  unsaid a w (Running c js) e = refl
+  unsaid a w (Finishing c js vs) e = go (has_join j js) (list_all (λ i. voted i (with_vote j ts vs)) js) e
+    where
+      go : (b d : Bool) → cond {A = Ballot} b (cond {A = Ballot} d (ballot.Last (latest_vote least (with_vote j ts vs))) ballot.Kept) ballot.Dropped ≡ ballot.Dropped → cond {A = List Mail} (b && d) (own_vote (state_of a) (state_of a) t js w) [] ≡ []
+      go false d e = refl
+      go true true e = (let wrong : ballot.Last (latest_vote least (with_vote j ts vs)) ≡ ballot.Dropped = e in cc)
+      go true false e = (let wrong : ballot.Kept ≡ ballot.Dropped = e in cc)
+  unsaid a w (Committed stamp js ds) e = refl
+  unsaid a w (Forgotten stamp js) e = refl
+  unsaid a w (Ended c) e = refl
+
+  pub vote_dropped : (x : Answer) → ballot_of j ts least (fate_in k.coordinator t) ≡ ballot.Dropped → x ≡ told_answer None [] → IsStepAs G None k k (event.Arrive from (msg.Ready t j ts)) (Ok x)
+  vote_dropped x dropped so = silent_step G k (event.Arrive from (msg.Ready t j ts)) x up so
+      (λ a h.
+          (let told : ballot_of j ts least (a.fates t) ≡ ballot.Dropped = ballot_told a (G.held k.vault) ballot.Dropped h dropped in
+          ready_passed_leads a from t j ts h.quiet (h.down ∙ up) (λ acts. unheard (state_of a) acts (a.fates t) told) (unsaid a (why_not_own false (state_of a) t) (a.fates t) told)))
+
+  -- others are to come
+  pub record IsKeptVote (f : Fate) : Type 0 where
+    pub client : ℕ
+    pub joins : List JoinNo
+    pub votes : List Vote
+    pub is : f ≡ Finishing client joins votes
+    pub its : has_join j joins ≡ true
+    pub more : has_all_votes j ts joins votes ≡ false
+
+  pub kept_vote : (f : Fate) → ballot_of j ts least f ≡ ballot.Kept → IsKeptVote f
+  kept_vote Undrawn e = (let wrong : ballot.Dropped ≡ ballot.Kept = e in cc)
+  kept_vote (Running c js) e = (let wrong : ballot.Dropped ≡ ballot.Kept = e in cc)
+  kept_vote (Finishing c js vs) e = go (has_join j js) refl (list_all (λ i. voted i (with_vote j ts vs)) js) refl e
+    where
+      go : (b : Bool) → has_join j js ≡ b → (d : Bool) → list_all (λ i. voted i (with_vote j ts vs)) js ≡ d → cond {A = Ballot} b (cond {A = Ballot} d (ballot.Last (latest_vote least (with_vote j ts vs))) ballot.Kept) ballot.Dropped ≡ ballot.Kept → IsKeptVote (Finishing c js vs)
+      go false f d g e = (let wrong : ballot.Dropped ≡ ballot.Kept = e in cc)
+      go true f true g e = (let wrong : ballot.Last (latest_vote least (with_vote j ts vs)) ≡ ballot.Kept = e in cc)
+      go true f false g e = record { client = c; joins = js; votes = vs; is = refl; its = f; more = λ i. f i && g i }
+  kept_vote (Committed stamp js ds) e = (let wrong : ballot.Dropped ≡ ballot.Kept = e in cc)
+  kept_vote (Forgotten stamp js) e = (let wrong : ballot.Dropped ≡ ballot.Kept = e in cc)
+  kept_vote (Ended c) e = (let wrong : ballot.Dropped ≡ ballot.Kept = e in cc)
+
+  pub vote_kept : (x : Answer) (z : Coordinator) → ballot_of j ts least (fate_in k.coordinator t) ≡ ballot.Kept → IsAlong k.coordinator z → ComesLike (Hears t j ts) k.coordinator z → x ≡ told_answer None []
+      → IsStepAs G None k (record k { coordinator = z }) (event.Arrive from (msg.Ready t j ts)) (Ok x)
+  vote_kept x z kept along comes so =
+      fate_step G k (Hears t j ts) tt z along comes up (event.Arrive from (msg.Ready t j ts)) x so (λ e. (let wrong : event.Arrive from (msg.Ready t j ts) ≡ event.Restart = e in cc)) (λ a. tt)
+      (λ a h.
+          (let o : IsKeptVote (a.fates t) = kept_vote (a.fates t) (ballot_told a (G.held k.vault) ballot.Kept h kept) in
+          ready_kept_leads a from t j ts o.client o.joins o.votes h.quiet (h.down ∙ up) o.is o.its o.more))
+      (λ a h u. known-after a.ids.epoch (Hears t j ts) u (fate_in k.coordinator u) (fate_in z u) (a.fates u) refl (h.coordinator.fates u) (comes u))

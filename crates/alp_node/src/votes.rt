@@ -1,7 +1,9 @@
 //! Votes: of the parts here of other servers' transactions, and those that arrive for this server's own.
-ghost use Rattle.std.specs.Prelude.{◌≡◌, ℕ, List, IsTrue, Ok, None, Some, false};
+ghost use Rattle.std.specs.Prelude.{◌≡◌, ◌+◌, ◌≤◌, ◌^◌, ℕ, List, IsTrue, Ok, None, Some, false};
 ghost use Rattle.alp_journal.specs.declared.event.Event.TheVariants as event;
 ghost use Rattle.alp_journal.specs.declared.message.Message.TheVariants as msg;
+ghost use Rattle.alp_coord.specs.Coordinators.{ballot_of, fate_in};
+ghost use Rattle.alp_coord.specs.declared.answers.Ballot.TheVariants as ballot;
 ghost use Rattle.alp_node.specs.Arrivals.{join_of};
 ghost use Rattle.alp_journal.specs.Account.{Account, state_of};
 ghost use Rattle.alp_journal.specs.Messages.{why_not};
@@ -16,6 +18,7 @@ ghost use Rattle.alp_worker.specs.declared.live.Stage.TheVariants as stage;
 use crate::answer::Answer;
 use crate::server_state::ServerState;
 use alp_base::{JoinNo, OutOfMemory, TransId};
+use alp_coord::Ballot;
 use alp_files::{Cause, Why};
 use alp_journal::{Acts, Message};
 use alp_vault::Vault;
@@ -112,6 +115,58 @@ impl<V: Vault> ServerState<V> {
         ensures { (from : ℕ) → IsStepAs V.Vault None self.old self.new (event.Arrive from (msg.Ask trans join)) result }
     {
         let _ = (trans, join, client);
+        unreachable!()
+    }
+
+    // ---- votes for a transaction of this server
+
+    /// A part elsewhere votes for the commit.
+    pub(super) fn ready(
+        &mut self,
+        trans: TransId,
+        join: JoinNo,
+        ts: u64,
+    ) -> Result<Answer, OutOfMemory>
+        requires time { ts ≤ 2 ^ 62 }
+        requires up { self.old.is_down ≡ false }
+        requires ready { IsReadyForMore (V.serves self.old.vault) self.old }
+        requires known { IsTrue (V.tells self.old.vault) → IsOfJournal (V.held self.old.vault) self.old }
+        requires noted { IsNoted V.Vault self.old }
+        requires on { IsOn V.Vault self.old }
+        requires sound { IsTrue (V.tells self.old.vault) → AreLivesSound (V.held self.old.vault) self.old }
+        ensures { (from : ℕ) → IsStepAs V.Vault None self.old self.new (event.Arrive from (msg.Ready trans join ts)) result }
+    {
+        // The time of the decision is above the clock and no vote is above it.
+        let least = self.clock + 1;
+        match self.coordinator.ballot(&trans, &join, ts, least) {
+            Ballot::Dropped => Ok(self.silence()),
+            Ballot::Kept => {
+                self.coordinator.hear(&trans, &join, ts);
+                Ok(self.silence())
+            }
+            Ballot::Last { latest } => self.last_vote(trans, join, ts, latest),
+        }
+    }
+
+    // With the last vote this server votes too: its transaction is committed, or ends.
+    fn last_vote(
+        &mut self,
+        trans: TransId,
+        join: JoinNo,
+        ts: u64,
+        latest: u64,
+    ) -> Result<Answer, OutOfMemory>
+        requires last { ballot_of join ts (self.old.clock + 1) (fate_in self.old.coordinator trans) ≡ ballot.Last latest }
+        requires time { ts ≤ 2 ^ 62 }
+        requires up { self.old.is_down ≡ false }
+        requires ready { IsReadyForMore (V.serves self.old.vault) self.old }
+        requires known { IsTrue (V.tells self.old.vault) → IsOfJournal (V.held self.old.vault) self.old }
+        requires noted { IsNoted V.Vault self.old }
+        requires on { IsOn V.Vault self.old }
+        requires sound { IsTrue (V.tells self.old.vault) → AreLivesSound (V.held self.old.vault) self.old }
+        ensures { (from : ℕ) → IsStepAs V.Vault None self.old self.new (event.Arrive from (msg.Ready trans join ts)) result }
+    {
+        let _ = (trans, join, ts, latest);
         unreachable!()
     }
 }
