@@ -1,8 +1,13 @@
 //! Votes: of the parts here of other servers' transactions, and those that arrive for this server's own.
-ghost use Rattle.std.specs.Prelude.{◌≡◌, ◌+◌, ◌≤◌, ◌^◌, ℕ, List, IsTrue, Ok, None, Some, false};
+ghost use Rattle.std.specs.Prelude.{◌≡◌, ◌+◌, ◌≤◌, ◌^◌, ◌++◌, ◌∷◌, [], IfOk, OnOk, OnErr, ℕ, List, IsTrue, Ok, None, Some, false};
 ghost use Rattle.alp_journal.specs.declared.event.Event.TheVariants as event;
 ghost use Rattle.alp_journal.specs.declared.message.Message.TheVariants as msg;
-ghost use Rattle.alp_coord.specs.Coordinators.{ballot_of, fate_in};
+ghost use Rattle.alp_coord.specs.Coordinators.{IsAlong, Comes, ballot_of, fate_in};
+ghost use Rattle.alp_journal.specs.declared.act.Act.TheVariants as act;
+ghost use Rattle.alp_journal.specs.Deeds.{Ends};
+ghost use Rattle.alp_journal.specs.Ids.{has_join as has_join_said};
+ghost use Rattle.alp_node.specs.Releases.{grant_acts, granted_behind, let_go};
+ghost use Rattle.alp_node.specs.Says.{said_each};
 ghost use Rattle.alp_coord.specs.declared.answers.Ballot.TheVariants as ballot;
 ghost use Rattle.alp_node.specs.Arrivals.{join_of};
 ghost use Rattle.alp_journal.specs.Account.{Account, state_of};
@@ -10,12 +15,13 @@ ghost use Rattle.alp_journal.specs.Messages.{why_not};
 ghost use Rattle.alp_node.specs.ServerState.{IsAs, IsReadyForMore, IsOfJournal};
 ghost use Rattle.alp_vault.specs.Contents.{Contents};
 ghost use Rattle.alp_node.specs.Served.{AreLivesSound};
-ghost use Rattle.alp_node.specs.Steps.{IsStepAs, IsNoted, IsOn};
+ghost use Rattle.alp_node.specs.Steps.{IsStepAs, IsNoted, IsOn, told_answer};
 ghost use Rattle.alp_node.specs.Votes.{why_against};
 ghost use Rattle.alp_worker.specs.Lives.{join_at};
 ghost use Rattle.alp_worker.specs.declared.live.Stage.TheVariants as stage;
 
 use crate::answer::Answer;
+use crate::messages::tell_aborts;
 use crate::server_state::ServerState;
 use alp_base::{JoinNo, OutOfMemory, TransId};
 use alp_coord::Ballot;
@@ -169,4 +175,60 @@ impl<V: Vault> ServerState<V> {
         let _ = (trans, join, ts, latest);
         unreachable!()
     }
+
+    /// A part elsewhere votes against it.
+    pub(super) fn no(
+        &mut self,
+        trans: TransId,
+        join: JoinNo,
+        why: Why,
+    ) -> Result<Answer, OutOfMemory>
+        requires up { self.old.is_down ≡ false }
+        requires ready { IsReadyForMore (V.serves self.old.vault) self.old }
+        ensures { (from : ℕ) → IsStepAs V.Vault None self.old self.new (event.Arrive from (msg.No trans join why)) result }
+    {
+        if !self.coordinator.is_finishing(&trans) {
+            return Ok(self.silence());
+        }
+        let Some(client) = self.coordinator.client(&trans) else {
+            return Ok(self.silence());
+        };
+        let joins = self.joins_of(&trans)?;
+        if !has_join(&join, joins.as_slice()) {
+            return Ok(self.silence());
+        }
+        let server = join.server;
+        self.lapse(trans, client, joins.as_slice(), Cause::Voted { server, why })
+    }
+
+    // A transaction that is not decided ends: its client is to be told, and its parts elsewhere are.
+    pub(super) fn lapse(
+        &mut self,
+        trans: TransId,
+        client: u8,
+        joins: &[JoinNo],
+        cause: Cause,
+    ) -> Result<Answer, OutOfMemory>
+        requires up { self.old.is_down ≡ false }
+        requires ready { IsReadyForMore (V.serves self.old.vault) self.old }
+        ensures kept { OnOk result (self.new ≡ record (let_go self.old trans) { dead = self.old.dead ++ (record { client = client; trans = trans; cause = cause }) ∷ []; coordinator = self.new.coordinator }) }
+        ensures along { OnOk result (IsAlong self.old.coordinator self.new.coordinator) }
+        ensures ends { OnOk result ((n : ℕ) → Comes (Ends trans n cause) self.old.coordinator self.new.coordinator) }
+        ensures said { IfOk result (λ x. x ≡ told_answer None ((act.Released trans ∷ grant_acts (granted_behind self.old trans)) ++ said_each (λ j. msg.Abort trans j cause) joins.now)) }
+        ensures wanting { OnErr result (self.new ≡ self.old) }
+    {
+        let mut acts = self.released(trans, joins.len())?;
+        self.dead.add(client, trans, cause)?;
+        self.release(trans, &mut acts);
+        self.coordinator.end(&trans, cause);
+        tell_aborts(&mut acts, trans, joins, cause);
+        Ok(Answer::silence(Acts::new(acts)))
+    }
+}
+
+// Whether the join is one of them.
+fn has_join(join: &JoinNo, joins: &[JoinNo]) -> bool
+    ensures { result ≡ has_join_said join.now joins.now }
+{
+    joins.iter().any(|other| *other == *join)
 }
