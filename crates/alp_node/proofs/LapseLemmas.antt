@@ -26,6 +26,7 @@ use Rattle.alp_journal.specs.Holder.{Life, with_life}
 use Rattle.alp_journal.specs.Ids.{same_trans, has_join}
 use Rattle.alp_journal.specs.Messages.{Mail, to_each, on_no}
 use Rattle.alp_journal.specs.Moves.{is_stop, refuses}
+use Rattle.alp_journal.proofs.TimeoutLemmas.{timeout_leads}
 use Rattle.alp_journal.proofs.DecisionSteps.{no_passed_leads, no_leads}
 use Rattle.alp_coord.specs.Coordinators.{IsAlong, Comes, fate_in, is_finishing_fate}
 use Rattle.alp_coord.specs.Likeness.{IsLike, IsLikeOld, IsFateOf, is_over, standing, nothing}
@@ -48,6 +49,7 @@ use Rattle.alp_node.specs.declared.dead.DeadPart.{DeadPart}
 use Rattle.alp_node.specs.declared.lives.Live.{Live}
 use Rattle.alp_node.specs.declared.server_state.ServerState.{ServerState}
 use Rattle.alp_node.proofs.AskVotes.{each_goes_on, each_caused}
+use Rattle.alp_node.proofs.ClearLemmas.{running_told}
 use Rattle.alp_node.proofs.DeadLemmas.{dead_then}
 use Rattle.alp_node.proofs.EndingLemmas.{said_is}
 use Rattle.alp_node.proofs.GoneLemmas.{Gone, gone, state_then, server_then, let_go_is, left_as}
@@ -303,3 +305,43 @@ module _ {V : Type 0} (G : Ghosts V) (k : ServerState V) (from : ℕ) (t : Trans
       subst (λ (s : ServerState V). IsStepAs G None k s (event.Arrive from (msg.No t j w)) (Ok x)) (sym kept) (no_step x client js vs is its ready new.coordinator along ends said)
   no_lapsed new (Err f) client js vs is its ready kept along ends said wanting =
       subst (λ (s : ServerState V). IsStepAs G None k s (event.Arrive from (msg.No t j w)) (Err f)) (sym wanting) (still_wanting G k (event.Arrive from (msg.No t j w)) f)
+
+-- ---- time runs out for it
+
+-- the journal knows its parts
+pub parts_told : (epoch : ℕ) (t : TransId) (known told : Fate) (client : ℕ) → IsFateOf epoch t known told → client_of known ≡ Some client → joins_of told ≡ joins_of known
+parts_told epoch t known told client h own = go known refl own
+  where
+    go : (f : Fate) → known ≡ f → client_of known ≡ Some client → joins_of told ≡ joins_of known
+    go Undrawn is own = let wrong : None ≡ Some client = ap client_of (sym is) ∙ own in cc
+    go (fate.Running c js) is own = ap joins_of (running_told epoch t known told c js h is) ∙ ap joins_of (sym is)
+    go (Finishing c js vs) is own = ap joins_of (IsFinishingSo.is (finishing_told epoch t known told c js vs h is)) ∙ ap joins_of (sym is)
+    go (Committed s js ds) is own = let wrong : None ≡ Some client = ap client_of (sym is) ∙ own in cc
+    go (fate.Forgotten s js) is own = let wrong : None ≡ Some client = ap client_of (sym is) ∙ own in cc
+    go (fate.Ended c) is own = let wrong : None ≡ Some client = ap client_of (sym is) ∙ own in cc
+
+module _ {V : Type 0} (G : Ghosts V) (k : ServerState V) (t : TransId) (client : ℕ) (runs : client_of (fate_in k.coordinator t) ≡ Some client) (up : k.is_down ≡ false) (ready : IsReadyForMore (G.serves k.vault) k) where
+  timeout_step : (x : Answer) (z : Coordinator) → IsAlong k.coordinator z → ((n : ℕ) → Comes (Ends t n cause.TimedOut) k.coordinator z)
+      → x ≡ told_answer None ((act.Released t ∷ grant_acts (granted_behind k t)) ++ said_each (λ i. msg.Abort t i cause.TimedOut) (joins_of (fate_in k.coordinator t)))
+      → IsStepAs G None k (record (let_go k t) { dead = k.dead ++ (record { client = client; trans = t; cause = cause.TimedOut }) ∷ []; coordinator = z }) (event.Timeout t) (Ok x)
+  timeout_step x z along ends so =
+      lapse_step G k t client runs up ready cause.TimedOut z along ends (joins_of (fate_in k.coordinator t)) (event.Timeout t) x so leads (λ e. (let wrong : event.Timeout t ≡ event.Restart = e in cc)) (λ a h. tt)
+    where
+      leads : (a : Account) (h : IsAs a (G.held k.vault) k) (life : Life) → a.holder.lives t ≡ Some life → life.join ≡ None → life.client ≡ client
+          → Leads false a (record { event = event.Timeout t; reply = None; acts = (act.Released t ∷ grant_acts (granted_behind k t)) ++ said_each (λ i. msg.Abort t i cause.TimedOut) (joins_of (fate_in k.coordinator t)) })
+          (lapsed_given a (G.held k.vault) k ready.0 (G.serves k.vault) h ready.2 t client cause.TimedOut z)
+      leads a h life live part own =
+          subst (λ (acts : List Act). Leads false a (record { event = event.Timeout t; reply = None; acts = (act.Released t ∷ grant_acts (granted_behind k t)) ++ acts })
+          (lapsed_given a (G.held k.vault) k ready.0 (G.serves k.vault) h ready.2 t client cause.TimedOut z))
+          (sym (said_is (λ i. msg.Abort t i cause.TimedOut) (joins_of (fate_in k.coordinator t)) ∙ ap (λ (js : List JoinNo). sent_acts (to_each (λ (i : JoinNo). msg.Abort t i cause.TimedOut) js)) (sym (parts_told a.ids.epoch t (fate_in k.coordinator t) (a.fates t) client (h.coordinator.fates t) runs))))
+          (subst (λ (n : ℕ). Leads false a (record { event = event.Timeout t; reply = None; acts = (act.Released t ∷ grant_acts (granted_behind k t)) ++ sent_acts (to_each (λ (i : JoinNo). msg.Abort t i cause.TimedOut) (joins_of (a.fates t))) })
+          (lapsed_given a (G.held k.vault) k ready.0 (G.serves k.vault) h ready.2 t n cause.TimedOut z)) own
+          (timeout_leads a t life h.quiet (h.down ∙ up) live part (granted_behind k t) (lapsed_walk a (G.held k.vault) k ready.0 (G.serves k.vault) h ready.2 t client cause.TimedOut z)))
+
+  pub timed_out : (new : ServerState V) (r : Result Answer OutOfMemory)
+      → OnOk r (new ≡ record (let_go k t) { dead = k.dead ++ (record { client = client; trans = t; cause = cause.TimedOut }) ∷ []; coordinator = new.coordinator })
+      → OnOk r (IsAlong k.coordinator new.coordinator) → OnOk r ((n : ℕ) → Comes (Ends t n cause.TimedOut) k.coordinator new.coordinator)
+      → IfOk r (λ x. x ≡ told_answer None ((act.Released t ∷ grant_acts (granted_behind k t)) ++ said_each (λ i. msg.Abort t i cause.TimedOut) (joins_of (fate_in k.coordinator t)))) → OnErr r (new ≡ k)
+      → IsStepAs G None k new (event.Timeout t) r
+  timed_out new (Ok x) kept along ends said wanting = subst (λ (s : ServerState V). IsStepAs G None k s (event.Timeout t) (Ok x)) (sym kept) (timeout_step x new.coordinator along ends said)
+  timed_out new (Err f) kept along ends said wanting = subst (λ (s : ServerState V). IsStepAs G None k s (event.Timeout t) (Err f)) (sym wanting) (still_wanting G k (event.Timeout t) f)

@@ -4,6 +4,7 @@ ghost use Rattle.alp_journal.specs.declared.event.Event.TheVariants as event;
 ghost use Rattle.alp_journal.specs.declared.message.Message.TheVariants as msg;
 ghost use Rattle.alp_coord.specs.Coordinators.{IsAlong, Comes, ballot_of, fate_in};
 ghost use Rattle.alp_journal.specs.declared.act.Act.TheVariants as act;
+ghost use Rattle.alp_journal.specs.Coordinator.{client_of};
 ghost use Rattle.alp_journal.specs.Deeds.{Ends};
 ghost use Rattle.alp_journal.specs.Ids.{has_join as has_join_said};
 ghost use Rattle.alp_node.specs.Releases.{grant_acts, granted_behind, let_go};
@@ -199,6 +200,21 @@ impl<V: Vault> ServerState<V> {
         }
         let server = join.server;
         self.lapse(trans, client, joins.as_slice(), Cause::Voted { server, why })
+    }
+
+    /// Time runs out for a transaction of this server.
+    pub(super) fn time_out_own(
+        &mut self,
+        trans: TransId,
+        client: u8,
+    ) -> Result<Answer, OutOfMemory>
+        requires runs { client_of (fate_in self.old.coordinator trans) ≡ Some client }
+        requires up { self.old.is_down ≡ false }
+        requires ready { IsReadyForMore (V.serves self.old.vault) self.old }
+        ensures { IsStepAs V.Vault None self.old self.new (event.Timeout trans) result }
+    {
+        let joins = self.joins_of(&trans)?;
+        self.lapse(trans, client, joins.as_slice(), Cause::TimedOut)
     }
 
     // A transaction that is not decided ends: its client is to be told, and its parts elsewhere are.
