@@ -9,6 +9,7 @@ pub mod PairedLemmas
 pub mod NotedLemmas
 pub mod NoteLaw
 pub mod NoteCalls
+pub mod CommitNotes
 pub mod ClearLemmas
 pub mod OtherLemmas
 pub mod MoreJoins
@@ -55,6 +56,7 @@ pub mod CountedLemmas
 pub mod StepLemmas
 pub mod IdleLemmas
 pub mod CommitLemmas
+pub mod AloneCommits
 pub mod CallLemmas
 pub mod UnderLemmas
 pub mod IdLemmas
@@ -89,7 +91,7 @@ pub mod StopLemmas
 pub mod PastLemmas
 pub mod DownLemmas
 pub mod RaiseLemmas
-pub mod LiveLemmas
+pub mod RestLemmas
 pub mod NoteLemmas
 pub mod StoreLemmas
 pub mod StartLemmas

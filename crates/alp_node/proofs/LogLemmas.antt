@@ -10,7 +10,7 @@ use Rattle.alp_base.specs.declared.ids.TransId.{TransId}
 use Rattle.alp_fields.specs.Forms.{whole}
 use Rattle.alp_fields.specs.ClockNote.{clock_name, clock_form, is_clock_note}
 use Rattle.alp_fields.specs.declared.clock_note.ClockNote.{ClockNote}
-use Rattle.alp_fields.specs.ReadyNote.{ready_name, ready_form, ready_in, ready_with}
+use Rattle.alp_fields.specs.ReadyNote.{ready_name, ready_form, ready_with}
 use Rattle.alp_fields.specs.declared.ready_note.ReadyPart.{ReadyPart}
 use Rattle.alp_fields.specs.DecisionNote.{decision_name, decision_form, decision_in, decision_with}
 use Rattle.alp_fields.specs.declared.decision_note.Decision.{Decision}

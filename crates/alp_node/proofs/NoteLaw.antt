@@ -204,7 +204,7 @@ other_life : (h : Holder) (t u : TransId) (x : Option Life) → same_trans u t �
 other_life h t u x e = ap (λ (b : Bool). cond {A = Option Life} b x (h.lives u)) e
 
 -- the transactions differ, as one has what the other has not
-apart : (P : TransId → Type 0) (t u : TransId) → P u → (P t → ⊥) → (b : Bool) → same_trans u t ≡ b → b ≡ false
+pub apart : (P : TransId → Type 0) (t u : TransId) → P u → (P t → ⊥) → (b : Bool) → same_trans u t ≡ b → b ≡ false
 apart P t u h n true is = absurd (n (subst P (same_trans-true u t is) h))
 apart P t u h n false is = refl
 
@@ -296,7 +296,7 @@ registered_kept j (Committed x js ds) = refl
 registered_kept j (Forgotten x js) = refl
 registered_kept j (Ended c) = refl
 
-finishing_kept : (f : Fate) → decision_kept (finishing f) ≡ decision_kept f
+pub finishing_kept : (f : Fate) → decision_kept (finishing f) ≡ decision_kept f
 finishing_kept Undrawn = refl
 finishing_kept (Running c js) = refl
 finishing_kept (Finishing c js vs) = refl
@@ -437,7 +437,7 @@ deeds_say e (d ∷ ds) s free law voted =
 
 -- ---- what an entry brings about
 
-behind : (ys : List Deed) → AllByRecursion IsUnkept ys → (s : State) → Along state_deed IsUnkeptIn s ys
+pub behind : (ys : List Deed) → AllByRecursion IsUnkept ys → (s : State) → Along state_deed IsUnkeptIn s ys
 behind [] h s = tt
 behind (d ∷ ys) h s = (unkept-in s d h.0, behind ys h.1 (state_deed s d))
 
@@ -469,7 +469,7 @@ module _ (s : State) (e : Event) where
   grants_free t None = tt
   grants_free t (Some c) = (tt, tt)
 
-  acts_free : (acts : List Act) → list_any is_write acts ≡ false → AllByRecursion IsUnkept (flat_map (act_deeds s e) acts)
+  pub acts_free : (acts : List Act) → list_any is_write acts ≡ false → AllByRecursion IsUnkept (flat_map (act_deeds s e) acts)
   acts_free [] n = tt
   acts_free (act.Granted t ∷ acts) n = all-append IsUnkept (grants_to t (asks_for s e t (s.holder.lives t))) (flat_map (act_deeds s e) acts) (grants_free t (asks_for s e t (s.holder.lives t))) (acts_free acts n)
   acts_free (act.Drawn t ∷ acts) n = all-append IsUnkept (begins_at s e t) (flat_map (act_deeds s e) acts) (begins_free e t) (acts_free acts n)

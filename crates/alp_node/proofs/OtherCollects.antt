@@ -1,5 +1,5 @@
 -- Joins and Finishes that are collected
-use Rattle.std.specs.Prelude.{cond, Bool, true, false, not, ◌==◌, ◌&&◌, find, Option, None, Some, is_some, is_none, IsSome}
+use Rattle.std.specs.Prelude.{cond, Bool, true, false, not, ◌==◌, ◌&&◌, ◌||◌, find, IsTrue, Ok, Option, None, Some, is_some, is_none, IsSome}
 use Rattle.std.specs.List.{AllByRecursion}
 use Rattle.std.specs.Option.{option_map}
 use Rattle.std.specs.FinMap.Entries as entries
@@ -18,8 +18,10 @@ use Rattle.alp_files.specs.declared.reply.Ended.TheVariants as ending
 use Rattle.alp_files.specs.declared.reply.Reply.{Reply}
 use Rattle.alp_files.specs.declared.reply.Reply.TheVariants as reply
 use Rattle.alp_vault.specs.Contents.{Contents}
+use Rattle.alp_vault.specs.declared.vault.Vault.{Ghosts}
 use Rattle.alp_journal.specs.declared.event.Event.TheVariants as event
 use Rattle.alp_journal.specs.Account.{Account, state_of, Leads, IsQuiet, IsFateOf as IsToldFate}
+use Rattle.alp_journal.specs.Answered.{is_read_fault}
 use Rattle.alp_journal.specs.Answers.{Part, NoPart, AtJoining, AtWork, AtFinish, AtReady, AtEnd, part_at, join_collected, finish_collected}
 use Rattle.alp_journal.specs.Coordinator.{Fate, Undrawn, Running, Finishing, Committed, Forgotten, Ended, decision_in}
 use Rattle.alp_journal.specs.Desk.{Session, Waiting, file_trans, part_trans, waiting_at, without}
@@ -37,15 +39,19 @@ use Rattle.alp_locks.proofs.SoundLemmas.{each-filter, each-more}
 use Rattle.alp_turns.specs.Queues.{request_at, queue_of}
 use Rattle.alp_turns.proofs.MoveLemmas.{GoesIdle, queue_without}
 use Rattle.alp_node.specs.Dead.{cause_in}
+use Rattle.alp_node.specs.Halts.{says_shut}
+use Rattle.alp_node.specs.Outcomes.{stamp_if}
 use Rattle.alp_node.specs.ServerState.{IsAs, IsReady, IsWaitingAs}
 use Rattle.alp_node.specs.Standings.{standing_of}
-use Rattle.alp_node.specs.Steps.{Stepped, IsTurn, counted_in, told_answer, refused_answer}
+use Rattle.alp_node.specs.Steps.{Stepped, IsStep, IsTurn, counted_in, told_answer, refused_answer}
+use Rattle.alp_node.specs.Turns.{HasTurned, IsKeepable}
 use Rattle.alp_node.specs.Waits.{waiting, waiting_calls, is_at, is_other_at, call_at, finish_trans, join_trans, without_other_at, IsCurrent, IsNamed, IsCallBy, IsWaitingCall}
 use Rattle.alp_node.specs.declared.answer.Answer.{Answer}
 use Rattle.alp_node.specs.declared.lock_counts.LockCounts.{LockCounts}
 use Rattle.alp_node.specs.declared.served.Standing.{Standing}
 use Rattle.alp_node.specs.declared.served.Standing.TheVariants as standing
 use Rattle.alp_node.specs.declared.server_state.ServerState.{ServerState}
+use Rattle.alp_node.specs.declared.sessions.CallOrder.TheVariants as order
 use Rattle.alp_node.specs.declared.sessions.Turn.{Turn}
 use Rattle.alp_node.specs.declared.waits.WaitingCall.{WaitingCall}
 use Rattle.alp_node.proofs.BesideLemmas.{AreNamed, at_told, filter_told}
@@ -54,7 +60,9 @@ use Rattle.alp_node.proofs.KeptLemmas.{session_of, session_then, sessions_as, st
 use Rattle.alp_node.proofs.MapLemmas.{places_set}
 use Rattle.alp_node.proofs.NoteCalls.{call_notes}
 use Rattle.alp_node.proofs.OutcomeLemmas.{outcome_of, ending_here, ending_said, known_is}
+use Rattle.alp_node.proofs.ReadyLemmas.{counted_ready, without_other_ready}
 use Rattle.alp_node.proofs.StandingLemmas.{IsPartFor, part_told, ended_told}
+use Rattle.alp_node.proofs.StepLemmas.{plain_step}
 use Rattle.alp_node.proofs.WaitLemmas.{find_each, named_all}
 
 -- ---- which call it is
@@ -84,23 +92,17 @@ module _ {V : Type 0} (a : Account) (held : Contents) (k : ServerState V) (t : T
   abbrev told_ending : Fate → Ending
   told_ending f = ending_of (state_of a) t f
 
-  stamp_in : Ending → Option Stamp
-  stamp_in (ending.Committed x) = Some x
-  stamp_in e = None
+  stamp_same : (p q : Stamp × List JoinNo) → Some p ≡ Some q → p.0 ≡ q.0
+  stamp_same p q e = ap (λ (o : Option (Stamp × List JoinNo)). first o) e
+    where
+      first : Option (Stamp × List JoinNo) → Stamp
+      first None = p.0
+      first (Some z) = z.0
 
   committed_now : (stamp : Stamp) (js : List JoinNo) (f : Fate) → decision_in f ≡ Some (stamp, js) → told_ending f ≡ ending.Committed stamp
-  committed_now stamp js (Committed x [] ds) e = ap (λ (b : Bool). cond {A = Ending} b (ending.Committed x) ending.Unknown) of_now ∙ ap ending.Committed (first_of e)
-    where
-      first_of : Some (x, []) ≡ Some (stamp, js) → x ≡ stamp
-      first_of e = cc
-  committed_now stamp js (Committed x (i ∷ is) ds) e = ap ending.Committed (first_of e)
-    where
-      first_of : Some (x, i ∷ is) ≡ Some (stamp, js) → x ≡ stamp
-      first_of e = cc
-  committed_now stamp js (Forgotten x ks) e = ap (λ (b : Bool). cond {A = Ending} b (ending.Committed x) ending.Unknown) of_now ∙ ap ending.Committed (first_of e)
-    where
-      first_of : Some (x, ks) ≡ Some (stamp, js) → x ≡ stamp
-      first_of e = cc
+  committed_now stamp js (Committed x [] ds) e = ap (λ (b : Bool). cond {A = Ending} b (ending.Committed x) ending.Unknown) of_now ∙ ap ending.Committed (stamp_same (x, []) (stamp, js) e)
+  committed_now stamp js (Committed x (i ∷ is) ds) e = ap ending.Committed (stamp_same (x, i ∷ is) (stamp, js) e)
+  committed_now stamp js (Forgotten x ks) e = ap (λ (b : Bool). cond {A = Ending} b (ending.Committed x) ending.Unknown) of_now ∙ ap ending.Committed (stamp_same (x, ks) (stamp, js) e)
   committed_now stamp js Undrawn e = let wrong : None ≡ Some (stamp, js) = e in cc
   committed_now stamp js (Running c ks) e = let wrong : None ≡ Some (stamp, js) = e in cc
   committed_now stamp js (Finishing c ks vs) e = let wrong : None ≡ Some (stamp, js) = e in cc
@@ -334,3 +336,37 @@ module _ {V : Type 0} (a : Account) (before now : ℕ) (held : Contents) (k : Se
           stays (reply.Refused refusal.NotYet) x
           (collect_finish_waits_leads a turn.client turn.number s n (waiting w) t f.0 f.1 owes
           (uncommitted_told a held k t h current none (a.dead turn.client t) (reply.Refused refusal.NotYet) (ap (λ (d : Option Cause). finish_collected d Undrawn) (h.dead turn.client t ∙ dead)))) so
+
+-- ---- a step by which the call waits no more
+
+pub collected_step : {V : Type 0} (G : Ghosts V) (k new : ServerState V) (turn : Turn) (number : ℕ) (r : Reply) (x : Answer) → IsTurn k.sessions turn → k.is_down ≡ false → IsKeepable k.clock r → (is_read_fault (Some r) || says_shut (Some r)) ≡ false
+    → new ≡ record k { waits = without_other_at turn.client number k.waits; sessions = counted_in k.sessions turn r } → x ≡ told_answer (Some r) []
+    → (IsTrue (G.tells k.vault) → (a : Account) → IsAs a (G.held k.vault) k
+    → Stepped a (G.faults k.vault) (G.faults k.vault) (G.held k.vault) (record k { waits = without_other_at turn.client number k.waits; sessions = counted_in k.sessions turn r }) (event.Call turn.client k.epoch turn.number (call.Collect number)) x)
+    → HasTurned (Some order.Next) k (record k { waits = without_other_at turn.client number k.waits; sessions = counted_in k.sessions turn r }) (event.Call turn.client k.epoch turn.number (call.Collect number)) (Some r)
+    → IsStep G k new (event.Call turn.client k.epoch turn.number (call.Collect number)) (Ok x)
+collected_step {V} G k new turn number r x is up keeps quiet kept so steps turned =
+    let after : ServerState V = record k { waits = without_other_at turn.client number k.waits; sessions = counted_in k.sessions turn r } in
+    subst (λ (y : ServerState V). IsStep G k y (event.Call turn.client k.epoch turn.number (call.Collect number)) (Ok x)) (sym kept)
+    (plain_step G k after turn (call.Collect number) x r [] refl refl refl refl refl up up (λ notes h. h) quiet so refl (λ before now allowance. tt)
+    (λ m h. counted_ready m (G.serves k.vault) (record k { waits = without_other_at turn.client number k.waits }) turn r is keeps (without_other_ready m (G.serves k.vault) k turn.client number h))
+    steps turned)
+
+-- ---- the stamp of a decision
+
+pub stamp_some : (x : Option Ending) (stamp : Stamp) → stamp_if x ≡ Some stamp → x ≡ Some (ending.Committed stamp)
+stamp_some None stamp e = let wrong : None ≡ Some stamp = e in cc
+stamp_some (Some (ending.Committed s)) stamp e = ap (λ (o : Option Stamp). Some (ending.Committed (or_else o))) e
+  where
+    or_else : Option Stamp → Stamp
+    or_else None = s
+    or_else (Some z) = z
+stamp_some (Some ending.Running) stamp e = let wrong : None ≡ Some stamp = e in cc
+stamp_some (Some ending.Aborted) stamp e = let wrong : None ≡ Some stamp = e in cc
+stamp_some (Some ending.Unknown) stamp e = let wrong : None ≡ Some stamp = e in cc
+
+pub stamp_none : (x : Option Ending) → stamp_if x ≡ None → (stamp : Stamp) → x ≡ Some (ending.Committed stamp) → ⊥
+stamp_none x none stamp e = no (sym (ap stamp_if e) ∙ none)
+  where
+    no : Some stamp ≡ None → ⊥
+    no e = cc

@@ -384,13 +384,13 @@ runs_counts (Forgotten s js) n e = let wrong : None ≡ Some n = e in cc
 runs_counts (Ended c) n e = let wrong : None ≡ Some n = e in cc
 
 -- those that count
-abbrev counted_list : Coordinator → List TransId
+abbrev pub counted_list : Coordinator → List TransId
 counted_list c = filter (λ t. is_counted (fate_in c t)) (open_ids c)
 
 counted_once : (c : Coordinator) → AreIdsOnce (counted_list c)
 counted_once c = once_passing (λ t. is_counted (fate_in c t)) (open_ids c) (rising_once (open_ids c) (keys_rise c.courses))
 
-counted_there : (c : Coordinator) (t : TransId) → is_counted (fate_in c t) ≡ true → has_trans t (counted_list c) ≡ true
+pub counted_there : (c : Coordinator) (t : TransId) → is_counted (fate_in c t) ≡ true → has_trans t (counted_list c) ≡ true
 counted_there c t counts = passing_there (λ u. is_counted (fate_in c u)) t (open_ids c) counts (go (has_trans t (open_ids c)) refl)
   where
     go : (b : Bool) → has_trans t (open_ids c) ≡ b → b ≡ true

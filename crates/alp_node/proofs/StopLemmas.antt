@@ -2,13 +2,12 @@
 use Rattle.std.specs.Prelude.{Bool, IsTrue}
 use Rattle.std.proofs.Common.{◌≡◌, ℕ, ◌∙◌, length, refl, sym, ap, subst}
 use Rattle.alp_base.specs.Crashes.{SameOutcomes}
-use Rattle.alp_fields.specs.ClockNote.{clock_kept}
 use Rattle.alp_vault.specs.Contents.{Contents}
 use Rattle.alp_vault.specs.Vault.{IsSameVault}
-use Rattle.alp_vault.specs.Volumes.{AreNotesSoFar}
 use Rattle.alp_vault.specs.declared.vault.Vault.{Ghosts}
 use Rattle.alp_node.specs.Durable.{IsDurable}
 use Rattle.alp_node.specs.NodeStates.{NodeState}
+use Rattle.alp_node.specs.Noted.{AreNotesFor}
 use Rattle.alp_node.specs.Nodes.{IsConsistent, IsRight, state_of, start_in}
 use Rattle.alp_node.specs.ServerState.{IsReady}
 use Rattle.alp_node.specs.declared.server_state.ServerState.{ServerState}

@@ -1,6 +1,8 @@
 pub mod Sessions
 pub mod Orders
 pub mod Noted
+pub mod Opens
+pub mod Outcomes
 pub mod Durable
 pub mod Paired
 pub mod Transactions

@@ -1,13 +1,10 @@
 -- A server and its journal.
-use Rattle.std.specs.Prelude.{◌≡◌, ℕ, ◌<◌, ◌≤◌, ◌||◌, slice_get, Bool, true, false, IsTrue, List, [], ◌∷◌, ◌++◌, length, flat_map, Option, Some, is_some, is_none, IsSome, ◌↔◌}
+use Rattle.std.specs.Prelude.{◌≡◌, ℕ, ◌<◌, ◌≤◌, ◌||◌, Bool, true, false, IsTrue, List, [], ◌∷◌, ◌++◌, length, flat_map, Option, Some, is_some}
 use Rattle.std.specs.FinMap as map
-use Rattle.std.specs.List.{list_any, AllByRecursion, Contains}
-use Rattle.std.specs.List.Sorted.{IsStrictlySortedBy}
+use Rattle.std.specs.List.{list_any, AllByRecursion}
 use Rattle.alp_base.specs.Causes.{Rose}
 use Rattle.alp_base.specs.declared.allowance.Allowance.{Allowance}
 use Rattle.alp_base.specs.declared.faults.Sizes.{Sizes}
-use Rattle.alp_base.specs.declared.ids.TransId.{TransId}
-use Rattle.alp_base.specs.Orders.{trans_cmp}
 use Rattle.alp_files.specs.Apart.{AreSized}
 use Rattle.alp_files.specs.Sound.{AreSound}
 use Rattle.alp_files.specs.declared.reply.Reply.{Reply}
@@ -142,18 +139,3 @@ HasRoom n = length n.journal < entries_limit
 
 abbrev pub IsFull : {V : Type 0} → NodeState V → Type 0
 IsFull n = entries_limit ≤ length n.journal
-
--- these are the transactions that are live, least id first
-pub record AreLive (s : State) (ts : List TransId) : Type 0 where
-  pub rise : IsStrictlySortedBy trans_cmp ts
-  pub live : (t : TransId) → Contains ts t ↔ IsSome (s.holder.lives t)
-
--- the first of those that are live, if one is
-pub record IsLeastLive (s : State) (x : Option TransId) : Type 0 where
-  pub all : List TransId
-  pub live : AreLive s all
-  pub first : x ≡ slice_get all 0
-
--- it tells whether none is live
-abbrev pub IsNoneLive : Bool → State → Type 0
-IsNoneLive none s = (x : Option TransId) × IsLeastLive s x × (none ≡ is_none x)

@@ -1,10 +1,11 @@
 //! Calls that waited are collected.
-ghost use Rattle.std.specs.Prelude.{◌≡◌, ◌+◌, ◌<◌, ◌≤◌, ◌^◌, [], IsTrue, Ok, Some, true, false, is_some, IfSome};
+ghost use Rattle.std.specs.Prelude.{◌≡◌, ◌+◌, ◌<◌, ◌≤◌, ◌^◌, [], IsTrue, Ok, None, Some, true, false, is_some, IfSome};
 ghost use Rattle.std.specs.FinMap as map;
 ghost use Rattle.alp_files.specs.declared.call.Call.TheVariants as calls;
 ghost use Rattle.alp_journal.specs.declared.event.Event.TheVariants as event;
 ghost use Rattle.alp_locks.specs.Sound.{IsPrepared};
 ghost use Rattle.alp_node.specs.Asks.{count_made, with_made};
+ghost use Rattle.alp_node.specs.Outcomes.{stamp_in as stamp_in_said, stamp_of as stamp_of_said};
 ghost use Rattle.alp_node.specs.ServerState.{IsReadyForMore, IsOfJournal};
 ghost use Rattle.alp_node.specs.Served.{AreLivesSound};
 ghost use Rattle.alp_files.specs.declared.reply.Reply.TheVariants as reply;
@@ -88,13 +89,35 @@ impl<V: Vault> ServerState<V> {
         requires ready { IsReadyForMore (V.serves self.old.vault) self.old }
         ensures { IsStep V.Vault self.old self.new (event.Call turn.now.client self.old.epoch turn.now.number (calls.Collect number)) (Ok result) }
     {
-        if let Some(Ended::Committed { stamp }) = self.coordinator.outcome(&trans) {
-            return self.collect_committed(turn, number, stamp);
+        match self.stamp_of(&trans) {
+            Some(stamp) => self.collect_committed(turn, number, stamp),
+            None => self.collect_undecided(turn, number, trans),
         }
+    }
+
+    // It is not decided.
+    fn collect_undecided(&mut self, turn: &Turn, number: u32, trans: TransId) -> Answer
+        requires turn { IsTurn self.old.sessions turn.now }
+        requires waiting { HasOtherAt finish_trans turn.now.client number trans self.old.waits }
+        requires none { stamp_of_said self.old trans ≡ None }
+        requires up { self.old.is_down ≡ false }
+        requires ready { IsReadyForMore (V.serves self.old.vault) self.old }
+        ensures { IsStep V.Vault self.old self.new (event.Call turn.now.client self.old.epoch turn.now.number (calls.Collect number)) (Ok result) }
+    {
         match self.dead.cause(turn.client, &trans) {
             Some(cause) => self.refuse(turn, Refusal::Aborted { cause }),
             None => self.refuse(turn, Refusal::NotYet),
         }
+    }
+
+    // When the transaction was decided, if it was.
+    fn stamp_of(&self, trans: &TransId) -> Option<Stamp>
+        ensures { result ≡ stamp_of_said self.now trans.now }
+    {
+        let Some(ended) = self.coordinator.outcome(trans) else {
+            return None;
+        };
+        stamp_in(ended)
     }
 
     // A Join: it is answered once the part was let in, or has ended.
@@ -187,6 +210,17 @@ impl<V: Vault> ServerState<V> {
         if let Some(made) = made {
             self.locks.take(made);
         }
+    }
+}
+
+fn stamp_in(ended: Ended) -> Option<Stamp>
+    ensures { result ≡ stamp_in_said ended }
+{
+    match ended {
+        Ended::Committed { stamp } => Some(stamp),
+        Ended::Aborted => None,
+        Ended::Running => None,
+        Ended::Unknown => None,
     }
 }
 

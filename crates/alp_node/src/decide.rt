@@ -13,7 +13,7 @@ ghost use Rattle.alp_node.specs.Served.{AreLivesSound};
 ghost use Rattle.alp_node.specs.ServerState.{IsAs, IsReadyForMore, IsOfJournal};
 ghost use Rattle.alp_node.specs.Steps.{IsOn};
 ghost use Rattle.alp_node.specs.Votes.{own_why, why_against};
-ghost use Rattle.alp_node.specs.Writes.{IsPending, HasLogFor, HasMade, HasNone, KeepsPlaces, WasDecided, Writes};
+ghost use Rattle.alp_node.specs.Writes.{FitDecision, IsPending, HasLogFor, HasMade, HasNone, KeepsPlaces, WasDecided, Writes, decision_changes};
 ghost use Rattle.alp_node.specs.declared.lives.Live.{Live as ALive};
 
 use crate::server_state::ServerState;
@@ -49,6 +49,35 @@ fn decision_act(alloc: Global, stamp: Stamp, joins: &[JoinNo]) -> Result<Act, Ou
 {
     let parts = Parts::new(Vec::from_slice(alloc, joins)?);
     Ok(Act::Decided { stamp, parts })
+}
+
+// The notes that change with it: the clock, and a note of it where it has parts elsewhere.
+fn decision_notes(
+    alloc: Global,
+    epoch: u32,
+    stamp: Stamp,
+    joins: &[JoinNo],
+) -> Result<Vec<NoteChange>, OutOfMemory>
+    requires time { stamp.ts ≤ 2 ^ 62 }
+    requires few { length joins.now ≤ 7 }
+    ensures notes { IfOk result (λ v. v.items ≡ decision_changes epoch stamp joins.now) }
+    ensures fits { OnOk result (FitDecision stamp joins.now) }
+{
+    let clock = ClockNote {
+        epoch,
+        clock: stamp.ts,
+    };
+    let mut notes = Vec::with_capacity(alloc, 2)?;
+    notes.push_reserved(clock_change(alloc, clock)?);
+    if joins.is_empty() {
+        return Ok(notes);
+    }
+    let kept = Decision {
+        ts: stamp.ts,
+        joins: JoinList::new(Vec::from_slice(alloc, joins)?),
+    };
+    notes.push_reserved(decision_change(alloc, stamp.trans, &kept)?);
+    Ok(notes)
 }
 
 impl<V: Vault> ServerState<V> {
@@ -128,19 +157,7 @@ impl<V: Vault> ServerState<V> {
         requires few { length joins.now ≤ 7 }
         ensures { IfOk result (λ p. IsPending self.now stamp joins.now p) }
     {
-        let clock = ClockNote {
-            epoch: self.epoch,
-            clock: stamp.ts,
-        };
-        let mut notes = Vec::with_capacity(self.alloc, 2)?;
-        notes.push_reserved(clock_change(self.alloc, clock)?);
-        if !joins.is_empty() {
-            let kept = Decision {
-                ts: stamp.ts,
-                joins: JoinList::new(Vec::from_slice(self.alloc, joins)?),
-            };
-            notes.push_reserved(decision_change(self.alloc, stamp.trans, &kept)?);
-        }
+        let notes = decision_notes(self.alloc, self.epoch, stamp, joins)?;
         let mut acts = Vec::with_capacity(self.alloc, self.locks.waiters() + 2 + joins.len())?;
         acts.push_reserved(decision_act(self.alloc, stamp, joins)?);
         acts.push_reserved(Act::Released { trans: stamp.trans });

@@ -1,7 +1,6 @@
 //! A server with its journal.
-ghost use Rattle.std.specs.Prelude.{◌≡◌, ◌+◌, ◌≤◌, max, IsTrue, List, [], ◌∷◌, ◌++◌, IfOk, OnErr, MatchResult, Ok, Some, ◌↔◌, true, false, length, slice_get};
-ghost use Rattle.std.specs.FinMap as map;
-ghost use Rattle.std.specs.List.Sorted.{IsStrictlySortedBy};
+ghost use Rattle.std.specs.Prelude.{◌≡◌, ◌+◌, ◌≤◌, max, IsTrue, List, [], ◌∷◌, ◌++◌, IfOk, OnErr, MatchResult, Ok, Some, true, false, if◌then◌else◌};
+ghost use Rattle.std.specs.Ordering.{is_lt};
 ghost use Rattle.alp_base.specs.Orders.{trans_cmp};
 ghost use Rattle.alp_files.specs.declared.refusal.Refusal.TheVariants as refusal;
 ghost use Rattle.alp_files.specs.declared.reply.Reply.TheVariants as reply;
@@ -13,7 +12,8 @@ ghost use Rattle.alp_base.specs.Allowances.{Sets};
 ghost use Rattle.alp_base.specs.Crashes.{SameOutcomes, Adds};
 ghost use Rattle.alp_vault.specs.Vault.{IsSameVault};
 ghost use Rattle.alp_node.specs.Durable.{Leaves, IsSettled, HeldOr, IsSaidThen};
-ghost use Rattle.alp_node.specs.Nodes.{IsConsistent, Answered, AreLive, IsLeastLive, IsNoneLive, HasNoEntry, HasRoom, IsFull, state_of, start_in};
+ghost use Rattle.alp_node.specs.Nodes.{IsConsistent, Answered, HasNoEntry, HasRoom, IsFull, state_of, start_in};
+ghost use Rattle.alp_node.specs.Opens.{IsLeastOpen, IsRestOf, lesser_if};
 ghost use Rattle.alp_node.specs.Orders.{order_in};
 ghost use Rattle.alp_node.specs.Served.{IsServed, AreLivesSound};
 ghost use Rattle.alp_node.specs.Steps.{IsEntered, IsNoted, IsOn, IsSeated, seen_in};
@@ -148,31 +148,20 @@ impl<V: Vault> Node<V> {
         self.kept.coordinator.count()
     }
 
-    /// The transactions that are live, least id first.
-    pub fn live(&self, alloc: Global) -> Result<Vec<TransId>, OutOfMemory>
-        ensures live { IsTrue (V.tells self.now.kept.vault) → IfOk result (λ v. AreLive (state_of (start_in V.Vault self.now) self.now.journal) v.items) }
-        ensures few { IfOk result (λ v. length v.items ≤ length self.now.journal) }
-        ensures kept { IfOk result (λ v. v.items ≡ map.keys self.now.kept.lives) }
-        ensures rising { IfOk result (λ v. IsStrictlySortedBy trans_cmp v.items) }
+    /// The least transaction that runs here, or has a part here that did not vote, if there is one.
+    pub fn open_part(&self) -> Result<Option<TransId>, OutOfMemory>
+        ensures { IsTrue (V.tells self.now.kept.vault) → IfOk result (IsLeastOpen (state_of (start_in V.Vault self.now) self.now.journal)) }
     {
-        self.kept.lives.ids(alloc)
+        let own = self.kept.coordinator.least_running()?;
+        Ok(lesser(own, self.kept.joins.least_open()))
     }
 
-    /// The least transaction that is live, if there is one.
-    pub fn open_part(&self) -> Option<TransId>
-        ensures live { IsTrue (V.tells self.now.kept.vault) → IsLeastLive (state_of (start_in V.Vault self.now) self.now.journal) result }
-        ensures kept { result ≡ slice_get (map.keys self.now.kept.lives) 0 }
-        ensures rising { IsStrictlySortedBy trans_cmp (map.keys self.now.kept.lives) }
+    /// Whether no part lives here, none is ready, and no decision stands.
+    pub fn is_settled(&self) -> Result<bool, OutOfMemory>
+        ensures { IsTrue (V.tells self.now.kept.vault) → IfOk result (λ rests. IsRestOf rests (state_of (start_in V.Vault self.now) self.now.journal)) }
     {
-        self.kept.lives.least()
-    }
-
-    /// Whether no transaction is live. A server that runs alone has no ready notes and no decision notes.
-    pub fn is_settled(&self) -> bool
-        ensures live { IsTrue (V.tells self.now.kept.vault) → IsNoneLive result (state_of (start_in V.Vault self.now) self.now.journal) }
-        ensures kept { (result ≡ true) ↔ (self.now.kept.lives ≡ map.empty) }
-    {
-        self.kept.lives.least().is_none()
+        let counted = self.kept.coordinator.counted()?;
+        Ok(counted == 0 && self.kept.lives.least().is_none())
     }
 
     /// Lets so many further changing calls of its vault pass, or all of them.
@@ -208,6 +197,26 @@ impl<V: Vault> Node<V> {
         let ServerState { vault, .. } = kept;
         (opening, vault, journal)
     }
+}
+
+// The lesser of two, or the one that there is.
+fn lesser(one: Option<TransId>, other: Option<TransId>) -> Option<TransId>
+    ensures { result ≡ lesser_if one other }
+{
+    match (one, other) {
+        (Some(a), Some(b)) => Some(least_of(a, b)),
+        (Some(a), None) => Some(a),
+        (None, b) => b,
+    }
+}
+
+fn least_of(a: TransId, b: TransId) -> TransId
+    ensures { result ≡ (if is_lt (trans_cmp b a) then b else a) }
+{
+    if b.cmp(&a).is_lt() {
+        return b;
+    }
+    a
 }
 
 // Answers an event whose entry has its place: it is filled, or taken back where there is no memory.

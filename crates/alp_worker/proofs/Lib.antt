@@ -6,4 +6,4 @@ mod DrawLemmas
 mod RegainLemmas
 mod RoomLemmas
 mod OrderLemmas
-mod LeastLemmas
+pub mod LeastLemmas
