@@ -17,7 +17,7 @@ use Rattle.alp_journal.specs.declared.event.Event.TheVariants as event
 use Rattle.alp_journal.specs.declared.message.Message.{Message}
 use Rattle.alp_journal.specs.declared.message.Message.TheVariants as msg
 use Rattle.alp_journal.specs.Account.{Account, state_of, sent_acts, Leads}
-use Rattle.alp_journal.specs.Answered.{is_stop}
+use Rattle.alp_journal.specs.Moves.{is_stop}
 use Rattle.alp_journal.specs.Coordinator.{Fate, Running, client_of}
 use Rattle.alp_journal.specs.Deeds.{Finishes}
 use Rattle.alp_journal.specs.Desk.{Session, Waiting, waiting_of}

@@ -1,5 +1,5 @@
 -- a join that was let in is over, and what its part held is given on
-use Rattle.std.specs.Prelude.{cond, Bool, true, false, not, ◌==◌, ◌&&◌, Option, None, Some, Result, Ok}
+use Rattle.std.specs.Prelude.{cond, Bool, true, false, not, nat_le, nat_lt, ◌-◌, ◌==◌, ◌&&◌, Option, None, Some, Result, Ok}
 use Rattle.std.specs.FinMap as map
 use Rattle.std.specs.List.{list_any}
 use Rattle.std.proofs.Common.{◌≡◌, ℕ, ◌+◌, ◌≤◌, List, [], ◌∷◌, ◌++◌, append-nil, refl, sym, ◌∙◌, ap, subst, arith, le_refl}
@@ -32,7 +32,11 @@ use Rattle.alp_journal.specs.declared.act.Act.{Act}
 use Rattle.alp_journal.specs.declared.act.Act.TheVariants as act
 use Rattle.alp_journal.specs.declared.message.Message.TheVariants as msg
 use Rattle.alp_journal.specs.Deeds.{Aborts, Quits}
-use Rattle.alp_journal.specs.Messages.{why_not}
+use Rattle.alp_journal.specs.Messages.{clock_end, no_room, full_or, first_why, why_not}
+use Rattle.alp_files.specs.declared.refusal.Why.TheVariants as why
+use Rattle.alp_worker.specs.Rooms.{room_for}
+use Rattle.alp_node.specs.Votes.{why_against}
+use Rattle.alp_node.specs.Waits.{has_waiting}
 use Rattle.alp_files.specs.declared.refusal.Cause.TheVariants as cause
 use Rattle.alp_files.specs.declared.refusal.Why.{Why}
 use Rattle.alp_node.specs.Says.{said_if, is_away, said_to}
@@ -52,7 +56,7 @@ use Rattle.alp_node.proofs.NoteLaw.{is_write, AbortsNoVote, notes_stay}
 use Rattle.alp_node.proofs.SayLemmas.{away_told, said_step, said_goes_on, said_caused, silent_stepped}
 use Rattle.alp_node.proofs.SingleLemmas.{same_number, is_its}
 use Rattle.alp_node.specs.Durable.{AreNotesOf}
-use Rattle.alp_node.specs.Noted.{AreNoted, AreNotesFor, HasReadyRoom, ready_room}
+use Rattle.alp_node.specs.Noted.{AreNoted, AreNotesFor, HasReadyRoom, ready_room, size_in}
 use Rattle.alp_node.specs.Paired.{is_in, IsPartOf, IsPairedWith, HasPart, ArePaired}
 use Rattle.alp_node.specs.Releases.{granted_behind, let_go}
 use Rattle.alp_node.specs.ServerState.{IsAs, IsReady, IsReadyForMore}
@@ -353,6 +357,26 @@ aborted_active_step G k from j t client who found up ready c js js_is deed x so 
     (λ a h.
         (let b : IsHeldBy G k j t client who found up ready c (λ (l : LiveJoin). same_trans t l.trans) (same_trans-itself t) js js_is a = held_by G k j t client who found up ready c (λ (l : LiveJoin). same_trans t l.trans) (same_trans-itself t) js js_is a h in
         ap is_ready b.phase))
+
+-- a vote against a commit never says that a read failed
+pub may_against : {V : Type 0} (k : ServerState V) (client : ℕ) (t : TransId) (j : JoinNo) (w : Why) → why_against k client t ≡ Some w → MaySay (msg.No t j w)
+may_against k client t j w is = first (has_waiting client t k.waits) (nat_le clock_end k.clock) is
+  where
+    full : (x : Option Why) → ((v : Why) → x ≡ Some v → MaySay (msg.No t j v)) → full_or false x ≡ Some w → MaySay (msg.No t j w)
+    full None may e = absurd (let wrong : ◌≡◌ {A = Option Why} None (Some w) = e in cc)
+    full (Some v) may e = may w e
+
+    room : (area before after : ℕ) (v : Why) → no_room area before after ≡ Some v → MaySay (msg.No t j v)
+    room area before after v e = go (nat_lt area after) e
+      where
+        go : (b : Bool) → cond {A = Option Why} b (Some (why.LogFull (area - before) (after - before))) None ≡ Some v → MaySay (msg.No t j v)
+        go true e = subst (λ (u : Why). MaySay (msg.No t j u)) (same_some (why.LogFull (area - before) (after - before)) v e) tt
+        go false e = absurd (let wrong : ◌≡◌ {A = Option Why} None (Some v) = e in cc)
+
+    first : (b d : Bool) → first_why false b d (room_for k.sizes.area (ready_room k.lives k.joins.lives) (size_in k.lives t)) ≡ Some w → MaySay (msg.No t j w)
+    first true d e = subst (λ (u : Why). MaySay (msg.No t j u)) (same_some why.Waiting w e) tt
+    first false true e = subst (λ (u : Why). MaySay (msg.No t j u)) (same_some why.ClockEnd w e) tt
+    first false false e = full (room_for k.sizes.area (ready_room k.lives k.joins.lives) (size_in k.lives t)) (λ v is. room _ _ _ v is) e
 
 -- asked for its vote, which is against the commit
 pub against_step : {V : Type 0} (G : Ghosts V) (k : ServerState V) (from : ℕ) (j : JoinNo) (t : TransId) (client : ℕ) (who : List ℕ) (found : join_of t (join_at k.joins.lives j) ≡ Some (record { join = j; trans = t; client = client; stage = stage.Active who })) → k.is_down ≡ false

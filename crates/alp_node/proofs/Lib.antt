@@ -25,6 +25,8 @@ pub mod JoinEnds
 pub mod SingleLemmas
 pub mod QuitLemmas
 pub mod HoldingLemmas
+pub mod HeardLemmas
+pub mod LapseLemmas
 pub mod SayLemmas
 pub mod ArrivalLemmas
 pub mod CountLemmas

@@ -140,8 +140,11 @@ word_step G k e x to m up so may leads =
     told_step G k e x (said_to k to m) up so (said_goes_on (is_away k to) to m) (said_caused (is_away k to) to m may) leads
 
 -- where memory was wanting all is as before
-pub said_or_wanting : {V : Type 0} (G : Ghosts V) (k : ServerState V) (e : Event) (P : Answer → Type 0) (r : Result Answer OutOfMemory) → IfOk r P → ((x : Answer) → P x → IsStepAs G None k k e (Ok x)) → IsStepAs G None k k e r
-said_or_wanting G k e P (Ok x) h step = step x h
-said_or_wanting G k e P (Err f) h step =
+pub still_wanting : {V : Type 0} (G : Ghosts V) (k : ServerState V) (e : Event) (f : OutOfMemory) → IsStepAs G None k k e (Err f)
+still_wanting G k e f =
     wanting_as G k k None e (Err f) refl (record { kept = λ a h. h; ready = λ n h. h; up = refl; sessions = refl; clock = refl; vault = record { held = refl; faults = refl; allowance = refl } }) (λ h. h)
     (left_seated G k k refl refl refl refl (left_same G k.vault)) (left_same G k.vault)
+
+pub said_or_wanting : {V : Type 0} (G : Ghosts V) (k : ServerState V) (e : Event) (P : Answer → Type 0) (r : Result Answer OutOfMemory) → IfOk r P → ((x : Answer) → P x → IsStepAs G None k k e (Ok x)) → IsStepAs G None k k e r
+said_or_wanting G k e P (Ok x) h step = step x h
+said_or_wanting G k e P (Err f) h step = still_wanting G k e f

@@ -2,6 +2,8 @@
 ghost use Rattle.std.specs.Prelude.{◌≡◌, ℕ, List, IsTrue, IfOk, Ok, None, Some, false};
 ghost use Rattle.alp_journal.specs.declared.event.Event.TheVariants as event;
 ghost use Rattle.alp_journal.specs.declared.message.Message.TheVariants as msg;
+ghost use Rattle.alp_coord.specs.Coordinators.{fate_in, receipt_of};
+ghost use Rattle.alp_coord.specs.declared.answers.Receipt.TheVariants as receipt;
 ghost use Rattle.alp_node.specs.Arrivals.{join_of};
 ghost use Rattle.alp_node.specs.ServerState.{IsReadyForMore, IsOfJournal};
 ghost use Rattle.alp_node.specs.Served.{AreLivesSound};
@@ -13,6 +15,7 @@ use crate::answer::Answer;
 use crate::dead::is_same;
 use crate::server_state::ServerState;
 use alp_base::{JoinNo, OutOfMemory, Stamp, TransId};
+use alp_coord::Receipt;
 use alp_files::Cause;
 use alp_journal::{Acts, Message};
 use alp_vault::Vault;
@@ -168,6 +171,41 @@ impl<V: Vault> ServerState<V> {
         ensures { (from : ℕ) → IsStepAs V.Vault None self.old self.new (event.Arrive from (msg.Abort trans join cause)) result }
     {
         let _ = (trans, join, client, cause);
+        unreachable!()
+    }
+
+    // ---- this server's own decisions
+
+    /// A part elsewhere has applied the commit. With the last one the decision is forgotten, once the end of its note stands.
+    pub(super) fn done(&mut self, trans: TransId, join: JoinNo) -> Result<Answer, OutOfMemory>
+        requires up { self.old.is_down ≡ false }
+        requires ready { IsReadyForMore (V.serves self.old.vault) self.old }
+        requires known { IsTrue (V.tells self.old.vault) → IsOfJournal (V.held self.old.vault) self.old }
+        requires noted { IsNoted V.Vault self.old }
+        requires on { IsOn V.Vault self.old }
+        ensures { (from : ℕ) → IsStepAs V.Vault None self.old self.new (event.Arrive from (msg.Done trans join)) result }
+    {
+        match self.coordinator.receipt(&trans, &join) {
+            Receipt::Dropped => Ok(self.silence()),
+            Receipt::Kept => {
+                self.coordinator.acknowledge(&trans, &join);
+                Ok(self.silence())
+            }
+            Receipt::Last => self.forget(trans, join),
+        }
+    }
+
+    // The last part has applied it.
+    fn forget(&mut self, trans: TransId, join: JoinNo) -> Result<Answer, OutOfMemory>
+        requires last { receipt_of join (fate_in self.old.coordinator trans) ≡ receipt.Last }
+        requires up { self.old.is_down ≡ false }
+        requires ready { IsReadyForMore (V.serves self.old.vault) self.old }
+        requires known { IsTrue (V.tells self.old.vault) → IsOfJournal (V.held self.old.vault) self.old }
+        requires noted { IsNoted V.Vault self.old }
+        requires on { IsOn V.Vault self.old }
+        ensures { (from : ℕ) → IsStepAs V.Vault None self.old self.new (event.Arrive from (msg.Done trans join)) result }
+    {
+        let _ = (trans, join);
         unreachable!()
     }
 }

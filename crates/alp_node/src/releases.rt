@@ -33,6 +33,7 @@ impl<V: Vault> ServerState<V> {
         requires part { (t : TransId) (l : ALive) → map.get self.old.lives t ≡ Some l → IsPart l.part }
         ensures after { self.new ≡ let_go self.old trans }
         ensures acts { acts.new.items ≡ acts.old.items ++ grant_acts (granted_behind self.old trans) }
+        ensures few { length acts.new.items ≤ length acts.old.items + length self.old.locks.waiting }
         ensures capacity { vec_capacity acts.new ≡ vec_capacity acts.old }
     {
         self.lives.remove(&trans);

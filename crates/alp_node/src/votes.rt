@@ -1,21 +1,31 @@
 //! Votes: of the parts here of other servers' transactions, and those that arrive for this server's own.
-ghost use Rattle.std.specs.Prelude.{◌≡◌, ℕ, List, IsTrue, Ok, None, Some, false};
+ghost use Rattle.std.specs.Prelude.{◌≡◌, ◌+◌, ◌≤◌, ◌^◌, ◌++◌, ◌∷◌, [], IfOk, OnOk, OnErr, ℕ, List, IsTrue, Ok, None, Some, false};
 ghost use Rattle.alp_journal.specs.declared.event.Event.TheVariants as event;
 ghost use Rattle.alp_journal.specs.declared.message.Message.TheVariants as msg;
+ghost use Rattle.alp_coord.specs.Coordinators.{IsAlong, Comes, ballot_of, fate_in};
+ghost use Rattle.alp_journal.specs.declared.act.Act.TheVariants as act;
+ghost use Rattle.alp_journal.specs.Coordinator.{client_of};
+ghost use Rattle.alp_journal.specs.Deeds.{Ends};
+ghost use Rattle.alp_journal.specs.Ids.{has_join as has_join_said};
+ghost use Rattle.alp_node.specs.Releases.{grant_acts, granted_behind, let_go};
+ghost use Rattle.alp_node.specs.Says.{said_each};
+ghost use Rattle.alp_coord.specs.declared.answers.Ballot.TheVariants as ballot;
 ghost use Rattle.alp_node.specs.Arrivals.{join_of};
 ghost use Rattle.alp_journal.specs.Account.{Account, state_of};
 ghost use Rattle.alp_journal.specs.Messages.{why_not};
 ghost use Rattle.alp_node.specs.ServerState.{IsAs, IsReadyForMore, IsOfJournal};
 ghost use Rattle.alp_vault.specs.Contents.{Contents};
 ghost use Rattle.alp_node.specs.Served.{AreLivesSound};
-ghost use Rattle.alp_node.specs.Steps.{IsStepAs, IsNoted, IsOn};
+ghost use Rattle.alp_node.specs.Steps.{IsStepAs, IsNoted, IsOn, told_answer};
 ghost use Rattle.alp_node.specs.Votes.{why_against};
 ghost use Rattle.alp_worker.specs.Lives.{join_at};
 ghost use Rattle.alp_worker.specs.declared.live.Stage.TheVariants as stage;
 
 use crate::answer::Answer;
+use crate::messages::tell_aborts;
 use crate::server_state::ServerState;
 use alp_base::{JoinNo, OutOfMemory, TransId};
+use alp_coord::Ballot;
 use alp_files::{Cause, Why};
 use alp_journal::{Acts, Message};
 use alp_vault::Vault;
@@ -114,4 +124,127 @@ impl<V: Vault> ServerState<V> {
         let _ = (trans, join, client);
         unreachable!()
     }
+
+    // ---- votes for a transaction of this server
+
+    /// A part elsewhere votes for the commit.
+    pub(super) fn ready(
+        &mut self,
+        trans: TransId,
+        join: JoinNo,
+        ts: u64,
+    ) -> Result<Answer, OutOfMemory>
+        requires time { ts ≤ 2 ^ 62 }
+        requires up { self.old.is_down ≡ false }
+        requires ready { IsReadyForMore (V.serves self.old.vault) self.old }
+        requires known { IsTrue (V.tells self.old.vault) → IsOfJournal (V.held self.old.vault) self.old }
+        requires noted { IsNoted V.Vault self.old }
+        requires on { IsOn V.Vault self.old }
+        requires sound { IsTrue (V.tells self.old.vault) → AreLivesSound (V.held self.old.vault) self.old }
+        ensures { (from : ℕ) → IsStepAs V.Vault None self.old self.new (event.Arrive from (msg.Ready trans join ts)) result }
+    {
+        // The time of the decision is above the clock and no vote is above it.
+        let least = self.clock + 1;
+        match self.coordinator.ballot(&trans, &join, ts, least) {
+            Ballot::Dropped => Ok(self.silence()),
+            Ballot::Kept => {
+                self.coordinator.hear(&trans, &join, ts);
+                Ok(self.silence())
+            }
+            Ballot::Last { latest } => self.last_vote(trans, join, ts, latest),
+        }
+    }
+
+    // With the last vote this server votes too: its transaction is committed, or ends.
+    fn last_vote(
+        &mut self,
+        trans: TransId,
+        join: JoinNo,
+        ts: u64,
+        latest: u64,
+    ) -> Result<Answer, OutOfMemory>
+        requires last { ballot_of join ts (self.old.clock + 1) (fate_in self.old.coordinator trans) ≡ ballot.Last latest }
+        requires time { ts ≤ 2 ^ 62 }
+        requires up { self.old.is_down ≡ false }
+        requires ready { IsReadyForMore (V.serves self.old.vault) self.old }
+        requires known { IsTrue (V.tells self.old.vault) → IsOfJournal (V.held self.old.vault) self.old }
+        requires noted { IsNoted V.Vault self.old }
+        requires on { IsOn V.Vault self.old }
+        requires sound { IsTrue (V.tells self.old.vault) → AreLivesSound (V.held self.old.vault) self.old }
+        ensures { (from : ℕ) → IsStepAs V.Vault None self.old self.new (event.Arrive from (msg.Ready trans join ts)) result }
+    {
+        let _ = (trans, join, ts, latest);
+        unreachable!()
+    }
+
+    /// A part elsewhere votes against it.
+    pub(super) fn no(
+        &mut self,
+        trans: TransId,
+        join: JoinNo,
+        why: Why,
+    ) -> Result<Answer, OutOfMemory>
+        requires up { self.old.is_down ≡ false }
+        requires ready { IsReadyForMore (V.serves self.old.vault) self.old }
+        ensures { (from : ℕ) → IsStepAs V.Vault None self.old self.new (event.Arrive from (msg.No trans join why)) result }
+    {
+        if !self.coordinator.is_finishing(&trans) {
+            return Ok(self.silence());
+        }
+        let Some(client) = self.coordinator.client(&trans) else {
+            return Ok(self.silence());
+        };
+        let joins = self.joins_of(&trans)?;
+        if !has_join(&join, joins.as_slice()) {
+            return Ok(self.silence());
+        }
+        let server = join.server;
+        self.lapse(trans, client, joins.as_slice(), Cause::Voted { server, why })
+    }
+
+    /// Time runs out for a transaction of this server.
+    pub(super) fn time_out_own(
+        &mut self,
+        trans: TransId,
+        client: u8,
+    ) -> Result<Answer, OutOfMemory>
+        requires runs { client_of (fate_in self.old.coordinator trans) ≡ Some client }
+        requires up { self.old.is_down ≡ false }
+        requires ready { IsReadyForMore (V.serves self.old.vault) self.old }
+        ensures { IsStepAs V.Vault None self.old self.new (event.Timeout trans) result }
+    {
+        let joins = self.joins_of(&trans)?;
+        self.lapse(trans, client, joins.as_slice(), Cause::TimedOut)
+    }
+
+    // A transaction that is not decided ends: its client is to be told, and its parts elsewhere are.
+    pub(super) fn lapse(
+        &mut self,
+        trans: TransId,
+        client: u8,
+        joins: &[JoinNo],
+        cause: Cause,
+    ) -> Result<Answer, OutOfMemory>
+        requires up { self.old.is_down ≡ false }
+        requires ready { IsReadyForMore (V.serves self.old.vault) self.old }
+        ensures kept { OnOk result (self.new ≡ record (let_go self.old trans) { dead = self.old.dead ++ (record { client = client; trans = trans; cause = cause }) ∷ []; coordinator = self.new.coordinator }) }
+        ensures along { OnOk result (IsAlong self.old.coordinator self.new.coordinator) }
+        ensures ends { OnOk result ((n : ℕ) → Comes (Ends trans n cause) self.old.coordinator self.new.coordinator) }
+        ensures said { IfOk result (λ x. x ≡ told_answer None ((act.Released trans ∷ grant_acts (granted_behind self.old trans)) ++ said_each (λ j. msg.Abort trans j cause) joins.now)) }
+        ensures wanting { OnErr result (self.new ≡ self.old) }
+    {
+        let mut acts = self.released(trans, joins.len())?;
+        self.dead.add(client, trans, cause)?;
+        self.release(trans, &mut acts);
+        self.coordinator.end(&trans, cause);
+        tell_aborts(&mut acts, trans, joins, cause);
+        Ok(Answer::silence(Acts::new(acts)))
+    }
+}
+
+// Whether the join is one of them.
+fn has_join(join: &JoinNo, joins: &[JoinNo]) -> bool
+    ensures { result ≡ has_join_said join.now joins.now }
+{
+    joins.iter().any(|other| *other == *join)
 }
