@@ -1,6 +1,7 @@
 -- steps by which a transaction without parts on other servers is decided
-use Rattle.std.specs.Prelude.{Bool, true, false, max, sum_by, IsTrue, Option, None, Some, Ok, Err}
+use Rattle.std.specs.Prelude.{Bool, true, false, max, sum_by, IsTrue, Option, None, Some, Result, Ok, Err}
 use Rattle.std.specs.List.{list_any}
+use Rattle.std.specs.Result.{IsErr}
 use Rattle.std.specs.FinMap as map
 use Rattle.std.proofs.Common.{◌⊎◌, ◌≡◌, ℕ, ◌+◌, ◌*◌, ◌^◌, ◌<◌, ◌≤◌, List, [], ◌∷◌, ◌++◌, refl, sym, ◌∙◌, ap, subst, arith, le_refl, inl, inr}
 use Rattle.alp_base.specs.Notes.{Notes, notes_after}
@@ -106,6 +107,10 @@ none_step G k new p l e f there up none =
       turned = λ on. tt;
       leaves = λ told a h. w.memory told refl;
     })
+
+pub none_result : {V : Type 0} (G : Ghosts V) (k new : ServerState V) (p : Pending) (l : Live) (e : Event) (r : Result Answer OutOfMemory) → map.get k.lives p.stamp.trans ≡ Some l → k.is_down ≡ false → HasNone G k new p → IsErr r → IsStep G k new e r
+none_result G k new p l e (Err f) there up none err = none_step G k new p l e f there up none
+none_result G k new p l e (Ok x) there up none err = absurd err
 
 -- ---- what is written, and what stands then
 

@@ -225,7 +225,7 @@ module _ {V : Type 0} (G : Ghosts V) (old : NodeState V) (kept : ServerState V) 
       step_kept : IsConsistent G node_then
       step_kept = record {
         number = s.seat.same.number ∙ h.number ∙ sym s.seat.server;
-        all = s.seat.same.of_all ∙ h.all;
+        all = s.seat.same.of_all ∙ h.all ∙ sym s.seat.servers;
         sizes = s.seat.sizes ∙ h.sizes ∙ sym s.seat.same.sizes;
         ready = ready_then;
         noted = s.noted h.noted;
@@ -250,7 +250,7 @@ module _ {V : Type 0} (G : Ghosts V) (old : NodeState V) (kept : ServerState V) 
       still_kept : IsConsistent G node_then
       still_kept = record {
         number = s.seat.same.number ∙ h.number ∙ sym s.seat.server;
-        all = s.seat.same.of_all ∙ h.all;
+        all = s.seat.same.of_all ∙ h.all ∙ sym s.seat.servers;
         sizes = s.seat.sizes ∙ h.sizes ∙ sym s.seat.same.sizes;
         ready = still_ready;
         noted = s.noted h.noted;

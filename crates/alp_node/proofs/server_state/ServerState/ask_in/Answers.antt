@@ -9,7 +9,7 @@ use Rattle.alp_journal.specs.declared.act.Act.TheVariants as act
 use Rattle.alp_journal.specs.declared.event.Event.TheVariants as event
 use Rattle.alp_journal.specs.declared.message.Message.TheVariants as msg
 use Rattle.alp_journal.specs.Account.{Account, state_of}
-use Rattle.alp_journal.specs.Ids.{next_join}
+use Rattle.alp_journal.specs.Moves.{next_join}
 use Rattle.alp_coord.specs.Coordinators.{count_of}
 use Rattle.alp_worker.specs.Joins.{AreJoinsOf, next_of, with_drawn}
 use Rattle.alp_node.specs.Draws.{with_joining}
@@ -25,9 +25,6 @@ use Rattle.alp_node.proofs.StepLemmas.{plain_step}
 use Rattle.alp_node.proofs.TurnLemmas.{counts_refused}
 use Rattle.alp_node.proofs.WaitLemmas.{named_all}
 use Rattle.alp_node.proofs.server_state.ServerState.ask_in.Goals as goal
-
-pub draw_join-requires-clause-room : goal.draw_join-requires-clause-room
-draw_join-requires-clause-room g c = (let low = c.requires.ready.2.joins.drawn in let few = c.requires.ready.1 in omega (arith, low, few))
 
 pub returns : goal.returns
 returns g c =

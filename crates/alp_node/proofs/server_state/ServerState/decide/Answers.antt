@@ -1,5 +1,5 @@
 use Rattle.std.specs.Prelude.{max, Ok, Err}
-use Rattle.std.proofs.Common.{◌≡◌, ℕ, List, refl, sym, ap, ◌∙◌, subst, inl, inr}
+use Rattle.std.proofs.Common.{true, ◌≡◌, ℕ, List, refl, sym, ap, ◌∙◌, subst, inl, inr}
 use Rattle.alp_base.specs.declared.bytes.NoteChange.{NoteChange}
 use Rattle.alp_base.specs.declared.ids.TransId.{TransId}
 use Rattle.alp_journal.specs.declared.act.Act.TheVariants as act
@@ -70,7 +70,7 @@ returns-clause-made g c =
     let z : Coordinator = c.decide.new.self in
     let part : HasMade (G.tells k.vault) (G.held k.vault).cells k made t = c.in-Ok.ensures.made in
     let was : made.coordinator ≡ k.coordinator = ap (λ (y : ServerState _). y.coordinator) part.kept ∙ ap (λ (y : ServerState _). y.coordinator) (let_go_of k t) in
-    let clock : c.max.result ≡ max k.clock p.stamp.ts = c.max.ensures ∙ ap (λ (y : ServerState _). max y.clock p.stamp.ts) part.kept ∙ ap (λ (y : ServerState _). max y.clock p.stamp.ts) (let_go_of k t) in
+    let clock : c.max-self.result ≡ max k.clock p.stamp.ts = c.max-self.ensures ∙ ap (λ (y : ServerState _). max y.clock p.stamp.ts) part.kept ∙ ap (λ (y : ServerState _). max y.clock p.stamp.ts) (let_go_of k t) in
     record {
       made = made;
       mid = mid;
