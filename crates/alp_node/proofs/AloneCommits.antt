@@ -110,7 +110,7 @@ none_step G k new p l e f there up none =
 
 pub none_result : {V : Type 0} (G : Ghosts V) (k new : ServerState V) (p : Pending) (l : Live) (e : Event) (r : Result Answer OutOfMemory) → map.get k.lives p.stamp.trans ≡ Some l → k.is_down ≡ false → HasNone G k new p → IsErr r → IsStep G k new e r
 none_result G k new p l e (Err f) there up none err = none_step G k new p l e f there up none
-none_result G k new p l e (Ok x) there up none err = absurd err
+none_result G k new p l e (Ok x) there up none err = let wrong : false ≡ true = err in cc
 
 -- ---- what is written, and what stands then
 

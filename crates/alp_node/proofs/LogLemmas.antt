@@ -73,15 +73,15 @@ part_there lives (x ∷ xs) j l name n at voted named few = go (is_at j x) refl 
 
 trans_there : (ts : List TransId) (t : TransId) (name : List ℕ) (n : ℕ) → has_trans t ts ≡ true → name ≡ decision_name.spell t → n ≤ 88 → (p : TransId → Bool) → p t ≡ true → HasBound (decided_bounds (filter p ts)) name n
 trans_there [] t name n h named few p on = let wrong : false ≡ true = h in cc
-trans_there (u ∷ us) t name n h named few p on = go (same_trans t u) refl h (λ more. trans_there us t name n more named few p on)
+trans_there (u ∷ us) t name n h named few p on = go (same_trans u t) refl h (λ more. trans_there us t name n more named few p on)
   where
     rest : (b : Bool) → HasBound (decided_bounds (filter p us)) name n → HasBound (decided_bounds (cond {A = List TransId} b (u ∷ filter p us) (filter p us))) name n
     rest true h = inr h
     rest false h = h
 
-    go : (b : Bool) → same_trans t u ≡ b → (b || has_trans t us) ≡ true → (has_trans t us ≡ true → HasBound (decided_bounds (filter p us)) name n) → HasBound (decided_bounds (filter p (u ∷ us))) name n
+    go : (b : Bool) → same_trans u t ≡ b → (b || has_trans t us) ≡ true → (has_trans t us ≡ true → HasBound (decided_bounds (filter p us)) name n) → HasBound (decided_bounds (filter p (u ∷ us))) name n
     go true is h behind =
-        let same : t ≡ u = same_trans-true t u is in
+        let same : t ≡ u = sym (same_trans-true u t is) in
         subst (λ (b : Bool). HasBound (decided_bounds (cond {A = List TransId} b (u ∷ filter p us) (filter p us))) name n) (sym on ∙ ap p same) (inl (named ∙ ap decision_name.spell same, few))
     go false is h behind = rest (p u) (behind h)
 

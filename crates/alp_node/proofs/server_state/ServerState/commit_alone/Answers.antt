@@ -90,4 +90,4 @@ returns-in_err-acts g c =
     let turn = c.args.turn.now in
     let mine : WorksHere k turn.client t = works_here c.requires.ready.0 (G.serves k.vault) k c.requires.ready.2 turn.client t c.requires.works in
     let e = event.Call turn.client k.epoch turn.number (call.Finish t true) in
-    none_result G k c.decide.new.self c.in_ok-pending.pending mine.live e c.from_residual.result (ap (λ (s : Stamp). map.get k.lives s.trans) c.in_ok-pending.ensures.stamp ∙ mine.there) c.requires.up c.in_err-acts.ensures.none c.from_residual.ensures.0
+    none_result G k c.decide.new.self c.in_ok-pending.pending mine.live e c.from_residual-in_err-acts.result (ap (λ (s : Stamp). map.get k.lives s.trans) c.in_ok-pending.ensures.stamp ∙ mine.there) c.requires.up c.in_err-acts.ensures.none c.from_residual-in_err-acts.ensures.0

@@ -19,14 +19,16 @@ returns-in-Err-Failed-clause-made g c =
     let k = c.args.self.now in
     let G = g.V.Vault in
     let v = c.make.new.self.vault in
+    let last : c.fall_in.new.self ≡ record k { is_down = true; vault = v } = c.fall_in.ensures.kept ∙ ap (λ (y : ServerState _). record y { is_down = true }) c.in-Err-Failed.ensures.none in
     record {
       why = fault.Failed;
       shown = act.Failed;
       of = inl (refl, refl);
-      kept = c.fall_in.ensures.kept ∙ ap (λ (y : ServerState _). record y { is_down = true }) c.in-Err-Failed.ensures.none;
+      kept = last ∙ (λ i. record k { is_down = true; vault = sym (ap (λ (y : ServerState _). y.vault) last) i });
       writes = λ l there.
-          subst (λ (f : StoreFault). Writes G k.vault v l.part c.args.pending.notes.items (Err f)) c.in-Err-Failed.field-0-is
-          (subst (λ (ns : List NoteChange). Writes G k.vault v l.part ns (Err c.in-Err-Failed.field-0)) c.as_slice.ensures.value (c.in-Err-Failed.ensures.writes l there));
+          subst (λ w. Writes G k.vault w l.part c.args.pending.notes.items (Err fault.Failed)) (sym (ap (λ (y : ServerState _). y.vault) last))
+          (subst (λ (f : StoreFault). Writes G k.vault v l.part c.args.pending.notes.items (Err f)) c.in-Err-Failed.field-0-is
+          (subst (λ (ns : List NoteChange). Writes G k.vault v l.part ns (Err c.in-Err-Failed.field-0)) c.as_slice.ensures.value (c.in-Err-Failed.ensures.writes l there)));
       said = c.fall_in.ensures.acts;
     }
 
@@ -36,14 +38,16 @@ returns-in-Err-Stopped-clause-made g c =
     let G = g.V.Vault in
     let v = c.make.new.self.vault in
     let fall = c.fall_in-in-Err-Stopped in
+    let last : c.fall_in-in-Err-Stopped.new.self ≡ record k { is_down = true; vault = v } = c.fall_in-in-Err-Stopped.ensures.kept ∙ ap (λ (y : ServerState _). record y { is_down = true }) c.in-Err-Stopped.ensures.none in
     record {
       why = fault.Stopped;
       shown = act.Stopped;
       of = inr (refl, refl);
-      kept = fall.ensures.kept ∙ ap (λ (y : ServerState _). record y { is_down = true }) c.in-Err-Stopped.ensures.none;
+      kept = last ∙ (λ i. record k { is_down = true; vault = sym (ap (λ (y : ServerState _). y.vault) last) i });
       writes = λ l there.
-          subst (λ (f : StoreFault). Writes G k.vault v l.part c.args.pending.notes.items (Err f)) c.in-Err-Stopped.field-0-is
-          (subst (λ (ns : List NoteChange). Writes G k.vault v l.part ns (Err c.in-Err-Stopped.field-0)) c.as_slice.ensures.value (c.in-Err-Stopped.ensures.writes l there));
+          subst (λ w. Writes G k.vault w l.part c.args.pending.notes.items (Err fault.Stopped)) (sym (ap (λ (y : ServerState _). y.vault) last))
+          (subst (λ (f : StoreFault). Writes G k.vault v l.part c.args.pending.notes.items (Err f)) c.in-Err-Stopped.field-0-is
+          (subst (λ (ns : List NoteChange). Writes G k.vault v l.part ns (Err c.in-Err-Stopped.field-0)) c.as_slice.ensures.value (c.in-Err-Stopped.ensures.writes l there)));
       said = fall.ensures.acts;
     }
 

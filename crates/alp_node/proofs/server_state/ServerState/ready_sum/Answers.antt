@@ -17,6 +17,6 @@ loop-trans-preserved g c =
     let t : TransId = slice_index_or ts i none in
     let one : suc i ≡ i + 1 = omega arith in
     let next : drop i ts ≡ t ∷ drop (i + 1) ts = drop-cons ts i none c.loop-trans-test.true ∙ ap (λ (n : ℕ). t ∷ drop n ts) one in
-    ap (λ (xs : List PartSize). xs ++ list_map (size_in lives) (drop (i + 1) ts)) (c.in_ok-push.ensures.ok ∙ ap (λ (x : PartSize). c.loop-trans.sizes.items ++ x ∷ []) c.size_of.ensures)
+    ap (λ (xs : List PartSize). xs ++ list_map (size_in lives) (drop (i + 1) ts)) (c.in_ok-push.ensures.items ∙ ap (λ (x : PartSize). c.loop-trans.sizes.items ++ x ∷ []) c.size_of.ensures)
     ∙ append_assoc c.loop-trans.sizes.items (size_in lives t ∷ []) (list_map (size_in lives) (drop (i + 1) ts))
     ∙ ap (λ (xs : List TransId). c.loop-trans.sizes.items ++ list_map (size_in lives) xs) (sym next) ∙ c.loop-trans.invariant
