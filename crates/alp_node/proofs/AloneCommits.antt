@@ -108,9 +108,14 @@ none_step G k new p l e f there up none =
       leaves = λ told a h. w.memory told refl;
     })
 
+err_of : {T E : Type 0} (r : Result T E) → IsErr r → (f : E) × (r ≡ Err f)
+err_of (Err f) e = (f, refl)
+err_of (Ok x) e = let wrong : false ≡ true = e in cc
+
 pub none_result : {V : Type 0} (G : Ghosts V) (k new : ServerState V) (p : Pending) (l : Live) (e : Event) (r : Result Answer OutOfMemory) → map.get k.lives p.stamp.trans ≡ Some l → k.is_down ≡ false → HasNone G k new p → IsErr r → IsStep G k new e r
-none_result G k new p l e (Err f) there up none err = none_step G k new p l e f there up none
-none_result G k new p l e (Ok x) there up none err = let wrong : false ≡ true = err in cc
+none_result G k new p l e r there up none err =
+    let q = err_of r err in
+    subst (λ (x : Result Answer OutOfMemory). IsStep G k new e x) (sym q.1) (none_step G k new p l e q.0 there up none)
 
 -- ---- what is written, and what stands then
 

@@ -314,3 +314,9 @@ module _ {V : Type 0} (G : Ghosts V) (old : NodeState V) (kept : ServerState V) 
         causes = s.given.causes;
       })
   entered_answered (Err f) h s = tt
+
+-- ---- nothing was asked of the vault
+
+-- a crash leaves what it held
+pub still_leaves : {V : Type 0} (G : Ghosts V) (v : V) → Only (G.held v) (G.may_leave v) → Leaves G v v (λ c. c ≡ G.held v)
+still_leaves G v only = record { crash = only; time = record { each = λ start c was. inl was } }
