@@ -24,6 +24,7 @@ pub mod AskedLemmas
 pub mod JoinEnds
 pub mod SingleLemmas
 pub mod QuitLemmas
+pub mod RefusedLemmas
 pub mod HoldingLemmas
 pub mod HeardLemmas
 pub mod LapseLemmas
