@@ -1,6 +1,7 @@
 -- steps by which a transaction without parts on other servers is decided
-use Rattle.std.specs.Prelude.{Bool, true, false, max, sum_by, IsTrue, Option, None, Some, Ok, Err}
+use Rattle.std.specs.Prelude.{Bool, true, false, max, sum_by, IsTrue, Option, None, Some, Result, Ok, Err}
 use Rattle.std.specs.List.{list_any}
+use Rattle.std.specs.Result.{IsErr}
 use Rattle.std.specs.FinMap as map
 use Rattle.std.proofs.Common.{◌⊎◌, ◌≡◌, ℕ, ◌+◌, ◌*◌, ◌^◌, ◌<◌, ◌≤◌, List, [], ◌∷◌, ◌++◌, refl, sym, ◌∙◌, ap, subst, arith, le_refl, inl, inr}
 use Rattle.alp_base.specs.Notes.{Notes, notes_after}
@@ -106,6 +107,15 @@ none_step G k new p l e f there up none =
       turned = λ on. tt;
       leaves = λ told a h. w.memory told refl;
     })
+
+err_of : {T E : Type 0} (r : Result T E) → IsErr r → (f : E) × (r ≡ Err f)
+err_of (Err f) e = (f, refl)
+err_of (Ok x) e = let wrong : false ≡ true = e in cc
+
+pub none_result : {V : Type 0} (G : Ghosts V) (k new : ServerState V) (p : Pending) (l : Live) (e : Event) (r : Result Answer OutOfMemory) → map.get k.lives p.stamp.trans ≡ Some l → k.is_down ≡ false → HasNone G k new p → IsErr r → IsStep G k new e r
+none_result G k new p l e r there up none err =
+    let q = err_of r err in
+    subst (λ (x : Result Answer OutOfMemory). IsStep G k new e x) (sym q.1) (none_step G k new p l e q.0 there up none)
 
 -- ---- what is written, and what stands then
 

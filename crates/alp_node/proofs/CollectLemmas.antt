@@ -220,6 +220,9 @@ module _ {V : Type 0} (a : Account) (held : Contents) (k : ServerState V) (clien
       is_its : is_of_part l.client w.trans (waiting w) ≡ true
       is_its = (λ i. eq-eqb w.client l.client (its_owner ∙ mine) i && is_of_trans w.trans (file_part w.call w.trans its_name i)) ∙ same_trans-itself w.trans
 
+      same_client : (c d : ℕ) → Some c ≡ Some d → c ≡ d
+      same_client c d e = cc
+
       own : (f : Fate) → a.fates w.trans ≡ f → client_of f ≡ Some l.client → w.trans.server ≡ a.holder.server → part_at (state_of a) client w.trans ≡ AtWork
       own (Running c js) is runs here = own_at_work a w.trans client {js = js} here (is ∙ ap (λ (d : ℕ). Running d js) (same_client c l.client runs ∙ sym mine))
       own (Finishing c js vs) is runs here =

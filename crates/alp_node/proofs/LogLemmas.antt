@@ -42,6 +42,7 @@ use Rattle.alp_worker.specs.Rooms.{applying_of, sum_of}
 use Rattle.alp_worker.specs.Walks.{ready_in}
 use Rattle.alp_node.specs.Noted.{AreNoted, IsNotedAs, IsNotedJoin, IsNoteOf, decision_kept, size_in, ready_room}
 use Rattle.alp_node.specs.Totals.{LiveMap}
+use Rattle.alp_node.proofs.ClockLaws.{time_law}
 use Rattle.alp_node.proofs.FatedLemmas.{closed_uncounted}
 use Rattle.alp_node.proofs.JoinMoves.{same_some}
 
@@ -72,16 +73,16 @@ part_there lives (x ∷ xs) j l name n at voted named few = go (is_at j x) refl 
 
 trans_there : (ts : List TransId) (t : TransId) (name : List ℕ) (n : ℕ) → has_trans t ts ≡ true → name ≡ decision_name.spell t → n ≤ 88 → (p : TransId → Bool) → p t ≡ true → HasBound (decided_bounds (filter p ts)) name n
 trans_there [] t name n h named few p on = let wrong : false ≡ true = h in cc
-trans_there (u ∷ us) t name n h named few p on = go (same_trans t u) refl h (λ more. trans_there us t name n more named few p on)
+trans_there (u ∷ us) t name n h named few p on = go (same_trans u t) refl h (λ more. trans_there us t name n more named few p on)
   where
     rest : (b : Bool) → HasBound (decided_bounds (filter p us)) name n → HasBound (decided_bounds (cond {A = List TransId} b (u ∷ filter p us) (filter p us))) name n
     rest true h = inr h
     rest false h = h
 
-    go : (b : Bool) → same_trans t u ≡ b → (b || has_trans t us) ≡ true → (has_trans t us ≡ true → HasBound (decided_bounds (filter p us)) name n) → HasBound (decided_bounds (filter p (u ∷ us))) name n
+    go : (b : Bool) → same_trans u t ≡ b → (b || has_trans t us) ≡ true → (has_trans t us ≡ true → HasBound (decided_bounds (filter p us)) name n) → HasBound (decided_bounds (filter p (u ∷ us))) name n
     go true is h behind =
-        let same : t ≡ u = same_trans-true t u is in
-        subst (λ (b : Bool). HasBound (decided_bounds (cond {A = List TransId} b (u ∷ filter p us) (filter p us))) name n) (ap p (sym (sym same)) ∙ on) (inl (named ∙ ap decision_name.spell same, few))
+        let same : t ≡ u = sym (same_trans-true u t is) in
+        subst (λ (b : Bool). HasBound (decided_bounds (cond {A = List TransId} b (u ∷ filter p us) (filter p us))) name n) (sym on ∙ ap p same) (inl (named ∙ ap decision_name.spell same, few))
     go false is h behind = rest (p u) (behind h)
 
 -- a decision that is kept counts
@@ -159,7 +160,7 @@ module _ (server servers epoch : ℕ) (lives : LiveMap) (joins : Joins) (c : Coo
           clocked : (o : Option ClockNote) → whole clock_form value ≡ o → length name ≡ 1 → is_some o ≡ true → put_bytes (name, value) ≤ 19
           clocked None e long on = let wrong : false ≡ true = on in cc
           clocked (Some n) e long on =
-              let body : length value ≡ length (clock_form.spell n) = ap (λ (bs : List ℕ). length bs) (whole_spelled clock_form clock_law value n e).0 in
+              let body : length value ≡ length (clock_form.spell n) = ap (λ (bs : List ℕ). length bs) (whole_spelled clock_form time_law value n e).0 in
               omega (arith, long, body, clock_length n)
 
       go : (k : Bool) → is_clock_note name value ≡ k → (oj : Option JoinNo) → whole ready_name name ≡ oj → (op : Option ReadyPart) → whole ready_form value ≡ op → (ot : Option TransId) → whole decision_name name ≡ ot → (od : Option Decision) → whole decision_form value ≡ od

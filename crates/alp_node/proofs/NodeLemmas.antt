@@ -225,7 +225,7 @@ module _ {V : Type 0} (G : Ghosts V) (old : NodeState V) (kept : ServerState V) 
       step_kept : IsConsistent G node_then
       step_kept = record {
         number = s.seat.same.number ∙ h.number ∙ sym s.seat.server;
-        all = s.seat.same.of_all ∙ h.all;
+        all = s.seat.same.of_all ∙ h.all ∙ sym s.seat.servers;
         sizes = s.seat.sizes ∙ h.sizes ∙ sym s.seat.same.sizes;
         ready = ready_then;
         noted = s.noted h.noted;
@@ -250,7 +250,7 @@ module _ {V : Type 0} (G : Ghosts V) (old : NodeState V) (kept : ServerState V) 
       still_kept : IsConsistent G node_then
       still_kept = record {
         number = s.seat.same.number ∙ h.number ∙ sym s.seat.server;
-        all = s.seat.same.of_all ∙ h.all;
+        all = s.seat.same.of_all ∙ h.all ∙ sym s.seat.servers;
         sizes = s.seat.sizes ∙ h.sizes ∙ sym s.seat.same.sizes;
         ready = still_ready;
         noted = s.noted h.noted;
@@ -314,3 +314,9 @@ module _ {V : Type 0} (G : Ghosts V) (old : NodeState V) (kept : ServerState V) 
         causes = s.given.causes;
       })
   entered_answered (Err f) h s = tt
+
+-- ---- nothing was asked of the vault
+
+-- a crash leaves what it held
+pub still_leaves : {V : Type 0} (G : Ghosts V) (v : V) → Only (G.held v) (G.may_leave v) → Leaves G v v (λ c. c ≡ G.held v)
+still_leaves G v only = record { crash = only; time = record { each = λ start c was. inl was } }

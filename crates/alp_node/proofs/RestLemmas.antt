@@ -242,16 +242,16 @@ module _ {V : Type 0} (a : Account) (held : Contents) (k : ServerState V) (h : I
 -- a node tells it
 pub rest_said : {V : Type 0} (G : Ghosts V) (n : NodeState V) (counted : ℕ) (first : Option TransId) → IsConsistent G n → counted ≡ counted_of n.kept.coordinator → first ≡ slice_get (map.keys n.kept.lives) 0 → IsTrue (G.tells n.kept.vault)
     → IsRestOf ((counted == 0) && is_none first) (journal_state (start_in G n) n.journal)
-rest_said G n counted first h same least told =
+rest_said G n counted first h kept least told =
     let r : IsRight (start_in G n) (G.held n.kept.vault) n = h.right told in
     subst (IsRestOf ((counted == 0) && is_none first)) (sym r.says) (
       (λ e. (
           let both = and_parts (counted == 0) (is_none first) e in
-          rests_told r.state (G.held n.kept.vault) n.kept r.kept (sym same ∙ eqb-true counted 0 both.0) (sym least ∙ none_is first both.1)
+          rests_told r.state (G.held n.kept.vault) n.kept r.kept (sym kept ∙ eqb-true counted 0 both.0) (sym least ∙ none_is first both.1)
           )),
       (λ rest. (
           let q = rests_kept r.state (G.held n.kept.vault) n.kept r.kept rest in
-          ap (λ (b : Bool). b && is_none first) (eq-eqb counted 0 (same ∙ q.0)) ∙ ap (λ (x : Option TransId). is_none x) (least ∙ q.1)
+          ap (λ (b : Bool). b && is_none first) (eq-eqb counted 0 (kept ∙ q.0)) ∙ ap (λ (x : Option TransId). is_none x) (least ∙ q.1)
           )),
     )
   where

@@ -90,6 +90,7 @@ impl<V: Vault> Node<V> {
         if self.journal.entries().len() >= MOST_ENTRIES {
             return Ok(Some(Reply::Refused(Refusal::JournalFull)));
         }
+        self.kept.vault.knows();
         self.journal.make_place(self.kept.alloc)?;
         answer(&mut self.kept, &mut self.journal, event)
     }

@@ -1,5 +1,5 @@
 //! Calls that wait for their locks, or have them and are not collected.
-ghost use Rattle.std.specs.Prelude.{◌≡◌, ◌++◌, ◌∷◌, [], IfOk, OnOk, OnErr, List, find};
+ghost use Rattle.std.specs.Prelude.{◌≡◌, ◌≤◌, ◌++◌, ◌∷◌, [], IfOk, OnOk, OnErr, List, find, length, vec_capacity};
 ghost use Rattle.std.specs.Option.{option_copied as copied};
 ghost use Rattle.alp_journal.specs.State.{is_this};
 ghost use Rattle.alp_node.specs.Waits.{is_of as is_of_said, is_other_at as is_other_at_said, is_file_on, has_waiting, has_file_on, call_at, count_asked, locks_of as locks_of_said, grant_of, without_calls_of, without_other_at, without_dead, has_part as has_part_said, live_calls};
@@ -145,7 +145,7 @@ impl Waits {
         ensures err { OnErr result (self.new ≡ self.old) }
     {
         self.calls.reserve(1)?;
-        self.bury(call.client, dead);
+        bury_in(&mut self.calls, call.client, dead);
         self.calls.push_reserved(call);
         Ok(())
     }
@@ -154,8 +154,7 @@ impl Waits {
     pub fn bury(&mut self, client: u8, dead: &Dead)
         ensures { self.new ≡ without_dead client dead.now self.old }
     {
-        self.calls.retain(|call| call.client != client
-            || dead.cause(client, &call.trans).is_none());
+        bury_in(&mut self.calls, client, dead);
     }
 
     /// Of the client's calls those alone wait on whose parts are live.
@@ -208,6 +207,15 @@ fn is_other_at(call: &WaitingCall, client: u8, number: u32) -> bool
     ensures { result ≡ is_other_at_said client number call.now }
 {
     call.client == client && call.number == number && call.counts.is_none()
+}
+
+// The calls of the client's parts that ended go.
+fn bury_in(calls: &mut Vec<WaitingCall>, client: u8, dead: &Dead)
+    ensures left { calls.new.items ≡ without_dead client dead.now calls.old.items }
+    ensures bound { length calls.new.items ≤ length calls.old.items }
+    ensures capacity { vec_capacity calls.new ≡ vec_capacity calls.old }
+{
+    calls.retain(|call| call.client != client || dead.cause(client, &call.trans).is_none());
 }
 
 // Whether it is a call of the client's part of the transaction.

@@ -1,6 +1,6 @@
 use Rattle.std.specs.Prelude.{Some}
 use Rattle.std.specs.FinMap as map
-use Rattle.std.proofs.Common.{◌≡◌, ℕ, ◌≤◌, List, [], ◌∷◌, ◌++◌, length, append_assoc, arith, refl, sym, ap, ◌∙◌, subst}
+use Rattle.std.proofs.Common.{false, ◌≡◌, ℕ, ◌≤◌, List, [], ◌∷◌, ◌++◌, length, append_assoc, arith, refl, sym, ap, ◌∙◌, subst}
 use Rattle.alp_base.specs.declared.ids.JoinNo.{JoinNo}
 use Rattle.alp_files.specs.declared.call.Call.TheVariants as call
 use Rattle.alp_files.specs.declared.refusal.Cause.TheVariants as cause
@@ -46,7 +46,7 @@ returns g c =
     let ts = granted_behind k t in
     let sent : List Act = said_each (λ j. msg.Abort t j cause.Asked) js in
     let acts : c.tell_aborts.new.acts.items ≡ (act.Released t ∷ grant_acts ts) ++ sent =
-    c.tell_aborts.ensures ∙ (λ i. (c.end.ensures.acts ∙ ap (λ (xs : List Act). xs ++ grant_acts ts) c.in_ok-acts.ensures.acts) i ++ said_each (λ j. msg.Abort t j cause.Asked) (joins i)) in
+    c.tell_aborts.ensures.said ∙ (λ i. (c.end.ensures.acts ∙ ap (λ (xs : List Act). xs ++ grant_acts ts) c.in_ok-acts.ensures.acts) i ++ said_each (λ j. msg.Abort t j cause.Asked) ((c.as_slice.ensures.value ∙ joins) i)) in
     let so = c.refused.ensures ∙ ap (refused_answer (refusal.Aborted cause.Asked)) (c.new.ensures ∙ acts) in
     ended_step G k c.end.new.self turn t ts sent (call.Finish t false) cause.Asked c.refused.result z c.end.ensures.along c.end.ensures.ends c.requires.here c.requires.turn c.requires.up c.end.ensures.kept so
     (each_goes_on (λ j. msg.Abort t j cause.Asked) js) (λ before now allowance. each_caused (λ j. msg.Abort t j cause.Asked) (λ j. tt) js before now allowance)

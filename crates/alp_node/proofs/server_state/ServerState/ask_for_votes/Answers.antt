@@ -1,6 +1,6 @@
 use Rattle.std.specs.Prelude.{Some, Ok}
 use Rattle.std.specs.FinMap as map
-use Rattle.std.proofs.Common.{◌≡◌, ℕ, ◌+◌, List, [], ◌∷◌, ◌++◌, refl, sym, ap, ◌∙◌, subst}
+use Rattle.std.proofs.Common.{true, ◌≡◌, ℕ, ◌+◌, List, [], ◌∷◌, ◌++◌, refl, sym, ap, ◌∙◌, subst}
 use Rattle.alp_base.specs.declared.ids.JoinNo.{JoinNo}
 use Rattle.alp_files.specs.declared.call.Call.TheVariants as call
 use Rattle.alp_files.specs.declared.refusal.Refusal.TheVariants as refusal
@@ -58,7 +58,7 @@ returns g c =
     let pushed : c.push.new.self ≡ k.waits ++ finish_call k turn t z ∷ [] = c.in_ok-push.ensures.ok in
     let kept : record k { waits = c.push.new.self; coordinator = z; sessions = c.count.new.self } ≡ after = (λ i. record k { waits = pushed i; coordinator = z; sessions = c.count.ensures i }) in
     let acts : c.tell_asks.new.acts.items ≡ said_each (msg.Ask t) (some.first ∷ some.rest) =
-    c.tell_asks.ensures ∙ (λ i. c.in_ok-acts.ensures.items i ++ said_each (msg.Ask t) (some.is i)) in
+    c.tell_asks.ensures.said ∙ (λ i. c.in_ok-acts.ensures.items i ++ said_each (msg.Ask t) (some.is i)) in
     let so = c.refused.ensures ∙ ap (refused_answer refusal.NotYet) (c.new.ensures ∙ acts) in
     subst (λ (y : ServerState _). IsStep G k y e (Ok c.refused.result)) (sym kept)
     (plain_step G k after turn (call.Finish t true) c.refused.result (reply.Refused refusal.NotYet) (said_each (msg.Ask t) (some.first ∷ some.rest)) refl refl refl refl refl c.requires.up c.requires.up

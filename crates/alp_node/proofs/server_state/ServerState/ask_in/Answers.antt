@@ -9,7 +9,9 @@ use Rattle.alp_journal.specs.declared.act.Act.TheVariants as act
 use Rattle.alp_journal.specs.declared.event.Event.TheVariants as event
 use Rattle.alp_journal.specs.declared.message.Message.TheVariants as msg
 use Rattle.alp_journal.specs.Account.{Account, state_of}
-use Rattle.alp_journal.specs.Ids.{next_join}
+use Rattle.alp_journal.specs.Deeds as deed
+use Rattle.alp_journal.specs.Moves.{next_join}
+use Rattle.alp_journal.specs.State.{state_deed}
 use Rattle.alp_coord.specs.Coordinators.{count_of}
 use Rattle.alp_worker.specs.Joins.{AreJoinsOf, next_of, with_drawn}
 use Rattle.alp_node.specs.Draws.{with_joining}
@@ -25,9 +27,6 @@ use Rattle.alp_node.proofs.StepLemmas.{plain_step}
 use Rattle.alp_node.proofs.TurnLemmas.{counts_refused}
 use Rattle.alp_node.proofs.WaitLemmas.{named_all}
 use Rattle.alp_node.proofs.server_state.ServerState.ask_in.Goals as goal
-
-pub draw_join-requires-clause-room : goal.draw_join-requires-clause-room
-draw_join-requires-clause-room g c = (let low = c.requires.ready.2.joins.drawn in let few = c.requires.ready.1 in omega (arith, low, few))
 
 pub returns : goal.returns
 returns g c =
@@ -55,7 +54,7 @@ returns g c =
     let number : next_of k.joins ≡ next_join (state_of a) = (λ i. record { server = h.joins.server i; epoch = h.joins.current i; counter = h.joins.count i + 1 }) in
     join_drawn_stepped a faults faults (G.held k.vault) k turn t h c.requires.turn c.requires.up (named_all k.server k.epoch k.given (count_of k.coordinator) k.sizes k.lives k.waits ready.waits.calls) ready.raised c.requires.none
     (sym (away_told a (G.held k.vault) k t.server h) ∙ c.requires.far) c.refused.result (many_none k c.requires.few)
-    (subst (λ (y : ServerState _). AreJoinsOf _ y.joins) c.in_ok-join.ensures.ok (c.in_ok-join.ensures.deed (state_of a) h.joins (none_kept k turn.client t far c.requires.none)))
+    (subst (λ (y : ServerState _). AreJoinsOf (state_deed (state_of a) (deed.Joins (next_join (state_of a)) t turn.client turn.who)) y.joins) c.in_ok-join.ensures.ok (c.in_ok-join.ensures.deed (state_of a) h.joins (none_kept k turn.client t far c.requires.none)))
     (so ∙ ap (λ (j : JoinNo). refused_answer refusal.NotYet (asks j ∷ [])) number)))
     (counts_refused k after turn c.requires.turn (call.Join t) refusal.NotYet tt refl refl))
 

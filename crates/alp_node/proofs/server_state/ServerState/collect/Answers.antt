@@ -1,17 +1,19 @@
 use Rattle.std.specs.Prelude.{Some, None, true, false, is_some}
 use Rattle.std.specs.Option.{option_copied}
-use Rattle.std.proofs.Common.{inl, inr, ◌⊎◌, ◌≡◌, ℕ, refl, sym, ap, ◌∙◌}
+use Rattle.std.proofs.Common.{inl, inr, ◌⊎◌, ◌≡◌, ℕ, refl, sym, ap, ◌∙◌, subst}
 use Rattle.alp_files.specs.declared.call.Call.TheVariants as call
 use Rattle.alp_files.specs.declared.refusal.Cause.{Cause}
 use Rattle.alp_files.specs.declared.refusal.Refusal.TheVariants as refusal
 use Rattle.alp_node.specs.Standings.{standing_of}
-use Rattle.alp_node.specs.Waits.{call_at}
+use Rattle.alp_coord.specs.Coordinators.{count_of}
+use Rattle.alp_node.specs.Waits.{IsCallBy, IsWaitingCall, call_at, is_at}
 use Rattle.alp_node.specs.declared.served.Standing.{Standing}
 use Rattle.alp_node.specs.declared.served.Standing.TheVariants as standing
 use Rattle.alp_node.specs.declared.waits.WaitingCall.{WaitingCall}
 use Rattle.alp_node.proofs.CollectLemmas.{its_client, its_number, known_standing, collect_none_stepped, collect_dead_stepped, collect_waits_stepped}
 use Rattle.alp_node.proofs.StandingLemmas.{WorksHere, works_here}
 use Rattle.alp_node.proofs.StepLemmas.{refused_step}
+use Rattle.alp_node.proofs.WaitLemmas.{find_each}
 use Rattle.alp_node.proofs.server_state.ServerState.collect.Goals as goal
 
 -- no such call waits
@@ -120,3 +122,14 @@ collect_granted-requires-clause-waiting g c =
     let granted : w.is_granted ≡ true = c.if-not-waiting.false in
     let copy : c.in_ok-call.call ≡ w.call = c.in_ok-call.ensures in
     found ∙ (λ i. Some (record { client = of i; number = at i; trans = w.trans; call = sym copy i; counts = c.in-Some-counts.is i; is_granted = granted i }))
+
+-- a Join or a Finish
+pub collect_other-requires-clause-waiting : goal.collect_other-requires-clause-waiting
+collect_other-requires-clause-waiting g c =
+    let k = c.args.self.now in
+    let client : ℕ = c.args.turn.now.client in
+    let w : WaitingCall = c.in-Some.waiting.now in
+    let found : call_at client c.args.number k.waits ≡ Some w = sym c.in-Some.ensures in
+    let waits : IsWaitingCall k.server k.epoch k.given (count_of k.coordinator) k.sizes k.lives w = (find_each (IsWaitingCall k.server k.epoch k.given (count_of k.coordinator) k.sizes k.lives) (is_at client c.args.number) k.waits w found c.requires.ready.2.waits.calls).0 in
+    let named : IsCallBy w.call w.trans None = subst (IsCallBy w.call w.trans) c.in_default-counts.is waits.named in
+    (w, found, c.in_default-counts.is, named.0, named.1)

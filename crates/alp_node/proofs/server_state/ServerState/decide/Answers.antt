@@ -1,5 +1,5 @@
 use Rattle.std.specs.Prelude.{max, Ok, Err}
-use Rattle.std.proofs.Common.{◌≡◌, ℕ, List, refl, sym, ap, ◌∙◌, subst, inl, inr}
+use Rattle.std.proofs.Common.{true, ◌≡◌, ℕ, List, refl, sym, ap, ◌∙◌, subst, inl, inr}
 use Rattle.alp_base.specs.declared.bytes.NoteChange.{NoteChange}
 use Rattle.alp_base.specs.declared.ids.TransId.{TransId}
 use Rattle.alp_journal.specs.declared.act.Act.TheVariants as act
@@ -19,14 +19,16 @@ returns-in-Err-Failed-clause-made g c =
     let k = c.args.self.now in
     let G = g.V.Vault in
     let v = c.make.new.self.vault in
+    let last : c.fall_in.new.self ≡ record k { is_down = true; vault = v } = c.fall_in.ensures.kept ∙ ap (λ (y : ServerState _). record y { is_down = true }) c.in-Err-Failed.ensures.none in
     record {
       why = fault.Failed;
       shown = act.Failed;
       of = inl (refl, refl);
-      kept = c.fall_in.ensures.kept ∙ ap (λ (y : ServerState _). record y { is_down = true }) c.in-Err-Failed.ensures.none;
+      kept = last ∙ (λ i. record k { is_down = true; vault = sym (ap (λ (y : ServerState _). y.vault) last) i });
       writes = λ l there.
-          subst (λ (f : StoreFault). Writes G k.vault v l.part c.args.pending.notes.items (Err f)) c.in-Err-Failed.field-0-is
-          (subst (λ (ns : List NoteChange). Writes G k.vault v l.part ns (Err c.in-Err-Failed.field-0)) c.as_slice.ensures.value (c.in-Err-Failed.ensures.writes l there));
+          subst (λ w. Writes G k.vault w l.part c.args.pending.notes.items (Err fault.Failed)) (sym (ap (λ (y : ServerState _). y.vault) last))
+          (subst (λ (f : StoreFault). Writes G k.vault v l.part c.args.pending.notes.items (Err f)) c.in-Err-Failed.field-0-is
+          (subst (λ (ns : List NoteChange). Writes G k.vault v l.part ns (Err c.in-Err-Failed.field-0)) c.as_slice.ensures.value (c.in-Err-Failed.ensures.writes l there)));
       said = c.fall_in.ensures.acts;
     }
 
@@ -36,14 +38,16 @@ returns-in-Err-Stopped-clause-made g c =
     let G = g.V.Vault in
     let v = c.make.new.self.vault in
     let fall = c.fall_in-in-Err-Stopped in
+    let last : c.fall_in-in-Err-Stopped.new.self ≡ record k { is_down = true; vault = v } = c.fall_in-in-Err-Stopped.ensures.kept ∙ ap (λ (y : ServerState _). record y { is_down = true }) c.in-Err-Stopped.ensures.none in
     record {
       why = fault.Stopped;
       shown = act.Stopped;
       of = inr (refl, refl);
-      kept = fall.ensures.kept ∙ ap (λ (y : ServerState _). record y { is_down = true }) c.in-Err-Stopped.ensures.none;
+      kept = last ∙ (λ i. record k { is_down = true; vault = sym (ap (λ (y : ServerState _). y.vault) last) i });
       writes = λ l there.
-          subst (λ (f : StoreFault). Writes G k.vault v l.part c.args.pending.notes.items (Err f)) c.in-Err-Stopped.field-0-is
-          (subst (λ (ns : List NoteChange). Writes G k.vault v l.part ns (Err c.in-Err-Stopped.field-0)) c.as_slice.ensures.value (c.in-Err-Stopped.ensures.writes l there));
+          subst (λ w. Writes G k.vault w l.part c.args.pending.notes.items (Err fault.Stopped)) (sym (ap (λ (y : ServerState _). y.vault) last))
+          (subst (λ (f : StoreFault). Writes G k.vault v l.part c.args.pending.notes.items (Err f)) c.in-Err-Stopped.field-0-is
+          (subst (λ (ns : List NoteChange). Writes G k.vault v l.part ns (Err c.in-Err-Stopped.field-0)) c.as_slice.ensures.value (c.in-Err-Stopped.ensures.writes l there)));
       said = fall.ensures.acts;
     }
 
@@ -70,7 +74,7 @@ returns-clause-made g c =
     let z : Coordinator = c.decide.new.self in
     let part : HasMade (G.tells k.vault) (G.held k.vault).cells k made t = c.in-Ok.ensures.made in
     let was : made.coordinator ≡ k.coordinator = ap (λ (y : ServerState _). y.coordinator) part.kept ∙ ap (λ (y : ServerState _). y.coordinator) (let_go_of k t) in
-    let clock : c.max.result ≡ max k.clock p.stamp.ts = c.max.ensures ∙ ap (λ (y : ServerState _). max y.clock p.stamp.ts) part.kept ∙ ap (λ (y : ServerState _). max y.clock p.stamp.ts) (let_go_of k t) in
+    let clock : c.max-self.result ≡ max k.clock p.stamp.ts = c.max-self.ensures ∙ ap (λ (y : ServerState _). max y.clock p.stamp.ts) part.kept ∙ ap (λ (y : ServerState _). max y.clock p.stamp.ts) (let_go_of k t) in
     record {
       made = made;
       mid = mid;

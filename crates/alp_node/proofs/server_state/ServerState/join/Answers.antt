@@ -14,7 +14,7 @@ returns-in-Finishing g c =
     let G = g.V.Vault in
     let turn = c.args.turn.now in
     let t = c.args.trans in
-    let refuse = c.refuse_joining-in-Finishing in
+    let refuse = c.refuse_joining in
     buried_step G k refuse.new.self turn t refuse.result (reply.Refused refusal.Finishing) refuse.ensures.kept c.requires.turn c.requires.up refl (record { inside = tt; times = tt }) tt refuse.ensures.answer
     (λ told a h. join_finishing_stepped a (G.faults k.vault) (G.faults k.vault) (G.held k.vault) k turn t h c.requires.turn c.requires.up (named_all k.server k.epoch k.given (count_of k.coordinator) k.sizes k.lives k.waits c.requires.ready.2.waits.calls)
     refuse.result (sym c.standing.ensures ∙ c.in-Finishing.is) refuse.ensures.answer)
@@ -33,8 +33,8 @@ returns-in-Joining g c =
 pub join_again-requires-clause-works : goal.join_again-requires-clause-works
 join_again-requires-clause-works g c = sym c.standing.ensures ∙ c.in-Work.is
 
-pub join_new-requires-clause-none-in-Unknown : goal.join_new-requires-clause-none-in-Unknown
-join_new-requires-clause-none-in-Unknown g c = ap is_no_standing (sym c.standing.ensures ∙ c.in-Unknown.is)
+pub join_new-requires-clause-none : goal.join_new-requires-clause-none
+join_new-requires-clause-none g c = ap is_no_standing (sym c.standing.ensures ∙ c.in-Unknown.is)
 
-pub join_new-requires-clause-none-in-Ended : goal.join_new-requires-clause-none-in-Ended
-join_new-requires-clause-none-in-Ended g c = ap is_no_standing (sym c.standing.ensures ∙ c.in-Ended.is)
+pub join_new-requires-in-Ended-clause-none : goal.join_new-requires-in-Ended-clause-none
+join_new-requires-in-Ended-clause-none g c = ap is_no_standing (sym c.standing.ensures ∙ c.in-Ended.is)

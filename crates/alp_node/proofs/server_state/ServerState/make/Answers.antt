@@ -82,20 +82,25 @@ returns-clause-made g c =
     let v = c.store.new.vault in
     let blocks : List Key = c.in_ok-blocks.blocks.items in
     let gone : c.release.new.self ≡ record (let_go k t) { vault = v } = c.release.ensures.after ∙ let_go_vault k v t in
+    let last : c.ease_all.new.self ≡ record (let_go k t) { lives = eased blocks (let_go k t).lives (map.keys k.lives); vault = v } =
+    c.ease_all.ensures ∙ ap (λ (y : ServerState _). record y { lives = eased c.as_slice-2.result.now y.lives c.as_slice.result.now }) gone
+    ∙ (λ i. record (let_go k t) { lives = eased (c.as_slice-2.ensures.value i) (let_go k t).lives ((c.as_slice.ensures.value ∙ c.in_ok-others.ensures.ids) i); vault = v }) in
     record {
       blocks = blocks;
       opened = λ told l there. c.in_ok-blocks.ensures told l there;
-      kept =
-          c.ease_all.ensures ∙ ap (λ (y : ServerState _). record y { lives = eased c.as_slice-2.result.now y.lives c.as_slice.result.now }) gone
-          ∙ (λ i. record (let_go k t) { lives = eased (c.as_slice-2.ensures.value i) (let_go k t).lives ((c.as_slice.ensures.value ∙ c.in_ok-others.ensures.ids) i); vault = v });
+      kept = last ∙ (λ i. record (let_go k t) { lives = eased blocks (let_go k t).lives (map.keys k.lives); vault = sym (ap (λ (y : ServerState _). y.vault) last) i });
     }
 
 pub returns-clause-writes : goal.returns-clause-writes
 returns-clause-writes g c l there =
     let k = c.args.self.now in
     let G = g.V.Vault in
+    let t = c.args.trans in
+    let v = c.store.new.vault in
+    let vault : c.ease_all.new.self.vault ≡ v = ap (λ (y : ServerState _). y.vault) (c.ease_all.ensures ∙ ap (λ (y : ServerState _). record y { lives = eased c.as_slice-2.result.now y.lives c.as_slice.result.now }) (c.release.ensures.after ∙ let_go_vault k v t)) in
     let same : c.in-Some.live.now ≡ l = same_live c.in-Some.live.now l (c.in-Some.ensures ∙ there) in
-    subst (λ (x : Live). Writes G k.vault c.store.new.vault x.part c.args.notes.now (Ok tt)) same (record {
+    subst (λ w. Writes G k.vault w l.part c.args.notes.now (Ok tt)) (sym vault)
+    (subst (λ (x : Live). Writes G k.vault v x.part c.args.notes.now (Ok tt)) same (record {
       same = c.in_ok-store.ensures.kept;
       cells = c.in_ok-store.ensures.cells;
       notes = c.in_ok-store.ensures.notes;
@@ -103,4 +108,4 @@ returns-clause-writes g c l there =
       memory = c.in_ok-store.ensures.memory;
       spends = c.in_ok-store.ensures.allowance;
       ended = c.in_ok-store.ensures.ended;
-    })
+    }))

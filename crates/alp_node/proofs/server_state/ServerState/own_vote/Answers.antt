@@ -10,8 +10,8 @@ use Rattle.alp_node.specs.declared.lives.Live.{Live}
 use Rattle.alp_node.proofs.VoteLemmas.{IsThere, is_there, none_silent, own_told, small_part}
 use Rattle.alp_node.proofs.server_state.ServerState.own_vote.Goals as goal
 
-pub own_room-requires-clause-part : goal.own_room-requires-clause-part
-own_room-requires-clause-part g c =
+pub own_room-full-requires-clause-part : goal.own_room-full-requires-clause-part
+own_room-full-requires-clause-part g c =
     let k = c.args.self.now in
     small_part c.requires.ready.0 (g.V.Vault.serves k.vault) k c.args.trans.now c.size_of.result c.requires.ready.2 c.size_of.ensures
 
