@@ -20,7 +20,7 @@ pub mod FatedLemmas
 pub mod JoinMoves
 pub mod JoinedLemmas
 pub mod InquiryLemmas
-pub mod AskedLemmas
+pub mod AgainLemmas
 pub mod JoinEnds
 pub mod SingleLemmas
 pub mod QuitLemmas

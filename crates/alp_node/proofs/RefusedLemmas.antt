@@ -48,7 +48,7 @@ use Rattle.alp_node.proofs.JoinedLemmas.{phase_told, ready_named, asks_there}
 use Rattle.alp_node.proofs.NoteLaw.{notes_stay}
 use Rattle.alp_node.proofs.QuitLemmas.{asks, there, quit_kept, quit_ready, quit_noted}
 use Rattle.alp_node.proofs.ReadyLemmas.{waits_ready, stepped_ready}
-use Rattle.alp_node.proofs.SayLemmas.{said_step, silent_step, silent_stepped}
+use Rattle.alp_node.proofs.SayLemmas.{said_step, quiet_step, silent_stepped}
 use Rattle.alp_node.proofs.SingleLemmas.{its_part}
 use Rattle.alp_node.proofs.WaitLemmas.{IsOwned, all_owned, asks_apart, filter_apart, idle_fewer}
 
@@ -160,7 +160,7 @@ module _ {V : Type 0} (G : Ghosts V) (k : ServerState V) (from : ℕ) (j : JoinN
 -- nothing comes of it where the join does not ask to be let in
 pub unasked_step : {V : Type 0} (G : Ghosts V) (k : ServerState V) (from : ℕ) (j : JoinNo) (t : TransId) (x : Answer) → k.is_down ≡ false → x ≡ told_answer None []
     → ((client : ℕ) (who : List ℕ) → join_of t (join_at k.joins.lives j) ≡ Some (record { join = j; trans = t; client = client; stage = stage.Joining who }) → ⊥) → IsStepAs G None k k (event.Arrive from (msg.JoinRefused t j)) (Ok x)
-unasked_step G k from j t x up so out = silent_step G k (event.Arrive from (msg.JoinRefused t j)) x up so (λ a h. refused_passed_leads a from t j h.quiet (h.down ∙ up) (none a h (a.phases j) refl))
+unasked_step G k from j t x up so out = quiet_step G k (event.Arrive from (msg.JoinRefused t j)) x up so (λ a h. refused_passed_leads a from t j h.quiet (h.down ∙ up) (none a h (a.phases j) refl))
   where
     none : (a : Account) → IsAs a (G.held k.vault) k → (p : Phase) → a.phases j ≡ p → refused_join j t p ≡ []
     none a h (Joining u client who) is = go (same_trans u t) refl

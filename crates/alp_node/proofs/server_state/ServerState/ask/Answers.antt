@@ -11,7 +11,7 @@ use Rattle.alp_node.specs.Arrivals.{unknown_acts}
 use Rattle.alp_node.specs.Paired.{is_in}
 use Rattle.alp_node.specs.Says.{said_to}
 use Rattle.alp_node.specs.Steps.{told_answer}
-use Rattle.alp_node.proofs.AskedLemmas.{unknown_step, again_step}
+use Rattle.alp_node.proofs.AgainLemmas.{unknown_step, again_step}
 use Rattle.alp_node.proofs.JoinedLemmas.{join_found, found_as}
 use Rattle.alp_node.proofs.SayLemmas.{said_or_wanting}
 use Rattle.alp_node.proofs.server_state.ServerState.ask.Goals as goal
