@@ -93,6 +93,7 @@ pub mod PastLemmas
 pub mod DownLemmas
 pub mod RaiseLemmas
 pub mod RestLemmas
+pub mod LeastOpens
 pub mod NoteLemmas
 pub mod StoreLemmas
 pub mod StartLemmas

@@ -50,6 +50,7 @@ impl<V: Vault> ServerState<V> {
         ensures along { IsAlong self.old.coordinator self.new.coordinator }
         ensures ends { (client : ℕ) → Comes (Ends trans client cause) self.old.coordinator self.new.coordinator }
         ensures acts { acts.new.items ≡ acts.old.items ++ grant_acts (granted_behind self.old trans) }
+        ensures few { length acts.new.items ≤ length acts.old.items + length self.old.locks.waiting }
         ensures capacity { vec_capacity acts.new ≡ vec_capacity acts.old }
     {
         self.release(trans, acts);

@@ -1,8 +1,9 @@
 use Rattle.std.specs.Prelude.{IsTrue, IfOk, MatchResult}
-use Rattle.std.proofs.Common.{◌≡◌, length, ap, subst, sym, arith}
+use Rattle.std.proofs.Common.{◌≡◌, List, length, ap, subst, sym, arith}
+use Rattle.alp_journal.specs.declared.entry.Entry.{Entry}
 use Rattle.alp_node.specs.Durable.{Leaves, HeldOr, IsSaidThen}
 use Rattle.alp_node.specs.NodeStates.{NodeState}
-use Rattle.alp_node.specs.Nodes.{Answered, HasRoom, start_in, state_of}
+use Rattle.alp_node.specs.Nodes.{Answered, HasRoom, IsConsistent, start_in, state_of}
 use Rattle.alp_node.specs.Orders.{order_in}
 use Rattle.alp_node.specs.Turns.{HasTurned}
 use Rattle.alp_node.proofs.NodeLemmas.{entered_kept, entered_durable, entered_answered, entered_turned}
@@ -54,3 +55,8 @@ returns-clause-turned g c room up =
     let journal = c.answer.new.journal in
     subst (λ (n : NodeState g.row.V.Denot). IfOk c.answer.result (λ r. HasTurned (order_in n.kept c.args.event) n.kept kept c.args.event r)) c.self.view_is
     (entered_turned G old kept journal c.args.event (order_in old.kept c.args.event) c.answer.result (c.answer.ensures.entered old.journal (c.in_ok-make_place.ensures.ok.0) (c.in_ok-make_place.ensures.ok.1)) up)
+
+-- there was no place for its entry
+pub invariant_of-self : goal.invariant_of-self
+invariant_of-self g c =
+    subst (λ (j : List Entry). IsConsistent g.V.Vault (record { opening = c.self.inside.opening; kept = c.self.inside.kept; journal = j })) (sym c.in_err-make_place.ensures.err) c.self.invariant

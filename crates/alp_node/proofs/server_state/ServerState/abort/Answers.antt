@@ -52,3 +52,9 @@ returns g c =
     (each_goes_on (λ j. msg.Abort t j cause.Asked) js) (λ before now allowance. each_caused (λ j. msg.Abort t j cause.Asked) (λ j. tt) js before now allowance)
     (ended_notes c.requires.ready.0 (G.serves k.vault) k turn t (reply.Refused (refusal.Aborted cause.Asked)) z ready c.requires.here (ends_kept k.coordinator z t cause.Asked c.end.ensures.ends))
     (λ told a h. abort_stepped a faults faults (G.held k.vault) k turn t mine.live c.requires.ready.0 (G.serves k.vault) h ready c.requires.turn c.requires.up mine.there js runs.1 c.refused.result z c.end.ensures.along c.end.ensures.ends so)
+
+pub tell_aborts-requires : goal.tell_aborts-requires
+tell_aborts-requires g c =
+    let one : length c.in_ok-acts.acts.items ≡ 1 = ap (λ (xs : List Act). length xs) c.in_ok-acts.ensures.acts in
+    let so_many : length c.as_slice.result.now ≡ length c.in_ok-joins.joins.items = ap (λ (xs : List JoinNo). length xs) c.as_slice.ensures.value in
+    record { room = omega (arith, c.end.ensures.few, one, so_many, c.end.ensures.capacity, c.in_ok-acts.ensures.room, c.len.ensures) }
