@@ -41,7 +41,7 @@ use Rattle.alp_node.proofs.ArrivalLemmas.{kept_fated}
 use Rattle.alp_node.proofs.FatedLemmas.{IsSmallDeed, fated_like, fated_ready, fated_noted, small_as}
 use Rattle.alp_node.proofs.NoteLaw.{AbortsNoVote, notes_stay}
 use Rattle.alp_node.proofs.ReadyLemmas.{stepped_ready}
-use Rattle.alp_node.proofs.SayLemmas.{said_step, silent_step, silent_stepped}
+use Rattle.alp_node.proofs.SayLemmas.{said_step, quiet_step, silent_stepped}
 use Rattle.alp_node.proofs.TransactionLemmas.{run_along}
 
 -- ---- what is known of a receipt
@@ -108,7 +108,7 @@ module _ {V : Type 0} (G : Ghosts V) (k : ServerState V) (from : ℕ) (t : Trans
   unacknowledged (Ended c) e = refl
 
   pub done_dropped : (x : Answer) → receipt_of j (fate_in k.coordinator t) ≡ receipt.Dropped → x ≡ told_answer None [] → IsStepAs G None k k (event.Arrive from (msg.Done t j)) (Ok x)
-  done_dropped x dropped so = silent_step G k (event.Arrive from (msg.Done t j)) x up so
+  done_dropped x dropped so = quiet_step G k (event.Arrive from (msg.Done t j)) x up so
       (λ a h. done_passed_leads a from t j h.quiet (h.down ∙ up) (unacknowledged (a.fates t) (sym (known_receipt a.ids.epoch t j (fate_in k.coordinator t) (a.fates t) (h.coordinator.fates t)) ∙ dropped)))
 
   -- others are to come
@@ -187,7 +187,7 @@ module _ {V : Type 0} (G : Ghosts V) (k : ServerState V) (from : ℕ) (t : Trans
   unsaid a w (Ended c) e = refl
 
   pub vote_dropped : (x : Answer) → ballot_of j ts least (fate_in k.coordinator t) ≡ ballot.Dropped → x ≡ told_answer None [] → IsStepAs G None k k (event.Arrive from (msg.Ready t j ts)) (Ok x)
-  vote_dropped x dropped so = silent_step G k (event.Arrive from (msg.Ready t j ts)) x up so
+  vote_dropped x dropped so = quiet_step G k (event.Arrive from (msg.Ready t j ts)) x up so
       (λ a h.
           (let told : ballot_of j ts least (a.fates t) ≡ ballot.Dropped = ballot_told a (G.held k.vault) ballot.Dropped h dropped in
           ready_passed_leads a from t j ts h.quiet (h.down ∙ up) (λ acts. unheard (state_of a) acts (a.fates t) told) (unsaid a (why_not_own false (state_of a) t) (a.fates t) told)))

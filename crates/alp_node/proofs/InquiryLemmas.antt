@@ -28,7 +28,7 @@ use Rattle.alp_node.specs.Steps.{IsStepAs, told_answer}
 use Rattle.alp_node.specs.declared.answer.Answer.{Answer}
 use Rattle.alp_node.specs.declared.server_state.ServerState.{ServerState}
 use Rattle.alp_node.proofs.JoinMoves.{same_some}
-use Rattle.alp_node.proofs.SayLemmas.{away_told, silent_step, word_step}
+use Rattle.alp_node.proofs.SayLemmas.{away_told, quiet_step, word_step}
 
 -- ---- a time that is told is no later than the last
 
@@ -78,7 +78,7 @@ module _ {V : Type 0} (G : Ghosts V) (k : ServerState V) (from : ℕ) (t : Trans
 
   -- nothing is known of it
   pub unanswered_step : (x : Answer) → answer_to ≡ None → x ≡ told_answer None [] → IsStepAs G None k k (event.Arrive from (msg.Inquire t j)) (Ok x)
-  unanswered_step x none so = silent_step G k (event.Arrive from (msg.Inquire t j)) x up so (λ a h. inquire_silent_leads a from t j h.quiet (h.down ∙ up) (nothing a (G.held k.vault) h (is_known k.coordinator t) refl none))
+  unanswered_step x none so = quiet_step G k (event.Arrive from (msg.Inquire t j)) x up so (λ a h. inquire_silent_leads a from t j h.quiet (h.down ∙ up) (nothing a (G.held k.vault) h (is_known k.coordinator t) refl none))
     where
       nothing : (a : Account) (held : Contents) → IsAs a held k → (b : Bool) → is_known k.coordinator t ≡ b → cond {A = Option Message} b (inquiry_of (epoch_of k.coordinator) t j (fate_in k.coordinator t)) None ≡ None
           → to_others (state_of a) (cond {A = List Mail} (is_trans_drawn (state_of a) t) (on_inquire (state_of a) t j (a.fates t)) []) ≡ []

@@ -80,7 +80,7 @@ use Rattle.alp_node.proofs.JoinMoves.{same_some, found_number, phase_back, WasSt
 use Rattle.alp_node.proofs.MapLemmas.{get_put}
 use Rattle.alp_node.proofs.NoteLaw.{notes_stay}
 use Rattle.alp_node.proofs.NotedLemmas.{HasNoVoter, voters_put, room_on, noted_on}
-use Rattle.alp_node.proofs.SayLemmas.{said_step, silent_step, silent_stepped}
+use Rattle.alp_node.proofs.SayLemmas.{said_step, quiet_step, silent_stepped}
 use Rattle.alp_node.proofs.WaitLemmas.{call_later, like_itself, file_on, named_all}
 
 -- ---- stages
@@ -435,7 +435,7 @@ module _ {V : Type 0} (a : Account) (held : Contents) (k : ServerState V) (t : T
 -- a word that is passed by changes nothing
 pub passed_step : {V : Type 0} (G : Ghosts V) (k : ServerState V) (from : ℕ) (t : TransId) (j : JoinNo) (x : Answer) → k.is_down ≡ false → x ≡ told_answer None []
     → ((a : Account) (held : Contents) → IsAs a held k → IsLetIn a t j → ⊥) → IsStepAs G None k k (event.Arrive from (msg.Joined t j)) (Ok x)
-passed_step G k from t j x up so out = silent_step G k (event.Arrive from (msg.Joined t j)) x up so
+passed_step G k from t j x up so out = quiet_step G k (event.Arrive from (msg.Joined t j)) x up so
     (λ a h. joined_passed_leads a from t j h.quiet (h.down ∙ up) (elim (joined_either a t j) [ inl e ↦ e | inr e ↦ absurd (out a (G.held k.vault) h e) ]))
 
 -- what is found of the transaction is the join, and is the transaction's

@@ -61,7 +61,7 @@ use Rattle.alp_node.proofs.NotedLemmas.{noted_on, noted_decided}
 use Rattle.alp_node.proofs.PairedLemmas.{own_unjoined, running_part}
 use Rattle.alp_node.proofs.ReadyLemmas.{own_lets, stepped_ready}
 use Rattle.alp_node.proofs.ReleaseLemmas.{let_go_of, let_go_voters, late_ready, grants_go_with, grants_caused_with}
-use Rattle.alp_node.proofs.SayLemmas.{said_step, silent_step, silent_stepped, still_wanting}
+use Rattle.alp_node.proofs.SayLemmas.{said_step, quiet_step, silent_stepped, still_wanting}
 use Rattle.alp_node.proofs.StepLemmas.{ends_kept}
 use Rattle.alp_node.proofs.TransactionLemmas.{lets_end, ended_by}
 
@@ -270,7 +270,7 @@ module _ {V : Type 0} (G : Ghosts V) (k : ServerState V) (from : ℕ) (t : Trans
 
   -- it is none of a transaction that is finishing
   pub no_passed_step : (x : Answer) → (IsAmong j (fate_in k.coordinator t) → ⊥) → x ≡ told_answer None [] → IsStepAs G None k k (event.Arrive from (msg.No t j w)) (Ok x)
-  no_passed_step x out so = silent_step G k (event.Arrive from (msg.No t j w)) x up so
+  no_passed_step x out so = quiet_step G k (event.Arrive from (msg.No t j w)) x up so
       (λ a h. no_passed_leads a from t j w h.quiet (h.down ∙ up) (nothing_brought (a.fates t) (told_out a h)) (nothing_said (a.fates t) (told_out a h)))
     where
       told_out : (a : Account) → IsAs a (G.held k.vault) k → IsAmong j (a.fates t) → ⊥

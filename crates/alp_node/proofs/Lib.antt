@@ -20,10 +20,11 @@ pub mod FatedLemmas
 pub mod JoinMoves
 pub mod JoinedLemmas
 pub mod InquiryLemmas
-pub mod AskedLemmas
+pub mod AgainLemmas
 pub mod JoinEnds
 pub mod SingleLemmas
 pub mod QuitLemmas
+pub mod RefusedLemmas
 pub mod HoldingLemmas
 pub mod HeardLemmas
 pub mod LapseLemmas

@@ -51,10 +51,10 @@ use Rattle.alp_node.proofs.SayLemmas.{away_told, said_step, said_goes_on, said_c
 use Rattle.alp_node.proofs.SingleLemmas.{same_number, is_its, its_part}
 
 module _ {V : Type 0} (k : ServerState V) (j : JoinNo) (t : TransId) (client : ℕ) (who : List ℕ) (found : join_of t (join_at k.joins.lives j) ≡ Some (record { join = j; trans = t; client = client; stage = stage.Joining who })) where
-  abbrev asks : LiveJoin
+  abbrev pub asks : LiveJoin
   asks = record { join = j; trans = t; client = client; stage = stage.Joining who }
 
-  there : join_at k.joins.lives j ≡ Some (record { join = j; trans = t; client = client; stage = stage.Joining who })
+  pub there : join_at k.joins.lives j ≡ Some (record { join = j; trans = t; client = client; stage = stage.Joining who })
   there = (join_found t (join_at k.joins.lives j) asks found).there
 
   -- the server where it is over

@@ -129,9 +129,9 @@ told_step G k e x acts up so none causes leads =
     (λ a h. silent_stepped a a (G.faults k.vault) (G.held k.vault) k k e x acts h refl so (leads a h) h)
 
 -- nothing comes of it
-pub silent_step : {V : Type 0} (G : Ghosts V) (k : ServerState V) (e : Event) (x : Answer) → k.is_down ≡ false → x ≡ told_answer None []
+pub quiet_step : {V : Type 0} (G : Ghosts V) (k : ServerState V) (e : Event) (x : Answer) → k.is_down ≡ false → x ≡ told_answer None []
     → ((a : Account) → IsAs a (G.held k.vault) k → Leads false a (record { event = e; reply = None; acts = [] }) a) → IsStepAs G None k k e (Ok x)
-silent_step G k e x up so leads = told_step G k e x [] up so refl (λ before now allowance. tt) leads
+quiet_step G k e x up so leads = told_step G k e x [] up so refl (λ before now allowance. tt) leads
 
 -- a message goes to another server of the run
 pub word_step : {V : Type 0} (G : Ghosts V) (k : ServerState V) (e : Event) (x : Answer) (to : ℕ) (m : Message) → k.is_down ≡ false → x ≡ told_answer None (said_to k to m) → MaySay m

@@ -30,7 +30,7 @@ use Rattle.alp_node.specs.Totals.{LiveMap}
 use Rattle.alp_node.specs.Dead.{cause_in}
 use Rattle.alp_worker.specs.declared.live.LiveJoin.{LiveJoin}
 use Rattle.alp_worker.specs.Lives.{is_open, join_at}
-use Rattle.alp_node.specs.Waits.{is_of, is_file_on, is_at, is_other_at, has_waiting, has_file_on, grant_one, grant_of, outlives, without_dead, without_other_at, has_part, stays, live_calls, IsCurrent, IsWithinLimits, IsFileCall, IsNamed, IsWaitingCall, IsOfOther, AreApart, is_asking, asks_for, IsOfCalls, AreWaiting, AreVotersIdle}
+use Rattle.alp_node.specs.Waits.{is_of, is_file_on, is_at, is_other_at, without_calls_of, has_waiting, has_file_on, grant_one, grant_of, outlives, without_dead, without_other_at, has_part, stays, live_calls, IsCurrent, IsWithinLimits, IsFileCall, IsNamed, IsWaitingCall, IsOfOther, AreApart, is_asking, asks_for, IsOfCalls, AreWaiting, AreVotersIdle}
 use Rattle.alp_node.specs.declared.dead.DeadPart.{DeadPart}
 use Rattle.alp_node.specs.declared.lives.Live.{Live}
 use Rattle.alp_node.specs.declared.lock_counts.LockCounts.{LockCounts}
@@ -234,6 +234,23 @@ asks_live client c k lives ws t has live owned asks = any_filter (IsOwned lives)
 
     keeps : (w : WaitingCall) → IsOwned lives w → is_asking t w ≡ true → stays client c k w ≡ true
     keeps w own e = go w own (file_counts t w (and_left (is_file_on t w) (not w.is_granted) e)) (asking_is t w e) (map.get lives t) refl live
+
+-- and where those go of a client that has no live part of the transaction
+pub asks_apart : (client : ℕ) (t : TransId) (lives : LiveMap) (ws : List WaitingCall) (u : TransId) → ((l : Live) → map.get lives t ≡ Some l → (l.client == client) ≡ false) → is_some (map.get lives u) ≡ true
+    → AllByRecursion (IsOwned lives) ws → asks_for ws u ≡ true → asks_for (without_calls_of client t ws) u ≡ true
+asks_apart client t lives ws u other live owned asks = any_filter (IsOwned lives) (λ w. not (is_of client t w)) (is_asking u) ws keeps owned asks
+  where
+    theirs : (w : WaitingCall) → IsOwned lives w → is_some w.counts ≡ true → w.trans ≡ u → same_trans w.trans t ≡ true → (x : Option Live) → map.get lives u ≡ x → is_some x ≡ true → (w.client == client) ≡ false
+    theirs w own some at its None e s = let wrong : false ≡ true = s in cc
+    theirs w own some at its (Some l) e s = ap (λ (n : ℕ). n == client) (own l (ap (map.get lives) at ∙ e) some) ∙ other l (ap (map.get lives) (sym (same_trans-true w.trans t its) ∙ at) ∙ e)
+
+    passes : (b c : Bool) → (c ≡ true → b ≡ false) → not (b && c) ≡ true
+    passes false c h = refl
+    passes true false h = refl
+    passes true true h = let wrong : true ≡ false = h refl in cc
+
+    keeps : (w : WaitingCall) → IsOwned lives w → is_asking u w ≡ true → not (is_of client t w) ≡ true
+    keeps w own e = passes (w.client == client) (same_trans w.trans t) (λ its. theirs w own (file_counts u w (and_left (is_file_on u w) (not w.is_granted) e)) (asking_is u w e) its (map.get lives u) refl live)
 
 pub asks_other : (client : ℕ) (t : TransId) (ws : List WaitingCall) (u : TransId) → same_trans u t ≡ false → asks_for ws u ≡ true → asks_for (filter (λ w. not (is_of client t w)) ws) u ≡ true
 asks_other client t ws u apart asks =

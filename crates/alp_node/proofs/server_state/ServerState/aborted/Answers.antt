@@ -1,5 +1,5 @@
 use Rattle.std.proofs.Common.{◌≡◌, sym, ap, ◌∙◌}
-use Rattle.alp_node.proofs.AskedLemmas.{gone_step}
+use Rattle.alp_node.proofs.AgainLemmas.{gone_step}
 use Rattle.alp_worker.specs.declared.live.Stage.TheVariants as stage
 use Rattle.alp_node.proofs.JoinedLemmas.{found_as}
 use Rattle.alp_node.proofs.server_state.ServerState.aborted.Goals as goal

@@ -5,7 +5,7 @@ use Rattle.alp_base.specs.declared.ids.TransId.{TransId}
 use Rattle.alp_journal.specs.Ids.{same_trans}
 use Rattle.alp_journal.proofs.IdLemmas.{same_trans-itself, same_trans-true}
 use Rattle.alp_worker.specs.Lives.{join_at}
-use Rattle.alp_node.proofs.AskedLemmas.{unready_step}
+use Rattle.alp_node.proofs.AgainLemmas.{unready_step}
 use Rattle.alp_node.proofs.JoinMoves.{found_number}
 use Rattle.alp_node.proofs.server_state.ServerState.committed.Goals as goal
 

@@ -4,7 +4,7 @@ use Rattle.alp_journal.specs.declared.event.Event.TheVariants as event
 use Rattle.alp_journal.specs.declared.message.Message.TheVariants as msg
 use Rattle.alp_node.specs.Says.{said_to}
 use Rattle.alp_node.specs.Steps.{told_answer}
-use Rattle.alp_node.proofs.AskedLemmas.{done_step, strange_step}
+use Rattle.alp_node.proofs.AgainLemmas.{done_step, strange_step}
 use Rattle.alp_node.proofs.SayLemmas.{said_or_wanting}
 use Rattle.alp_node.proofs.server_state.ServerState.done_before.Goals as goal
 

@@ -10,8 +10,8 @@ use Rattle.alp_node.specs.declared.lives.Live.{Live}
 use Rattle.alp_node.proofs.VoteLemmas.{IsThere, is_there, none_silent, against_told, small_part}
 use Rattle.alp_node.proofs.server_state.ServerState.why_not.Goals as goal
 
-pub room_for-requires-clause-part : goal.room_for-requires-clause-part
-room_for-requires-clause-part g c =
+pub room_for-full-requires-clause-part : goal.room_for-full-requires-clause-part
+room_for-full-requires-clause-part g c =
     let k = c.args.self.now in
     small_part c.requires.ready.0 (g.V.Vault.serves k.vault) k c.args.trans.now c.size_of.result c.requires.ready.2 c.size_of.ensures
 

@@ -36,7 +36,7 @@ use Rattle.alp_node.specs.declared.answer.Answer.{Answer}
 use Rattle.alp_node.specs.declared.server_state.ServerState.{ServerState}
 use Rattle.alp_node.proofs.JoinMoves.{same_some, phase_back}
 use Rattle.alp_node.proofs.JoinedLemmas.{IsFound, join_found, phase_told}
-use Rattle.alp_node.proofs.SayLemmas.{away_told, silent_step, word_step}
+use Rattle.alp_node.proofs.SayLemmas.{away_told, quiet_step, word_step}
 
 module _ {V : Type 0} (G : Ghosts V) (k : ServerState V) (from : ℕ) (t : TransId) (j : JoinNo) (up : k.is_down ≡ false) where
   module _ (a : Account) (held : Contents) (h : IsAs a held k) where
@@ -86,7 +86,7 @@ module _ {V : Type 0} (G : Ghosts V) (k : ServerState V) (from : ℕ) (t : Trans
     where
       -- nothing is said
       still : (x : Answer) → x ≡ told_answer None [] → ((a : Account) → IsAs a (G.held k.vault) k → to_others (state_of a) (unknown_join (state_of a) t j) ≡ []) → IsStepAs G None k k asking (Ok x)
-      still x so silent = silent_step G k asking x up so (λ a h. ask_silent_leads a from t j h.quiet (h.down ∙ up) (not_its a (G.held k.vault) h none) (silent a h))
+      still x so silent = quiet_step G k asking x up so (λ a h. ask_silent_leads a from t j h.quiet (h.down ∙ up) (not_its a (G.held k.vault) h none) (silent a h))
 
       mail : (a : Account) → IsAs a (G.held k.vault) k → (b : Bool) → is_drawn_in k.joins j ≡ b → to_others (state_of a) (unknown_join (state_of a) t j) ≡ to_others (state_of a) (cond {A = List Mail} b ((t.server, msg.No t j why.UnknownJoin) ∷ []) [])
       mail a h b drawn = ap (λ (c : Bool). to_others (state_of a) (cond {A = List Mail} c ((t.server, msg.No t j why.UnknownJoin) ∷ []) [])) (sym (drawn_told a (G.held k.vault) h) ∙ drawn)
@@ -132,7 +132,7 @@ module _ {V : Type 0} (G : Ghosts V) (k : ServerState V) (from : ℕ) (t : Trans
       go true away so = word_step G k (committing stamp) x t.server (msg.Done t j) up (so ∙ ap (λ (b : Bool). told_answer None (said_if b t.server (msg.Done t j))) (sym away)) tt
           (λ a h. subst (λ (b : Bool). Leads false a (record { event = committing stamp; reply = None; acts = said_if b t.server (msg.Done t j) }) a) (sym away)
           (commit_done_leads a from t j stamp h.quiet (h.down ∙ up) (sym (drawn_told a (G.held k.vault) h) ∙ drawn) (over a (G.held k.vault) h none) (sym (away_told a (G.held k.vault) k t.server h) ∙ away)))
-      go false near so = silent_step G k (committing stamp) x up so
+      go false near so = quiet_step G k (committing stamp) x up so
           (λ a h. commit_passed_leads a from t j stamp h.quiet (h.down ∙ up)
           (said a h ∙ ap (λ (c : Bool). cond {A = List Mail} c ((t.server, msg.Done t j) ∷ []) []) (sym (away_told a (G.held k.vault) k t.server h) ∙ near))
           (λ client ts of ready. (let wrong : None ≡ Some (t, client) = sym (over a (G.held k.vault) h none) ∙ ap live_in ready in cc)))
@@ -142,14 +142,14 @@ module _ {V : Type 0} (G : Ghosts V) (k : ServerState V) (from : ℕ) (t : Trans
 
   -- nothing comes of it where the join was not drawn here
   pub strange_step : (x : Answer) (stamp : Stamp) → join_at k.joins.lives j ≡ None → is_drawn_in k.joins j ≡ false → x ≡ told_answer None [] → IsStepAs G None k k (committing stamp) (Ok x)
-  strange_step x stamp none strange so = silent_step G k (committing stamp) x up so
+  strange_step x stamp none strange so = quiet_step G k (committing stamp) x up so
       (λ a h. commit_passed_leads a from t j stamp h.quiet (h.down ∙ up)
       (ap (to_others (state_of a)) (ap (λ (b : Bool). cond {A = List Mail} (b && is_none (live_in (a.phases j))) ((t.server, msg.Done t j) ∷ []) []) (sym (drawn_told a (G.held k.vault) h) ∙ strange)))
       (λ client ts of ready. (let wrong : None ≡ Some (t, client) = sym (over a (G.held k.vault) h none) ∙ ap live_in ready in cc)))
 
   -- nor where it is live, and not ready for that stamp
   pub unready_step : (x : Answer) (stamp : Stamp) (y : LiveJoin) → join_at k.joins.lives j ≡ Some y → ((ts : ℕ) → y.stage ≡ stage.Ready ts → y.trans ≡ t → stamp.trans ≡ t → ⊥) → x ≡ told_answer None [] → IsStepAs G None k k (committing stamp) (Ok x)
-  unready_step x stamp y there out so = silent_step G k (committing stamp) x up so
+  unready_step x stamp y there out so = quiet_step G k (committing stamp) x up so
       (λ a h. commit_passed_leads a from t j stamp h.quiet (h.down ∙ up) (silent a (live_told a h)) (λ client ts of ready. out ts (stage_told a h client ts ready) (trans_told a h client ts ready) of))
     where
       live_told : (a : Account) (h : IsAs a (G.held k.vault) k) → is_none (live_in (a.phases j)) ≡ false
@@ -180,4 +180,4 @@ module _ {V : Type 0} (G : Ghosts V) (k : ServerState V) (from : ℕ) (t : Trans
 
   -- it is not here
   pub gone_step : (x : Answer) (c : Cause) → join_of t (join_at k.joins.lives j) ≡ None → x ≡ told_answer None [] → IsStepAs G None k k (event.Arrive from (msg.Abort t j c)) (Ok x)
-  gone_step x c none so = silent_step G k (event.Arrive from (msg.Abort t j c)) x up so (λ a h. abort_passed_leads a from t j c h.quiet (h.down ∙ up) (not_its a (G.held k.vault) h none))
+  gone_step x c none so = quiet_step G k (event.Arrive from (msg.Abort t j c)) x up so (λ a h. abort_passed_leads a from t j c h.quiet (h.down ∙ up) (not_its a (G.held k.vault) h none))
