@@ -1,0 +1,5 @@
+pub mod Lives
+pub mod Notes
+pub mod Regained
+pub mod Rooms
+pub mod Together

@@ -1,0 +1,15 @@
+//! What the notes of an earlier run leave a server: parts that are ready, with their locks and their intents, and decisions.
+#![tactic(auto)]
+
+mod changes;
+mod fault;
+mod ids;
+mod locks;
+mod notes;
+mod parts;
+mod regain;
+mod rooms;
+
+pub use fault::RegainFault;
+pub use parts::RegainedPart;
+pub use regain::{Regained, regain};
