@@ -45,6 +45,8 @@ pub record IsPartOf (tells : Bool) (m : Cells) (server epoch : ℕ) (p : Regaine
   pub counts : IsTrue tells → AreCountsOf m n.edits p.part.counts
   pub locks : p.locks ≡ length (with_resources n.locks [])
   pub note : IsPartNote server epoch n
+  pub within : IsWithin (Writes (held_by n.locks)) n.edits
+  pub intended : IsIntended (held_by n.locks)
 
 -- each part is that of its note, in the order of the notes
 abbrev pub ArePartsOf : Bool → Cells → (server epoch : ℕ) → List RegainedPart → List ReadyNote → Type 0

@@ -1,0 +1,5 @@
+pub mod ListLemmas
+pub mod NoteLemmas
+pub mod LockLemmas
+pub mod LiveLemmas
+pub mod RoomLemmas

@@ -1,0 +1,158 @@
+-- one ready part after the other becomes live
+use Rattle.std.specs.Prelude.{cond, Bool, true, false, ◌&&◌, ◌||◌, Option, None, Some, is_some, unwrap_or, map as list_map}
+use Rattle.std.specs.List.{list_any, AllByRecursion}
+use Rattle.std.specs.FinMap as map
+use Rattle.std.specs.FinMap.{get-empty, get-insert}
+use Rattle.std.specs.Ordering.{eq_by_cmp, is_eq}
+use Rattle.std.specs.Cmp.{eq_by_cmp_equiv, tied_itself}
+use Rattle.std.proofs.Common.{◌≡◌, ℕ, List, [], ◌∷◌, ◌++◌, append_assoc, length, refl, sym, ◌∙◌, ap, subst}
+use Rattle.std.proofs.lemmas.Map.Views.{tells_apart}
+use Rattle.std.proofs.lemmas.List.Folds.{list_any-append}
+use Rattle.alp_base.specs.Orders.{trans_cmp, transactions_total, exact_transactions}
+use Rattle.alp_base.specs.declared.ids.TransId.{TransId}
+use Rattle.alp_base.specs.declared.key.Resource.{Resource}
+use Rattle.alp_modes.specs.declared.Mode.{Mode}
+use Rattle.alp_files.specs.Cells.{Cells}
+use Rattle.alp_files.specs.Holdings.{agree_held, join_held, held_by, DoAgree}
+use Rattle.alp_files.proofs.HoldingLemmas.{agree-turned}
+use Rattle.alp_queue.specs.Rises.{Held}
+use Rattle.alp_locks.specs.Asks.{joined, with_regained}
+use Rattle.alp_locks.specs.Sound.{IsSound}
+use Rattle.alp_locks.specs.Tables.{Holders, Table, held_of, holding}
+use Rattle.alp_locks.proofs.LawLemmas.{joined-holds}
+use Rattle.alp_journal.specs.Opening.{ReadyNote}
+use Rattle.alp_regain.specs.Together.{IsPartNote, AreTwo, AreApart}
+use Rattle.alp_regain.specs.Regained.{IsPartOf, ArePartsOf, has_note_of, HoldsNoted, AreLocksOf}
+use Rattle.alp_regain.specs.declared.parts.RegainedPart.{RegainedPart}
+use Rattle.alp_regain.proofs.ListLemmas.{at_middle, pushed}
+
+-- ---- transactions by their ids
+
+same_trans_id : (t u : TransId) → eq_by_cmp trans_cmp t u ≡ true → t ≡ u
+same_trans_id t u e = tells_apart exact_transactions t u e
+
+itself : (t : TransId) → eq_by_cmp trans_cmp t t ≡ true
+itself t = ap is_eq (tied_itself transactions_total t)
+
+turned : (t u : TransId) → eq_by_cmp trans_cmp t u ≡ eq_by_cmp trans_cmp u t
+turned t u = (eq_by_cmp_equiv transactions_total).symm t u
+
+or_none : {a b : Bool} → (a || b) ≡ false → (a ≡ false) × (b ≡ false)
+or_none {true} {b} h = cc
+or_none {false} {b} h = (refl, h)
+
+-- ---- notes that keep apart
+
+pub apart_pushed : (ns : List ReadyNote) (n : ReadyNote) → AreApart ns → AllByRecursion (λ o. AreTwo o n) ns → AreApart (ns ++ n ∷ [])
+apart_pushed [] n apart two = (tt, tt)
+apart_pushed (o ∷ ns) n apart two = (pushed (AreTwo o) ns n apart.0 two.0, apart_pushed ns n apart.1 two.1)
+
+pub apart_before : (done : List ReadyNote) (n : ReadyNote) (rest : List ReadyNote) → AreApart (done ++ n ∷ rest) → AllByRecursion (λ o. AreTwo o n) done
+apart_before [] n rest apart = tt
+apart_before (o ∷ done) n rest apart = (at_middle (AreTwo o) done n rest apart.0, apart_before done n rest apart.1)
+
+pub not_twice : (done : List ReadyNote) (n : ReadyNote) → has_note_of n.trans done ≡ true → AllByRecursion (λ o. AreTwo o n) done → ⊥
+not_twice [] n has two = cc
+not_twice (o ∷ done) n has two = go (eq_by_cmp trans_cmp n.trans o.trans) refl has
+  where
+    go : (b : Bool) → eq_by_cmp trans_cmp n.trans o.trans ≡ b → (b || has_note_of n.trans done) ≡ true → ⊥
+    go true same h = let wrong : true ≡ false = sym same ∙ turned n.trans o.trans ∙ two.0.apart in cc
+    go false other h = not_twice done n h two.1
+
+-- ---- parts and their notes
+
+module _ (tells : Bool) (m : Cells) (server epoch : ℕ) where
+  pub parts_pushed : (ps : List RegainedPart) (ns : List ReadyNote) (p : RegainedPart) (n : ReadyNote) → ArePartsOf tells m server epoch ps ns → IsPartOf tells m server epoch p n
+      → ArePartsOf tells m server epoch (ps ++ p ∷ []) (ns ++ n ∷ [])
+  parts_pushed [] [] p n are is = (is, tt)
+  parts_pushed [] (o ∷ ns) p n are is = absurd are
+  parts_pushed (q ∷ ps) [] p n are is = absurd are
+  parts_pushed (q ∷ ps) (o ∷ ns) p n are is = (are.0, parts_pushed ps ns p n are.1 is)
+
+  pub same_has : (ps : List RegainedPart) (ns : List ReadyNote) (t : TransId) → ArePartsOf tells m server epoch ps ns
+      → list_any (λ (p : RegainedPart). eq_by_cmp trans_cmp t p.trans) ps ≡ has_note_of t ns
+  same_has [] [] t are = refl
+  same_has [] (o ∷ ns) t are = absurd are
+  same_has (q ∷ ps) [] t are = absurd are
+  same_has (q ∷ ps) (o ∷ ns) t are = λ i. eq_by_cmp trans_cmp t (are.0.trans i) || same_has ps ns t are.1 i
+
+-- ---- the table of their locks
+
+module _ (t : Table) (done : List ReadyNote) (n : ReadyNote) (locks : AreLocksOf t done) where
+  -- what another transaction holds stays
+  other_holds : (u : TransId) (r : Resource) → eq_by_cmp trans_cmp u n.trans ≡ false → holding (with_regained t n.trans n.locks None).held u r ≡ holding t.held u r
+  other_holds u r other =
+      ap (λ (o : Option Held). map.get (unwrap_or o map.empty) r)
+      (get-insert transactions_total t.held n.trans (joined (held_of t.held n.trans) n.locks) u ∙ ap (λ (b : Bool). cond b (Some (joined (held_of t.held n.trans) n.locks)) (map.get t.held u)) other)
+
+  others_hold : (os : List ReadyNote) → has_note_of n.trans os ≡ false → AllByRecursion (HoldsNoted t) os → AllByRecursion (HoldsNoted (with_regained t n.trans n.locks None)) os
+  others_hold [] new held = tt
+  others_hold (o ∷ os) new held =
+      (λ r. other_holds o.trans r (turned o.trans n.trans ∙ (or_none new).0) ∙ held.0 r, others_hold os (or_none new).1 held.1)
+
+  module _ (new : has_note_of n.trans done ≡ false) where
+    -- it held nothing before
+    nothing : held_of t.held n.trans ≡ map.empty
+    nothing = ap (λ (o : Option Held). unwrap_or o map.empty) (locks.others n.trans new)
+
+    pub all_held : held_of (with_regained t n.trans n.locks None).held n.trans ≡ joined map.empty n.locks
+    all_held =
+        ap (λ (o : Option Held). unwrap_or o map.empty)
+        (get-insert transactions_total t.held n.trans (joined (held_of t.held n.trans) n.locks) n.trans
+        ∙ ap (λ (b : Bool). cond b (Some (joined (held_of t.held n.trans) n.locks)) (map.get t.held n.trans)) (itself n.trans))
+        ∙ ap (λ (h : Held). joined h n.locks) nothing
+
+    pub own_holds : (r : Resource) → holding (with_regained t n.trans n.locks None).held n.trans r ≡ held_by n.locks r
+    own_holds r =
+        ap (λ (h : Held). map.get h r) all_held ∙ joined-holds n.locks map.empty r
+        ∙ ap (λ (o : Option Mode). join_held o (held_by n.locks r)) (get-empty _ r)
+
+    pub locks_pushed : IsSound (with_regained t n.trans n.locks None) → AreLocksOf (with_regained t n.trans n.locks None) (done ++ n ∷ [])
+    locks_pushed sound = record {
+      sound = sound;
+      waiting = locks.waiting;
+      woken = locks.woken;
+      held = pushed (HoldsNoted (with_regained t n.trans n.locks None)) done n (others_hold done new locks.held) own_holds;
+      others = λ u none.
+          let apart = or_none (sym (list_any-append (λ (o : ReadyNote). eq_by_cmp trans_cmp u o.trans) done (n ∷ [])) ∙ none) in
+          get-insert transactions_total t.held n.trans (joined (held_of t.held n.trans) n.locks) u
+          ∙ ap (λ (b : Bool). cond b (Some (joined (held_of t.held n.trans) n.locks)) (map.get t.held u)) (or_none apart.1).0
+          ∙ locks.others u apart.0;
+    }
+
+    -- its locks agree with those of each transaction that is known, so they agree with those of each note
+    pub agree_each : ((u : TransId) → eq_by_cmp trans_cmp n.trans u ≡ false → DoAgree (held_by n.locks) (holding t.held u)) → AllByRecursion (λ o. AreTwo o n) done
+    agree_each agree = walk done new locks.held
+      where
+        walk : (os : List ReadyNote) → has_note_of n.trans os ≡ false → AllByRecursion (HoldsNoted t) os → AllByRecursion (λ o. AreTwo o n) os
+        walk [] none held = tt
+        walk (o ∷ os) none held =
+            (record {
+              apart = turned o.trans n.trans ∙ (or_none none).0;
+              agree = λ r.
+                  agree-turned (held_by o.locks r) (held_by n.locks r) ∙ ap (λ (x : Option Mode). agree_held (held_by n.locks r) x) (sym (held.0 r)) ∙ agree o.trans (or_none none).0 r;
+            }, walk os (or_none none).1 held.1)
+
+  -- and the other way round
+  pub agree_known : AllByRecursion (λ o. AreTwo o n) done → (u : TransId) → eq_by_cmp trans_cmp n.trans u ≡ false → DoAgree (held_by n.locks) (holding t.held u)
+  agree_known two u other r = go (has_note_of u done) refl
+    where
+      free : (x : Option Mode) → agree_held x None ≡ true
+      free None = refl
+      free (Some a) = refl
+
+      walk : (os : List ReadyNote) → has_note_of u os ≡ true → AllByRecursion (HoldsNoted t) os → AllByRecursion (λ o. AreTwo o n) os → agree_held (held_by n.locks r) (holding t.held u r) ≡ true
+      walk [] has held each = cc
+      walk (o ∷ os) has held each = here (eq_by_cmp trans_cmp u o.trans) refl has
+        where
+          here : (b : Bool) → eq_by_cmp trans_cmp u o.trans ≡ b → (b || has_note_of u os) ≡ true → agree_held (held_by n.locks r) (holding t.held u r) ≡ true
+          here true same h =
+              ap (λ (x : TransId). agree_held (held_by n.locks r) (holding t.held x r)) (same_trans_id u o.trans same) ∙ ap (agree_held (held_by n.locks r)) (held.0 r)
+              ∙ agree-turned (held_by n.locks r) (held_by o.locks r) ∙ each.0.agree r
+          here false apart h = walk os h held.1 each.1
+
+      go : (b : Bool) → has_note_of u done ≡ b → agree_held (held_by n.locks r) (holding t.held u r) ≡ true
+      go true known = walk done known locks.held two
+      go false unknown =
+          ap (λ (o : Option Held). agree_held (held_by n.locks r) (map.get (unwrap_or o map.empty) r)) (locks.others u unknown)
+          ∙ ap (agree_held (held_by n.locks r)) (get-empty _ r) ∙ free (held_by n.locks r)

@@ -1,0 +1,61 @@
+-- what regained parts come to is what their notes say
+use Rattle.std.specs.Prelude.{Bool, true, false, nat_le, sum_by, map as list_map, IsTrue}
+use Rattle.std.proofs.Common.{◌≡◌, ℕ, ◌+◌, ◌≤◌, List, [], ◌∷◌, length, refl, sym, ap, ◌∙◌, arith}
+use Rattle.alp_base.specs.declared.faults.Sizes.{Sizes}
+use Rattle.alp_files.specs.Cells.{Cells}
+use Rattle.alp_files.specs.Needs.{Intents, changed_by, need_of, made_of, is_leader, is_owner}
+use Rattle.alp_worker.specs.declared.room.PartSize.{PartSize}
+use Rattle.alp_journal.specs.Opening.{ReadyNote}
+use Rattle.alp_regain.specs.Rooms.{part_size, places_in, files_in, owners_in, HaveRoomFor}
+use Rattle.alp_regain.specs.Together.{size_of, HaveRoomTogether}
+use Rattle.alp_regain.specs.Regained.{IsPartOf, ArePartsOf}
+use Rattle.alp_regain.specs.declared.parts.RegainedPart.{RegainedPart}
+
+module _ (tells : Bool) (m : Cells) (server epoch : ℕ) where
+  one_size : (p : RegainedPart) (n : ReadyNote) → IsPartOf tells m server epoch p n → part_size p ≡ size_of n
+  one_size p n is = λ i. record { cells = (is.part.cells ∙ ap changed_by is.intents) i; locks = is.locks i }
+
+  pub same_sizes : (ps : List RegainedPart) (ns : List ReadyNote) → ArePartsOf tells m server epoch ps ns → list_map part_size ps ≡ list_map size_of ns
+  same_sizes [] [] are = refl
+  same_sizes [] (n ∷ ns) are = absurd are
+  same_sizes (p ∷ ps) [] are = absurd are
+  same_sizes (p ∷ ps) (n ∷ ns) are = λ i. one_size p n are.0 i ∷ same_sizes ps ns are.1 i
+
+  pub same_length : (ps : List RegainedPart) (ns : List ReadyNote) → ArePartsOf tells m server epoch ps ns → length ps ≡ length ns
+  same_length [] [] are = refl
+  same_length [] (n ∷ ns) are = absurd are
+  same_length (p ∷ ps) [] are = absurd are
+  same_length (p ∷ ps) (n ∷ ns) are = omega (arith, same_length ps ns are.1)
+
+  module _ (told : IsTrue tells) where
+    same_places : (ps : List RegainedPart) (ns : List ReadyNote) → ArePartsOf tells m server epoch ps ns → sum_by places_in ps ≡ sum_by (λ (n : ReadyNote). need_of m n.edits) ns
+    same_places [] [] are = refl
+    same_places [] (n ∷ ns) are = absurd are
+    same_places (p ∷ ps) [] are = absurd are
+    same_places (p ∷ ps) (n ∷ ns) are = λ i. (are.0.counts told).places i + same_places ps ns are.1 i
+
+    same_files : (ps : List RegainedPart) (ns : List ReadyNote) → ArePartsOf tells m server epoch ps ns → sum_by files_in ps ≡ sum_by (λ (n : ReadyNote). made_of is_leader m n.edits) ns
+    same_files [] [] are = refl
+    same_files [] (n ∷ ns) are = absurd are
+    same_files (p ∷ ps) [] are = absurd are
+    same_files (p ∷ ps) (n ∷ ns) are = λ i. (are.0.counts told).files i + same_files ps ns are.1 i
+
+    same_owners : (ps : List RegainedPart) (ns : List ReadyNote) → ArePartsOf tells m server epoch ps ns → sum_by owners_in ps ≡ sum_by (λ (n : ReadyNote). made_of is_owner m n.edits) ns
+    same_owners [] [] are = refl
+    same_owners [] (n ∷ ns) are = absurd are
+    same_owners (p ∷ ps) [] are = absurd are
+    same_owners (p ∷ ps) (n ∷ ns) are = λ i. (are.0.counts told).owners i + same_owners ps ns are.1 i
+
+    pub room_said : (s : Sizes) (ps : List RegainedPart) (ns : List ReadyNote) → ArePartsOf tells m server epoch ps ns → HaveRoomFor s m ps → HaveRoomTogether s m ns
+    room_said s ps ns are room = record {
+      places = omega (arith, room.places, same_places ps ns are);
+      files = omega (arith, room.files, same_files ps ns are);
+      owners = omega (arith, room.owners, same_owners ps ns are);
+    }
+
+    pub room_meant : (s : Sizes) (ps : List RegainedPart) (ns : List ReadyNote) → ArePartsOf tells m server epoch ps ns → HaveRoomTogether s m ns → HaveRoomFor s m ps
+    room_meant s ps ns are room = record {
+      places = omega (arith, room.places, same_places ps ns are);
+      files = omega (arith, room.files, same_files ps ns are);
+      owners = omega (arith, room.owners, same_owners ps ns are);
+    }
