@@ -4,13 +4,13 @@ use Rattle.std.specs.List.{list_all, AllByRecursion}
 use Rattle.std.proofs.Common.{◌≡◌, List, [], ◌∷◌, ◌++◌, refl, sym, ap, ◌∙◌}
 
 pub both : {a b : Bool} → (a && b) ≡ true → (a ≡ true) × (b ≡ true)
-both {true} {b} h = (refl, h)
-both {false} {b} h = cc
+both {a = true} h = (refl, h)
+both {a = false} h = cc
 
 pub neither : {a b : Bool} → (a && b) ≡ false → a ≡ true → b ≡ true → ⊥
-neither {true} {true} h p q = cc
-neither {true} {false} h p q = cc
-neither {false} {b} h p q = cc
+neither {a = true} {b = true} h p q = cc
+neither {a = true} {b = false} h p q = cc
+neither {a = false} h p q = cc
 
 pub at_middle : {X : Type 0} (P : X → Type 0) (xs : List X) (y : X) (zs : List X) → AllByRecursion P (xs ++ y ∷ zs) → P y
 at_middle P [] y zs h = h.0

@@ -38,8 +38,8 @@ turned : (t u : TransId) → eq_by_cmp trans_cmp t u ≡ eq_by_cmp trans_cmp u t
 turned t u = (eq_by_cmp_equiv transactions_total).symm t u
 
 or_none : {a b : Bool} → (a || b) ≡ false → (a ≡ false) × (b ≡ false)
-or_none {true} {b} h = cc
-or_none {false} {b} h = (refl, h)
+or_none {a = true} h = cc
+or_none {a = false} h = (refl, h)
 
 -- ---- notes that keep apart
 
@@ -53,11 +53,11 @@ apart_before (o ∷ done) n rest apart = (at_middle (AreTwo o) done n rest apart
 
 pub not_twice : (done : List ReadyNote) (n : ReadyNote) → has_note_of n.trans done ≡ true → AllByRecursion (λ o. AreTwo o n) done → ⊥
 not_twice [] n has two = cc
-not_twice (o ∷ done) n has two = go (eq_by_cmp trans_cmp n.trans o.trans) refl has
+not_twice (o ∷ done) n has two = go (eq_by_cmp trans_cmp n.trans o.trans) refl has (λ h. not_twice done n h two.1)
   where
-    go : (b : Bool) → eq_by_cmp trans_cmp n.trans o.trans ≡ b → (b || has_note_of n.trans done) ≡ true → ⊥
-    go true same h = let wrong : true ≡ false = sym same ∙ turned n.trans o.trans ∙ two.0.apart in cc
-    go false other h = not_twice done n h two.1
+    go : (b : Bool) → eq_by_cmp trans_cmp n.trans o.trans ≡ b → (b || has_note_of n.trans done) ≡ true → (has_note_of n.trans done ≡ true → ⊥) → ⊥
+    go true same h rest = let wrong : true ≡ false = sym same ∙ turned n.trans o.trans ∙ two.0.apart in cc
+    go false other h rest = rest h
 
 -- ---- parts and their notes
 
@@ -143,13 +143,14 @@ module _ (t : Table) (done : List ReadyNote) (n : ReadyNote) (locks : AreLocksOf
 
       walk : (os : List ReadyNote) → has_note_of u os ≡ true → AllByRecursion (HoldsNoted t) os → AllByRecursion (λ o. AreTwo o n) os → agree_held (held_by n.locks r) (holding t.held u r) ≡ true
       walk [] has held each = cc
-      walk (o ∷ os) has held each = here (eq_by_cmp trans_cmp u o.trans) refl has
+      walk (o ∷ os) has held each = here (eq_by_cmp trans_cmp u o.trans) refl has (λ h. walk os h held.1 each.1)
         where
-          here : (b : Bool) → eq_by_cmp trans_cmp u o.trans ≡ b → (b || has_note_of u os) ≡ true → agree_held (held_by n.locks r) (holding t.held u r) ≡ true
-          here true same h =
+          here : (b : Bool) → eq_by_cmp trans_cmp u o.trans ≡ b → (b || has_note_of u os) ≡ true → (has_note_of u os ≡ true → agree_held (held_by n.locks r) (holding t.held u r) ≡ true)
+              → agree_held (held_by n.locks r) (holding t.held u r) ≡ true
+          here true same h rest =
               ap (λ (x : TransId). agree_held (held_by n.locks r) (holding t.held x r)) (same_trans_id u o.trans same) ∙ ap (agree_held (held_by n.locks r)) (held.0 r)
               ∙ agree-turned (held_by n.locks r) (held_by o.locks r) ∙ each.0.agree r
-          here false apart h = walk os h held.1 each.1
+          here false apart h rest = rest h
 
       go : (b : Bool) → has_note_of u done ≡ b → agree_held (held_by n.locks r) (holding t.held u r) ≡ true
       go true known = walk done known locks.held two

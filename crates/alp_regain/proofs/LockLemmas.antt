@@ -25,7 +25,7 @@ use Rattle.alp_files.proofs.FilesLemmas.{same-some}
 use Rattle.alp_queue.specs.Rises.{Held}
 use Rattle.alp_locks.specs.Asks.{raised, joined}
 use Rattle.alp_journal.specs.Counts.{has_resource, with_resources}
-use Rattle.alp_regain.specs.Together.{has_intention, is_beside_intention, is_covered}
+use Rattle.alp_regain.specs.Named.{has_intention, is_beside_intention, is_covered}
 use Rattle.alp_regain.proofs.ListLemmas.{both}
 
 -- ---- how many resources are locked
@@ -93,21 +93,23 @@ intended_from : (held : Holding) (ns : List Need) → list_all (λ l. is_beside_
     → held_by ns (Leaf k) ≡ Some m
     → covers_held (held (Whole f)) (intention_of m) ≡ true
 intended_from held [] all k f m in_file is = cc
-intended_from held (n ∷ ns) all k f m in_file is = go (eq_by_cmp resource_cmp (Leaf k) n.0) refl is
+intended_from held (n ∷ ns) all k f m in_file is = go (λ x e. intended_from held ns (both all).1 k f x in_file e) (eq_by_cmp resource_cmp (Leaf k) n.0) refl is
   where
     own : Leaf k ≡ n.0 → covers_held (held (Whole f)) (intention_of n.1) ≡ true
     own same =
         ap (λ (o : Option FileId). has_intention held o n.1) (sym in_file) ∙ ap (λ (r : Resource). is_beside_intention held r n.1) same ∙ (both all).0
 
-    over : Leaf k ≡ n.0 → (o : Option Mode) → held_by ns (Leaf k) ≡ o → join_held (Some n.1) o ≡ Some m → covers_held (held (Whole f)) (intention_of m) ≡ true
-    over same None e is = ap (λ (x : Mode). covers_held (held (Whole f)) (intention_of x)) (sym (same-some n.1 m is)) ∙ own same
-    over same (Some b) e is =
+    over : ((x : Mode) → held_by ns (Leaf k) ≡ Some x → covers_held (held (Whole f)) (intention_of x) ≡ true) → Leaf k ≡ n.0
+        → (o : Option Mode) → held_by ns (Leaf k) ≡ o → join_held (Some n.1) o ≡ Some m → covers_held (held (Whole f)) (intention_of m) ≡ true
+    over rest same None e is = ap (λ (x : Mode). covers_held (held (Whole f)) (intention_of x)) (sym (same-some n.1 m is)) ∙ own same
+    over rest same (Some b) e is =
         ap (λ (x : Mode). covers_held (held (Whole f)) (intention_of x)) (sym (same-some (join_of n.1 b) m is))
-        ∙ joint_held n.1 b (held (Whole f)) (own same) (intended_from held ns (both all).1 k f b in_file e)
+        ∙ joint_held n.1 b (held (Whole f)) (own same) (rest b e)
 
-    go : (t : Bool) → eq_by_cmp resource_cmp (Leaf k) n.0 ≡ t → cond t (join_held (Some n.1) (held_by ns (Leaf k))) (held_by ns (Leaf k)) ≡ Some m → covers_held (held (Whole f)) (intention_of m) ≡ true
-    go true same h = over (tells_apart exact_resources (Leaf k) n.0 same) (held_by ns (Leaf k)) refl h
-    go false other h = intended_from held ns (both all).1 k f m in_file h
+    go : ((x : Mode) → held_by ns (Leaf k) ≡ Some x → covers_held (held (Whole f)) (intention_of x) ≡ true)
+        → (t : Bool) → eq_by_cmp resource_cmp (Leaf k) n.0 ≡ t → cond t (join_held (Some n.1) (held_by ns (Leaf k))) (held_by ns (Leaf k)) ≡ Some m → covers_held (held (Whole f)) (intention_of m) ≡ true
+    go rest true same h = over rest (tells_apart exact_resources (Leaf k) n.0 same) (held_by ns (Leaf k)) refl h
+    go rest false other h = rest m h
 
 pub are_intended : (ns : List Need) → list_all (λ l. is_beside_intention (held_by ns) l.0 l.1) ns ≡ true → IsIntended (held_by ns)
 are_intended ns all k f m in_file is = intended_from (held_by ns) ns all k f m in_file is

@@ -50,11 +50,13 @@ module _ (notes : Notes) where
 -- the part of each note in the words of a journal
 noted_each : (es : List Entry) → list_map part_note (filter_map (λ (e : Entry). ready_in e.0 e.1) es) ≡ filter_map (λ (e : Entry). ready_noted (ready_in e.0 e.1)) es
 noted_each [] = refl
-noted_each (e ∷ es) = go (ready_in e.0 e.1)
+noted_each (e ∷ es) = go (ready_in e.0 e.1) (noted_each es)
   where
-    go : (o : Option (JoinNo × ReadyPart)) → list_map part_note (cons_option o (filter_map (λ (x : Entry). ready_in x.0 x.1) es)) ≡ cons_option (ready_noted o) (filter_map (λ (x : Entry). ready_noted (ready_in x.0 x.1)) es)
-    go None = noted_each es
-    go (Some x) = ap (λ (ns : List ReadyNote). part_note x ∷ ns) (noted_each es)
+    go : (o : Option (JoinNo × ReadyPart))
+        → list_map part_note (filter_map (λ (x : Entry). ready_in x.0 x.1) es) ≡ filter_map (λ (x : Entry). ready_noted (ready_in x.0 x.1)) es
+        → list_map part_note (cons_option o (filter_map (λ (x : Entry). ready_in x.0 x.1) es)) ≡ cons_option (ready_noted o) (filter_map (λ (x : Entry). ready_noted (ready_in x.0 x.1)) es)
+    go None rest = rest
+    go (Some x) rest = ap (λ (ns : List ReadyNote). part_note x ∷ ns) rest
 
 pub parts_kept : (notes : Notes) → list_map part_note (parts_under notes (map.keys notes)) ≡ ready_kept notes
 parts_kept notes = ap (λ (xs : List (JoinNo × ReadyPart)). list_map part_note xs) (read notes ready_in [] (map.entries notes) refl) ∙ noted_each (map.entries notes)

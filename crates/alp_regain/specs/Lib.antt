@@ -1,4 +1,5 @@
 pub mod Lives
+pub mod Named
 pub mod Notes
 pub mod Regained
 pub mod Rooms

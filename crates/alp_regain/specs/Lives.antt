@@ -3,7 +3,8 @@ use Rattle.std.specs.Prelude.{ℕ, Bool, ◌&&◌, nat_le, List}
 use Rattle.std.specs.List.{list_all}
 use Rattle.alp_files.specs.Cells.{Cells}
 use Rattle.alp_journal.specs.Opening.{ReadyNote}
-use Rattle.alp_regain.specs.Together.{is_mode_on, is_own_resource, is_own_edit, AreApart}
+use Rattle.alp_regain.specs.Named.{is_mode_on, is_own_resource, is_own_edit}
+use Rattle.alp_regain.specs.Together.{AreApart}
 use Rattle.alp_regain.specs.Regained.{ArePartsOf, AreLocksOf}
 use Rattle.alp_regain.specs.declared.parts.Lives.{Lives}
 

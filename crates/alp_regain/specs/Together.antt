@@ -1,6 +1,6 @@
 -- What the notes of a server are to say of one another and of its files.
-use Rattle.std.specs.Prelude.{◌≡◌, ◌≤◌, ℕ, ◌+◌, Bool, true, false, not, ◌&&◌, ◌==◌, nat_le, sum_by, flat_map, List, [], ◌∷◌, length, Option, None, Some, map as list_map}
-use Rattle.std.specs.List.{list_all, list_any, AllByRecursion}
+use Rattle.std.specs.Prelude.{◌≡◌, ◌≤◌, ℕ, ◌+◌, true, false, nat_le, sum_by, flat_map, List, [], ◌∷◌, length, Some, map as list_map}
+use Rattle.std.specs.List.{list_all, AllByRecursion}
 use Rattle.std.specs.FinMap as map
 use Rattle.std.specs.Ordering.{eq_by_cmp}
 use Rattle.alp_base.specs.Notes.{Notes}
@@ -8,17 +8,12 @@ use Rattle.alp_base.specs.Orders.{trans_cmp}
 use Rattle.alp_base.specs.declared.cell.Cell.{Cell}
 use Rattle.alp_base.specs.declared.faults.Sizes.{Sizes}
 use Rattle.alp_base.specs.declared.ids.FileId.{FileId}
-use Rattle.alp_base.specs.declared.key.Key.{Key}
-use Rattle.alp_base.specs.declared.key.Key.TheVariants.{Leader, PageOf, OwnerOf}
-use Rattle.alp_base.specs.declared.key.Resource.{Resource}
-use Rattle.alp_base.specs.declared.key.Resource.TheVariants.{Whole, Leaf}
-use Rattle.alp_modes.specs.declared.Mode.{Mode}
-use Rattle.alp_modes.specs.declared.Mode.TheVariants.{IntendRead, IntendWrite, Read, Update, ReadIntendWrite, Write}
+use Rattle.alp_base.specs.declared.key.Key.TheVariants.{Leader}
 use Rattle.alp_fields.specs.ClockNote.{clock_kept}
 use Rattle.alp_files.specs.Cells.{Cells}
 use Rattle.alp_files.specs.Counts.{used_of, file_count_of, owner_count_of}
-use Rattle.alp_files.specs.Edits.{Edit, Drop, Cut, Put, edits_map}
-use Rattle.alp_files.specs.Holdings.{Holding, covers_held, held_by, file_of, mode_on, intention_of, DoAgree}
+use Rattle.alp_files.specs.Edits.{Edit, edits_map}
+use Rattle.alp_files.specs.Holdings.{held_by, DoAgree}
 use Rattle.alp_files.specs.Locks.{Need}
 use Rattle.alp_files.specs.Needs.{intents_of, changed, need_of, made_of, is_leader, is_owner}
 use Rattle.alp_files.specs.Sound.{AreSound}
@@ -27,59 +22,9 @@ use Rattle.alp_vault.specs.declared.limits.TheConstants.{FILES_PER_SERVER, OWNER
 use Rattle.alp_calls.specs.Parts.{AllFit}
 use Rattle.alp_journal.specs.Counts.{with_resources, ready_sum}
 use Rattle.alp_journal.specs.Opening.{ReadyNote, DecisionNote, ready_kept, decisions_kept}
+use Rattle.alp_regain.specs.Named.{is_own, is_own_resource, is_own_edit, is_mode_on, is_beside_intention, is_covered}
 use Rattle.alp_worker.specs.Rooms.{sum_of}
 use Rattle.alp_worker.specs.declared.room.PartSize.{PartSize}
-
--- ---- ids
-
--- the file was made by this server in an epoch up to that one
-abbrev pub is_own : (server epoch : ℕ) → FileId → Bool
-is_own server epoch f = f.server == server && nat_le f.epoch epoch
-
-abbrev pub is_own_key : (server epoch : ℕ) → Key → Bool
-is_own_key server epoch (Leader f) = is_own server epoch f
-is_own_key server epoch (PageOf f n) = is_own server epoch f
-is_own_key server epoch (OwnerOf name) = true
-
-abbrev pub is_own_resource : (server epoch : ℕ) → Resource → Bool
-is_own_resource server epoch (Whole f) = is_own server epoch f
-is_own_resource server epoch (Leaf k) = is_own_key server epoch k
-
-abbrev pub is_own_edit : (server epoch : ℕ) → Edit → Bool
-is_own_edit server epoch (Drop f) = is_own server epoch f
-is_own_edit server epoch (Cut f n) = is_own server epoch f
-is_own_edit server epoch (Put k c) = is_own_key server epoch k
-
--- ---- locks
-
--- a leaf is locked to be read, to be read and perhaps written, or to be written; a whole file in any mode
-abbrev pub is_leaf_mode : Mode → Bool
-is_leaf_mode IntendRead = false
-is_leaf_mode IntendWrite = false
-is_leaf_mode Read = true
-is_leaf_mode Update = true
-is_leaf_mode ReadIntendWrite = false
-is_leaf_mode Write = true
-
-abbrev pub is_mode_on : Resource → Mode → Bool
-is_mode_on (Whole f) m = true
-is_mode_on (Leaf k) m = is_leaf_mode m
-
--- what is held on the file covers the intention of a lock on its leaf
-abbrev pub has_intention : Holding → Option FileId → Mode → Bool
-has_intention held None m = true
-has_intention held (Some f) m = covers_held (held (Whole f)) (intention_of m)
-
--- beside a lock on a leaf of a file is one on the file that covers its intention
-abbrev pub is_beside_intention : Holding → Resource → Mode → Bool
-is_beside_intention held (Whole f) m = true
-is_beside_intention held (Leaf k) m = has_intention held (file_of k) m
-
--- A file that goes, or of which pages go, is locked to be written. So is each leaf that is put, or its file.
-abbrev pub is_covered : Holding → Edit → Bool
-is_covered held (Drop f) = covers_held (held (Whole f)) Write
-is_covered held (Cut f n) = covers_held (held (Whole f)) Write
-is_covered held (Put k c) = covers_held (mode_on held k) Write
 
 -- A part's locks are good for what it changes: they have their intentions beside them, cover the changes, and are no more than a part
 -- may have.

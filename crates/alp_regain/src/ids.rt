@@ -2,7 +2,7 @@
 ghost use Rattle.std.specs.Prelude.{◌≡◌};
 ghost use Rattle.std.specs.List.{list_all};
 ghost use Rattle.alp_files.specs.Changes.{edits_of};
-ghost use Rattle.alp_regain.specs.Together.{is_own as is_own_said, is_own_key as is_own_key_said, is_own_resource as is_own_resource_said, is_own_edit};
+ghost use Rattle.alp_regain.specs.Named.{is_own as is_own_said, is_own_key as is_own_key_said, is_own_resource as is_own_resource_said, is_own_edit};
 
 use alp_base::{Cell, Change, FileId, Key, Resource};
 use alp_modes::Mode;

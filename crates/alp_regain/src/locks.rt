@@ -8,7 +8,7 @@ ghost use Rattle.alp_base.specs.declared.key.Resource.TheVariants.{Whole};
 ghost use Rattle.alp_modes.specs.Modes.{leaf_of as leaf_of_said};
 ghost use Rattle.alp_modes.specs.declared.Mode.TheVariants.{Write as ToWrite};
 ghost use Rattle.alp_locks.specs.Tables.{holding};
-ghost use Rattle.alp_regain.specs.Together.{is_leaf_mode as is_leaf_mode_said, is_mode_on as is_mode_on_said, has_intention as has_intention_said, is_beside_intention as is_beside_intention_said, is_covered};
+ghost use Rattle.alp_regain.specs.Named.{is_leaf_mode as is_leaf_mode_said, is_mode_on as is_mode_on_said, has_intention as has_intention_said, is_beside_intention as is_beside_intention_said, is_covered};
 
 use alp_base::{Cell, Change, FileId, Key, Resource, TransId};
 use alp_locks::LockTable;
