@@ -1,7 +1,14 @@
 -- lists of which all items have something, and tests of them
 use Rattle.std.specs.Prelude.{Bool, true, false, ◌&&◌, map as list_map}
 use Rattle.std.specs.List.{list_all, AllByRecursion}
-use Rattle.std.proofs.Common.{◌≡◌, List, [], ◌∷◌, ◌++◌, refl, sym, ap, ◌∙◌}
+use Rattle.alp_base.specs.declared.cell.Cell.{Cell}
+use Rattle.alp_base.specs.declared.change.Change.{Change}
+use Rattle.alp_base.specs.declared.ids.FileId.{FileId}
+use Rattle.alp_base.specs.declared.key.Key.{Key}
+use Rattle.alp_files.specs.Changes.{edits_of}
+use Rattle.alp_files.specs.Edits.{Edit, Drop, Cut, Put}
+use Rattle.alp_files.specs.Undo.{puts_of}
+use Rattle.std.proofs.Common.{◌≡◌, ℕ, List, [], ◌∷◌, ◌++◌, refl, sym, ap, ◌∙◌}
 
 pub both : {a b : Bool} → (a && b) ≡ true → (a ≡ true) × (b ≡ true)
 both {a = true} h = (refl, h)
@@ -41,3 +48,10 @@ all_in_parts p (x ∷ xs) ys zs = ap (λ (b : Bool). p x && b) (all_in_parts p x
 pub all_mapped : {X Y : Type 0} (p : Y → Bool) (f : X → Y) (xs : List X) → list_all p (list_map f xs) ≡ list_all (λ x. p (f x)) xs
 all_mapped p f [] = refl
 all_mapped p f (x ∷ xs) = ap (λ (b : Bool). p (f x) && b) (all_mapped p f xs)
+
+-- a test of all that a change does
+pub all_of_change : (p : Edit → Bool) (c : Change)
+    → list_all p (edits_of c) ≡ (list_all (λ f. p (Drop f)) c.drops && (list_all (λ x. p (Cut x.0 x.1)) c.cuts && list_all (λ x. p (Put x.0 x.1)) c.puts))
+all_of_change p c =
+    all_in_parts p (list_map Drop c.drops) (list_map (λ (x : FileId × ℕ). Cut x.0 x.1) c.cuts) (puts_of c.puts)
+    ∙ (λ i. all_mapped p Drop c.drops i && (all_mapped p (λ (x : FileId × ℕ). Cut x.0 x.1) c.cuts i && all_mapped p (λ (x : Key × Cell). Put x.0 x.1) c.puts i))

@@ -1,11 +1,18 @@
 //! Ids of files that notes name.
-ghost use Rattle.std.specs.Prelude.{◌≡◌};
+ghost use Rattle.std.specs.Prelude.{◌≡◌, ◌&&◌};
 ghost use Rattle.std.specs.List.{list_all};
 ghost use Rattle.alp_files.specs.Changes.{edits_of};
 ghost use Rattle.alp_regain.specs.Named.{is_own as is_own_said, is_own_key as is_own_key_said, is_own_resource as is_own_resource_said, is_own_edit};
 
 use alp_base::{Cell, Change, FileId, Key, Resource};
 use alp_modes::Mode;
+
+/// Whether all three are so.
+pub(super) fn are_all(drops: bool, cuts: bool, puts: bool) -> bool
+    ensures { result ≡ (drops && (cuts && puts)) }
+{
+    drops && (cuts && puts)
+}
 
 // Whether the server made the file in an epoch up to that one.
 fn is_own(of: (u8, u32), file: &FileId) -> bool
@@ -62,6 +69,8 @@ fn are_own_puts(of: (u8, u32), puts: &[(Key, Cell)]) -> bool
 pub(super) fn is_own_change(of: (u8, u32), change: &Change) -> bool
     ensures { result ≡ list_all (is_own_edit of.0 of.1) (edits_of change.now) }
 {
-    are_own_files(of, change.drops.as_slice())
-        && (are_own_cuts(of, change.cuts.as_slice()) && are_own_puts(of, change.puts.as_slice()))
+    let drops = are_own_files(of, change.drops.as_slice());
+    let cuts = are_own_cuts(of, change.cuts.as_slice());
+    let puts = are_own_puts(of, change.puts.as_slice());
+    are_all(drops, cuts, puts)
 }

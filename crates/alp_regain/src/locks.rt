@@ -10,6 +10,7 @@ ghost use Rattle.alp_modes.specs.declared.Mode.TheVariants.{Write as ToWrite};
 ghost use Rattle.alp_locks.specs.Tables.{holding};
 ghost use Rattle.alp_regain.specs.Named.{is_leaf_mode as is_leaf_mode_said, is_mode_on as is_mode_on_said, has_intention as has_intention_said, is_beside_intention as is_beside_intention_said, is_covered};
 
+use crate::ids::are_all;
 use alp_base::{Cell, Change, FileId, Key, Resource, TransId};
 use alp_locks::LockTable;
 use alp_modes::{Mode, covers, join, leaf_of};
@@ -168,7 +169,8 @@ fn are_puts_written(table: &LockTable, trans: TransId, puts: &[(Key, Cell)]) -> 
 pub(super) fn is_change_covered(table: &LockTable, trans: TransId, change: &Change) -> bool
     ensures { result ≡ list_all (is_covered (holding table.now.held trans)) (edits_of change.now) }
 {
-    are_written(table, trans, change.drops.as_slice())
-        && (are_cuts_written(table, trans, change.cuts.as_slice())
-            && are_puts_written(table, trans, change.puts.as_slice()))
+    let drops = are_written(table, trans, change.drops.as_slice());
+    let cuts = are_cuts_written(table, trans, change.cuts.as_slice());
+    let puts = are_puts_written(table, trans, change.puts.as_slice());
+    are_all(drops, cuts, puts)
 }
