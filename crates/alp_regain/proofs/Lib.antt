@@ -1,3 +1,4 @@
+pub mod ChangeLemmas
 pub mod ListLemmas
 pub mod NoteLemmas
 pub mod LockLemmas

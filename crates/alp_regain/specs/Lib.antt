@@ -1,3 +1,4 @@
+pub mod Faults
 pub mod Lives
 pub mod Named
 pub mod Notes

@@ -1,5 +1,5 @@
 -- What a server regains from the notes of an earlier run.
-use Rattle.std.specs.Prelude.{◌≡◌, ◌≤◌, ℕ, Bool, false, IsTrue, List, [], ◌∷◌, length, Option, None, Some, Result, Ok, Err, map as list_map}
+use Rattle.std.specs.Prelude.{◌≡◌, ℕ, Bool, false, IsTrue, List, [], ◌∷◌, length, None, map as list_map}
 use Rattle.std.specs.List.{list_any, AllByRecursion}
 use Rattle.std.specs.FinMap as map
 use Rattle.std.specs.Ordering.{eq_by_cmp}
@@ -20,12 +20,9 @@ use Rattle.alp_locks.specs.Tables.{Table, holding}
 use Rattle.alp_trans.specs.Counting.{AreCountsOf}
 use Rattle.alp_trans.specs.Parts.{own_of}
 use Rattle.alp_calls.specs.Parts.{IsPart}
-use Rattle.alp_calls.specs.declared.fault.CallFault.{CallFault}
 use Rattle.alp_journal.specs.Counts.{with_resources}
 use Rattle.alp_journal.specs.Opening.{ReadyNote, ready_kept, decisions_kept}
 use Rattle.alp_regain.specs.Together.{IsPartNote}
-use Rattle.alp_regain.specs.declared.fault.RegainFault.{RegainFault}
-use Rattle.alp_regain.specs.declared.fault.RegainFault.TheVariants.{BadNote, Vault}
 use Rattle.alp_regain.specs.declared.parts.RegainedPart.{RegainedPart}
 use Rattle.alp_regain.specs.declared.regain.Regained.{Regained}
 
@@ -70,14 +67,6 @@ pub record AreLocksOf (t : Table) (ns : List ReadyNote) : Type 0 where
   pub woken : t.woken ≡ []
   pub held : AllByRecursion (HoldsNoted t) ns
   pub others : (u : TransId) → has_note_of u ns ≡ false → map.get t.held u ≡ None
-
--- ---- faults
-
--- what came of the vault
-abbrev pub fault_from : {T : Type 0} → Result T RegainFault → Option CallFault
-fault_from (Ok x) = None
-fault_from (Err BadNote) = None
-fault_from (Err (Vault f)) = Some f
 
 -- ---- all of it
 

@@ -11,7 +11,7 @@ ghost use Rattle.alp_trans.specs.Parts.{own_of};
 ghost use Rattle.alp_calls.specs.Looks.{Looks};
 ghost use Rattle.alp_calls.specs.Parts.{IsPart, AllFit};
 ghost use Rattle.alp_calls.specs.Regained.{IsNoted};
-ghost use Rattle.alp_regain.specs.Regained.{fault_from};
+ghost use Rattle.alp_regain.specs.Faults.{fault_from};
 ghost use Rattle.alp_regain.specs.declared.fault.RegainFault.TheVariants.{BadNote};
 
 use crate::RegainFault;

@@ -18,7 +18,7 @@ ghost use Rattle.alp_journal.specs.Opening.{ReadyNote};
 ghost use Rattle.alp_regain.specs.Notes.{part_note};
 ghost use Rattle.alp_regain.specs.Named.{is_beside_intention, is_covered};
 ghost use Rattle.alp_regain.specs.Together.{IsPartNote, AreTwo, AreApart, AreGoodLocks};
-ghost use Rattle.alp_regain.specs.Regained.{fault_from};
+ghost use Rattle.alp_regain.specs.Faults.{fault_from};
 ghost use Rattle.alp_regain.specs.Lives.{IsSoFar, is_plain};
 ghost use Rattle.alp_regain.specs.declared.fault.RegainFault.TheVariants.{BadNote};
 

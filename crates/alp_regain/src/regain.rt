@@ -9,7 +9,8 @@ ghost use Rattle.alp_journal.specs.Opening.{ready_kept, decisions_kept};
 ghost use Rattle.alp_regain.specs.Notes.{part_note};
 ghost use Rattle.alp_regain.specs.Together.{AreNotesTogether, AreOwnFiles, AreTogether, HaveRoomTogether, FitTogether, log_sum, size_of};
 ghost use Rattle.alp_regain.specs.Lives.{IsSoFar};
-ghost use Rattle.alp_regain.specs.Regained.{fault_from, IsRegained};
+ghost use Rattle.alp_regain.specs.Faults.{fault_from};
+ghost use Rattle.alp_regain.specs.Regained.{IsRegained};
 ghost use Rattle.alp_regain.specs.declared.fault.RegainFault.TheVariants.{BadNote};
 
 use crate::notes::{Notes, notes_of};
