@@ -23,7 +23,7 @@ use Rattle.alp_locks.proofs.LawLemmas.{joined-holds}
 use Rattle.alp_journal.specs.Opening.{ReadyNote}
 use Rattle.alp_regain.specs.Together.{IsPartNote, AreTwo, AreApart}
 use Rattle.alp_regain.specs.Regained.{IsPartOf, ArePartsOf, has_note_of, HoldsNoted, AreLocksOf}
-use Rattle.alp_regain.specs.declared.parts.RegainedPart.{RegainedPart}
+use Rattle.alp_regain.specs.declared.part.RegainedPart.{RegainedPart}
 use Rattle.alp_regain.proofs.ListLemmas.{at_middle, pushed}
 
 -- ---- transactions by their ids

@@ -9,7 +9,7 @@ use Rattle.alp_journal.specs.Opening.{ReadyNote}
 use Rattle.alp_regain.specs.Rooms.{part_size, places_in, files_in, owners_in, HaveRoomFor}
 use Rattle.alp_regain.specs.Together.{size_of, HaveRoomTogether}
 use Rattle.alp_regain.specs.Regained.{IsPartOf, ArePartsOf}
-use Rattle.alp_regain.specs.declared.parts.RegainedPart.{RegainedPart}
+use Rattle.alp_regain.specs.declared.part.RegainedPart.{RegainedPart}
 
 module _ (tells : Bool) (m : Cells) (server epoch : ℕ) where
   one_size : (p : RegainedPart) (n : ReadyNote) → IsPartOf tells m server epoch p n → part_size p ≡ size_of n

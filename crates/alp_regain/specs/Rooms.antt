@@ -5,7 +5,7 @@ use Rattle.alp_files.specs.Cells.{Cells}
 use Rattle.alp_files.specs.Counts.{used_of, file_count_of, owner_count_of}
 use Rattle.alp_vault.specs.declared.limits.TheConstants.{FILES_PER_SERVER, OWNERS_PER_SERVER, HEAD_PAGES}
 use Rattle.alp_worker.specs.declared.room.PartSize.{PartSize}
-use Rattle.alp_regain.specs.declared.parts.RegainedPart.{RegainedPart}
+use Rattle.alp_regain.specs.declared.part.RegainedPart.{RegainedPart}
 
 -- what is counted of a part in the log
 abbrev pub part_size : RegainedPart → PartSize

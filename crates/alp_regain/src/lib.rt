@@ -6,10 +6,11 @@ mod fault;
 mod ids;
 mod locks;
 mod notes;
+mod part;
 mod parts;
 mod regain;
 mod rooms;
 
 pub use fault::RegainFault;
-pub use parts::RegainedPart;
+pub use part::RegainedPart;
 pub use regain::{Regained, regain};

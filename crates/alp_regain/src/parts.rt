@@ -22,32 +22,17 @@ ghost use Rattle.alp_regain.specs.Faults.{fault_from};
 ghost use Rattle.alp_regain.specs.Lives.{IsSoFar, is_plain};
 ghost use Rattle.alp_regain.specs.declared.fault.RegainFault.TheVariants.{BadNote};
 
-use crate::RegainFault;
 use crate::changes::part_of;
 use crate::ids::{are_own_locks, is_own_change};
 use crate::locks::{are_intended, have_modes, is_change_covered};
+use crate::{RegainFault, RegainedPart};
 use alp_base::{JoinNo, Resource, TransId};
 use alp_fields::ReadyPart;
 use alp_locks::LockTable;
 use alp_modes::Mode;
 use alp_queue::Needs;
-use alp_trans::Part;
 use alp_vault::Vault;
 use std::alloc::Global;
-
-/// A part that an earlier run left ready.
-#[derive(Drop)]
-pub struct RegainedPart {
-    pub join: JoinNo,
-    pub trans: TransId,
-    /// The time of its vote.
-    pub ts: u64,
-    pub client: u8,
-    /// What it intends, counted. Nothing is open in it.
-    pub part: Part,
-    /// How many resources it has locked.
-    pub locks: u32,
-}
 
 /// Parts that are live again, and the table of their locks.
 #[derive(Drop)]
