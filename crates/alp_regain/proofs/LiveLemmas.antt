@@ -1,6 +1,6 @@
 -- one ready part after the other becomes live
 use Rattle.std.specs.Prelude.{cond, Bool, true, false, ◌&&◌, ◌||◌, Option, None, Some, is_some, unwrap_or, map as list_map}
-use Rattle.std.specs.List.{list_any, AllByRecursion}
+use Rattle.std.specs.List.{list_all, list_any, AllByRecursion}
 use Rattle.std.specs.FinMap as map
 use Rattle.std.specs.FinMap.{get-empty, get-insert}
 use Rattle.std.specs.Ordering.{eq_by_cmp, is_eq}
@@ -8,23 +8,28 @@ use Rattle.std.specs.Cmp.{eq_by_cmp_equiv, tied_itself}
 use Rattle.std.proofs.Common.{◌≡◌, ℕ, List, [], ◌∷◌, ◌++◌, append_assoc, length, refl, sym, ◌∙◌, ap, subst}
 use Rattle.std.proofs.lemmas.Map.Views.{tells_apart}
 use Rattle.std.proofs.lemmas.List.Folds.{list_any-append}
-use Rattle.alp_base.specs.Orders.{trans_cmp, transactions_total, exact_transactions}
+use Rattle.alp_base.specs.Orders.{trans_cmp, resource_cmp, transactions_total, exact_transactions}
 use Rattle.alp_base.specs.declared.ids.TransId.{TransId}
 use Rattle.alp_base.specs.declared.key.Resource.{Resource}
 use Rattle.alp_modes.specs.declared.Mode.{Mode}
 use Rattle.alp_files.specs.Cells.{Cells}
-use Rattle.alp_files.specs.Holdings.{agree_held, join_held, held_by, DoAgree}
+use Rattle.alp_files.specs.Locks.{Need}
+use Rattle.alp_files.specs.Edits.{Edit}
+use Rattle.alp_files.specs.Holdings.{Holding, agree_held, join_held, held_by, DoAgree}
 use Rattle.alp_files.proofs.HoldingLemmas.{agree-turned}
 use Rattle.alp_queue.specs.Rises.{Held}
 use Rattle.alp_locks.specs.Asks.{joined, with_regained}
 use Rattle.alp_locks.specs.Sound.{IsSound}
 use Rattle.alp_locks.specs.Tables.{Holders, Table, held_of, holding}
 use Rattle.alp_locks.proofs.LawLemmas.{joined-holds}
+use Rattle.alp_journal.specs.Counts.{with_resources}
 use Rattle.alp_journal.specs.Opening.{ReadyNote}
+use Rattle.alp_regain.specs.Named.{is_beside_intention, is_covered}
 use Rattle.alp_regain.specs.Together.{IsPartNote, AreTwo, AreApart}
 use Rattle.alp_regain.specs.Regained.{IsPartOf, ArePartsOf, has_note_of, HoldsNoted, AreLocksOf}
 use Rattle.alp_regain.specs.declared.part.RegainedPart.{RegainedPart}
 use Rattle.alp_regain.proofs.ListLemmas.{at_middle, pushed}
+use Rattle.alp_regain.proofs.LockLemmas.{counted}
 
 -- ---- transactions by their ids
 
@@ -78,6 +83,31 @@ module _ (tells : Bool) (m : Cells) (server epoch : ℕ) where
 
 -- ---- the table of their locks
 
+-- a transaction that held nothing has just the locks of a list then
+module _ (t : Table) (u : TransId) (ns : List Need) (unknown : map.get t.held u ≡ None) where
+  pub all_held : held_of (with_regained t u ns None).held u ≡ joined map.empty ns
+  all_held =
+      ap (λ (o : Option Held). unwrap_or o map.empty)
+      (get-insert transactions_total t.held u (joined (held_of t.held u) ns) u ∙ ap (λ (b : Bool). cond b (Some (joined (held_of t.held u) ns)) (map.get t.held u)) (itself u))
+      ∙ ap (λ (o : Option Held). joined (unwrap_or o map.empty) ns) unknown
+
+  pub own_holds : (r : Resource) → holding (with_regained t u ns None).held u r ≡ held_by ns r
+  own_holds r =
+      ap (λ (h : Held). map.get h r) all_held ∙ joined-holds ns map.empty r
+      ∙ ap (λ (o : Option Mode). join_held o (held_by ns r)) (get-empty resource_cmp r)
+
+  pub own_holding : holding (with_regained t u ns None).held u ≡ held_by ns
+  own_holding = λ i r. own_holds r i
+
+  -- and each resource once
+  pub counted_in : (after : Table) → after ≡ with_regained t u ns None → length (map.entries (held_of after.held u)) ≡ length (with_resources ns [])
+  counted_in after is = ap (λ (x : Table). length (map.entries (held_of x.held u))) is ∙ ap (λ (h : Held). length (map.entries h)) all_held ∙ counted ns
+
+-- what is judged by a table is judged by the list
+pub good_held : (held : Holding) (ns : List Need) (es : List Edit) → held ≡ held_by ns
+    → (list_all (λ l. is_beside_intention held l.0 l.1) ns && list_all (is_covered held) es) ≡ (list_all (λ l. is_beside_intention (held_by ns) l.0 l.1) ns && list_all (is_covered (held_by ns)) es)
+good_held held ns es same = ap (λ (h : Holding). list_all (λ l. is_beside_intention h l.0 l.1) ns && list_all (is_covered h) es) same
+
 module _ (t : Table) (done : List ReadyNote) (n : ReadyNote) (locks : AreLocksOf t done) where
   -- what another transaction holds stays
   other_holds : (u : TransId) (r : Resource) → eq_by_cmp trans_cmp u n.trans ≡ false → holding (with_regained t n.trans n.locks None).held u r ≡ holding t.held u r
@@ -91,28 +121,12 @@ module _ (t : Table) (done : List ReadyNote) (n : ReadyNote) (locks : AreLocksOf
       (λ r. other_holds o.trans r (turned o.trans n.trans ∙ (or_none new).0) ∙ held.0 r, others_hold os (or_none new).1 held.1)
 
   module _ (new : has_note_of n.trans done ≡ false) where
-    -- it held nothing before
-    nothing : held_of t.held n.trans ≡ map.empty
-    nothing = ap (λ (o : Option Held). unwrap_or o map.empty) (locks.others n.trans new)
-
-    pub all_held : held_of (with_regained t n.trans n.locks None).held n.trans ≡ joined map.empty n.locks
-    all_held =
-        ap (λ (o : Option Held). unwrap_or o map.empty)
-        (get-insert transactions_total t.held n.trans (joined (held_of t.held n.trans) n.locks) n.trans
-        ∙ ap (λ (b : Bool). cond b (Some (joined (held_of t.held n.trans) n.locks)) (map.get t.held n.trans)) (itself n.trans))
-        ∙ ap (λ (h : Held). joined h n.locks) nothing
-
-    pub own_holds : (r : Resource) → holding (with_regained t n.trans n.locks None).held n.trans r ≡ held_by n.locks r
-    own_holds r =
-        ap (λ (h : Held). map.get h r) all_held ∙ joined-holds n.locks map.empty r
-        ∙ ap (λ (o : Option Mode). join_held o (held_by n.locks r)) (get-empty _ r)
-
     pub locks_pushed : IsSound (with_regained t n.trans n.locks None) → AreLocksOf (with_regained t n.trans n.locks None) (done ++ n ∷ [])
     locks_pushed sound = record {
       sound = sound;
       waiting = locks.waiting;
       woken = locks.woken;
-      held = pushed (HoldsNoted (with_regained t n.trans n.locks None)) done n (others_hold done new locks.held) own_holds;
+      held = pushed (HoldsNoted (with_regained t n.trans n.locks None)) done n (others_hold done new locks.held) (own_holds t n.trans n.locks (locks.others n.trans new));
       others = λ u none.
           let apart = or_none (sym (list_any-append (λ (o : ReadyNote). eq_by_cmp trans_cmp u o.trans) done (n ∷ [])) ∙ none) in
           get-insert transactions_total t.held n.trans (joined (held_of t.held n.trans) n.locks) u
@@ -156,4 +170,4 @@ module _ (t : Table) (done : List ReadyNote) (n : ReadyNote) (locks : AreLocksOf
       go true known = walk done known locks.held two
       go false unknown =
           ap (λ (o : Option Held). agree_held (held_by n.locks r) (map.get (unwrap_or o map.empty) r)) (locks.others u unknown)
-          ∙ ap (agree_held (held_by n.locks r)) (get-empty _ r) ∙ free (held_by n.locks r)
+          ∙ ap (agree_held (held_by n.locks r)) (get-empty resource_cmp r) ∙ free (held_by n.locks r)

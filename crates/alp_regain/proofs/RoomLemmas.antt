@@ -1,6 +1,7 @@
 -- what regained parts come to is what their notes say
 use Rattle.std.specs.Prelude.{Bool, true, false, nat_le, sum_by, map as list_map, IsTrue}
 use Rattle.std.proofs.Common.{◌≡◌, ℕ, ◌+◌, ◌≤◌, List, [], ◌∷◌, length, refl, sym, ap, ◌∙◌, arith}
+use Rattle.std.proofs.lemmas.List.Sums.{sum_by-cons}
 use Rattle.alp_base.specs.declared.faults.Sizes.{Sizes}
 use Rattle.alp_files.specs.Cells.{Cells}
 use Rattle.alp_files.specs.Needs.{Intents, changed_by, need_of, made_of, is_leader, is_owner}
@@ -32,19 +33,22 @@ module _ (tells : Bool) (m : Cells) (server epoch : ℕ) where
     same_places [] [] are = refl
     same_places [] (n ∷ ns) are = absurd are
     same_places (p ∷ ps) [] are = absurd are
-    same_places (p ∷ ps) (n ∷ ns) are = λ i. (are.0.counts told).places i + same_places ps ns are.1 i
+    same_places (p ∷ ps) (n ∷ ns) are =
+        sum_by-cons places_in p ps ∙ (λ i. (are.0.counts told).places i + same_places ps ns are.1 i) ∙ sym (sum_by-cons (λ (x : ReadyNote). need_of m x.edits) n ns)
 
     same_files : (ps : List RegainedPart) (ns : List ReadyNote) → ArePartsOf tells m server epoch ps ns → sum_by files_in ps ≡ sum_by (λ (n : ReadyNote). made_of is_leader m n.edits) ns
     same_files [] [] are = refl
     same_files [] (n ∷ ns) are = absurd are
     same_files (p ∷ ps) [] are = absurd are
-    same_files (p ∷ ps) (n ∷ ns) are = λ i. (are.0.counts told).files i + same_files ps ns are.1 i
+    same_files (p ∷ ps) (n ∷ ns) are =
+        sum_by-cons files_in p ps ∙ (λ i. (are.0.counts told).files i + same_files ps ns are.1 i) ∙ sym (sum_by-cons (λ (x : ReadyNote). made_of is_leader m x.edits) n ns)
 
     same_owners : (ps : List RegainedPart) (ns : List ReadyNote) → ArePartsOf tells m server epoch ps ns → sum_by owners_in ps ≡ sum_by (λ (n : ReadyNote). made_of is_owner m n.edits) ns
     same_owners [] [] are = refl
     same_owners [] (n ∷ ns) are = absurd are
     same_owners (p ∷ ps) [] are = absurd are
-    same_owners (p ∷ ps) (n ∷ ns) are = λ i. (are.0.counts told).owners i + same_owners ps ns are.1 i
+    same_owners (p ∷ ps) (n ∷ ns) are =
+        sum_by-cons owners_in p ps ∙ (λ i. (are.0.counts told).owners i + same_owners ps ns are.1 i) ∙ sym (sum_by-cons (λ (x : ReadyNote). made_of is_owner m x.edits) n ns)
 
     pub room_said : (s : Sizes) (ps : List RegainedPart) (ns : List ReadyNote) → ArePartsOf tells m server epoch ps ns → HaveRoomFor s m ps → HaveRoomTogether s m ns
     room_said s ps ns are room = record {

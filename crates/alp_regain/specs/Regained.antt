@@ -24,7 +24,7 @@ use Rattle.alp_journal.specs.Counts.{with_resources}
 use Rattle.alp_journal.specs.Opening.{ReadyNote, ready_kept, decisions_kept}
 use Rattle.alp_regain.specs.Together.{IsPartNote}
 use Rattle.alp_regain.specs.declared.part.RegainedPart.{RegainedPart}
-use Rattle.alp_regain.specs.declared.regain.Regained.{Regained}
+use Rattle.alp_regain.specs.declared.regaining.Regained.{Regained}
 
 -- ---- parts
 

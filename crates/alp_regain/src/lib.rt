@@ -8,9 +8,9 @@ mod locks;
 mod notes;
 mod part;
 mod parts;
-mod regain;
+mod regaining;
 mod rooms;
 
 pub use fault::RegainFault;
 pub use part::RegainedPart;
-pub use regain::{Regained, regain};
+pub use regaining::{Regained, regain};

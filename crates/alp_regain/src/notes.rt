@@ -1,5 +1,5 @@
 //! The notes of a server, read one by one.
-ghost use Rattle.std.specs.Prelude.{◌≡◌, ◌++◌, IsTrue, true, false, IfOk, OnOk, Err, map as list_map};
+ghost use Rattle.std.specs.Prelude.{◌≡◌, ◌++◌, IsTrue, true, false, IfOk, IfErr, OnOk, Err, map as list_map};
 ghost use Rattle.std.specs.List.{list_all};
 ghost use Rattle.std.specs.Option.{option_to_list};
 ghost use Rattle.std.specs.FinMap as map;
@@ -9,6 +9,7 @@ ghost use Rattle.alp_fields.specs.DecisionNote.{decision_in};
 ghost use Rattle.alp_vault.specs.Volumes.{AreServerNotes, is_server_note, is_another as is_another_said, is_ready_on as is_ready_on_said, is_decision_of as is_decision_of_said};
 ghost use Rattle.alp_journal.specs.Opening.{decision_noted, ready_kept, decisions_kept};
 ghost use Rattle.alp_coord.specs.Coordinators.{noted};
+ghost use Rattle.alp_regain.specs.Faults.{IsOfNoDevice};
 ghost use Rattle.alp_regain.specs.Notes.{part_note, part_under, decision_under, is_good};
 ghost use Rattle.alp_regain.specs.declared.fault.RegainFault.TheVariants.{BadNote};
 
@@ -43,6 +44,7 @@ fn part_in(
 ) -> Result<Option<(JoinNo, ReadyPart)>, RegainFault>
     ensures part { IfOk result (λ p. p ≡ ready_in name.now value.now) }
     ensures fault { result ≡ Err BadNote → ⊥ }
+    ensures quiet { IfErr result IsOfNoDevice }
 {
     let Some(join) = read_ready_name(name.as_slice()) else {
         return Ok(None);
@@ -61,6 +63,7 @@ fn decision_of(
 ) -> Result<Option<(TransId, Kept)>, RegainFault>
     ensures decision { IfOk result (λ d. d ≡ decision_in name.now value.now) }
     ensures fault { result ≡ Err BadNote → ⊥ }
+    ensures quiet { IfErr result IsOfNoDevice }
 {
     let Some(trans) = read_decision_name(name.as_slice()) else {
         return Ok(None);
@@ -109,6 +112,7 @@ fn push_part(
 ) -> Result<(), RegainFault>
     ensures pushed { OnOk result (parts.new.items ≡ parts.old.items ++ option_to_list part) }
     ensures fault { result ≡ Err BadNote → ⊥ }
+    ensures quiet { IfErr result IsOfNoDevice }
 {
     match part {
         Some(part) => Ok(parts.push(part)?),
@@ -123,6 +127,7 @@ fn push_decision(
 ) -> Result<(), RegainFault>
     ensures pushed { OnOk result (list_map noted decisions.new.items ≡ list_map noted decisions.old.items ++ option_to_list (decision_noted decision)) }
     ensures fault { result ≡ Err BadNote → ⊥ }
+    ensures quiet { IfErr result IsOfNoDevice }
 {
     let Some((trans, kept)) = decision else {
         return Ok(());
@@ -146,6 +151,7 @@ impl Notes {
         ensures decisions { OnOk result (list_map noted self.new.decisions.items ≡ list_map noted self.old.decisions.items ++ option_to_list (decision_noted (decision_in name.now value.now))) }
         ensures format { OnOk result (is_server_note of.0 of.1 name.now value.now ≡ true) }
         ensures bad { result ≡ Err BadNote → is_server_note of.0 of.1 name.now value.now ≡ false }
+        ensures quiet { IfErr result IsOfNoDevice }
     {
         let part = part_in(alloc, name, value)?;
         let decision = decision_of(alloc, name, value)?;
@@ -171,6 +177,7 @@ impl Notes {
         ensures decisions { OnOk result (list_map noted self.new.decisions.items ≡ list_map noted self.old.decisions.items ++ option_to_list (decision_under (V.held vault.now).notes name.now)) }
         ensures format { OnOk result (is_good of.0 of.1 name.now (map.get (V.held vault.now).notes name.now) ≡ true) }
         ensures bad { result ≡ Err BadNote → is_good of.0 of.1 name.now (map.get (V.held vault.now).notes name.now) ≡ false }
+        ensures quiet { IfErr result IsOfNoDevice }
     {
         match vault.note(name) {
             Some(value) => self.add(alloc, name, value, of),
@@ -191,6 +198,7 @@ pub(super) fn notes_of<V: Vault>(
     ensures decisions { IfOk result (λ n. list_map noted n.decisions.items ≡ decisions_kept (V.held vault.now).notes) }
     ensures format { IfOk result (λ _. AreServerNotes server servers (V.held vault.now).notes) }
     ensures bad { result ≡ Err BadNote → AreServerNotes server servers (V.held vault.now).notes → ⊥ }
+    ensures quiet { IfErr result IsOfNoDevice }
 {
     let mut notes = Notes {
         parts: Vec::new(alloc),

@@ -1,5 +1,5 @@
 //! Parts that are ready, with their locks.
-ghost use Rattle.std.specs.Prelude.{◌≡◌, ◌++◌, ◌∷◌, [], ◌<◌, ◌≤◌, ◌&&◌, ℕ, Bool as ABool, false, None, IsTrue, IfOk, OnOk, Err, List, length, map as list_map};
+ghost use Rattle.std.specs.Prelude.{◌≡◌, ◌++◌, ◌∷◌, [], ◌<◌, ◌≤◌, ◌&&◌, ℕ, Bool as ABool, false, None, IsTrue, IfOk, IfErr, OnOk, Err, List, length, map as list_map};
 ghost use Rattle.std.specs.List.{list_all, list_any, AllByRecursion};
 ghost use Rattle.std.specs.FinMap as map;
 ghost use Rattle.std.specs.Ordering.{eq_by_cmp};
@@ -18,7 +18,7 @@ ghost use Rattle.alp_journal.specs.Opening.{ReadyNote};
 ghost use Rattle.alp_regain.specs.Notes.{part_note};
 ghost use Rattle.alp_regain.specs.Named.{is_beside_intention, is_covered};
 ghost use Rattle.alp_regain.specs.Together.{IsPartNote, AreTwo, AreApart, AreGoodLocks};
-ghost use Rattle.alp_regain.specs.Faults.{fault_from};
+ghost use Rattle.alp_regain.specs.Faults.{fault_from, IsOfNoDevice};
 ghost use Rattle.alp_regain.specs.Lives.{IsSoFar, is_plain};
 ghost use Rattle.alp_regain.specs.declared.fault.RegainFault.TheVariants.{BadNote};
 
@@ -77,6 +77,7 @@ fn take_locks(
     ensures agree { OnOk result ((u : ATransId) → eq_by_cmp trans_cmp trans u ≡ false → DoAgree (held_by locks.now) (holding table.old.held u)) }
     ensures sound { IsSound table.old → OnOk result (IsSound table.new) }
     ensures bad { result ≡ Err BadNote → ((u : ATransId) → eq_by_cmp trans_cmp trans u ≡ false → DoAgree (held_by locks.now) (holding table.old.held u)) → ⊥ }
+    ensures quiet { IfErr result IsOfNoDevice }
 {
     let list = Vec::from_slice(alloc, locks)?;
     match table.regain(trans, Needs::new(list))? {
@@ -89,6 +90,7 @@ fn take_locks(
 fn count_locks(table: &LockTable, trans: TransId) -> Result<u32, RegainFault>
     ensures count { IfOk result (λ n. (n ≡ length (map.entries (held_of table.now.held trans))) × (n ≤ 1024)) }
     ensures bad { result ≡ Err BadNote → 1024 < length (map.entries (held_of table.now.held trans)) }
+    ensures quiet { IfErr result IsOfNoDevice }
 {
     let count = table.list_of(trans)?.len();
     if count > LOCKS_PER_PART {
@@ -120,6 +122,7 @@ fn locks_of(
     ensures count { IfOk result (λ n. n ≡ length (with_resources kept.now.locks [])) }
     ensures good { OnOk result (AreGoodLocks kept.now.locks (edits_of kept.now.change)) }
     ensures bad { result ≡ Err BadNote → ((u : ATransId) → eq_by_cmp trans_cmp kept.now.trans u ≡ false → DoAgree (held_by kept.now.locks) (holding table.old.held u)) → AreGoodLocks kept.now.locks (edits_of kept.now.change) → ⊥ }
+    ensures quiet { IfErr result IsOfNoDevice }
 {
     take_locks(table, alloc, kept.trans, kept.locks.as_slice())?;
     if !are_good_locks(table, kept) {

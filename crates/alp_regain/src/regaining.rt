@@ -1,5 +1,5 @@
 //! What a server regains from the notes of an earlier run.
-ghost use Rattle.std.specs.Prelude.{◌≡◌, ◌≤◌, ◌+◌, true, false, nat_le, IsTrue, IfOk, Err, length, map as list_map};
+ghost use Rattle.std.specs.Prelude.{◌≡◌, ◌≤◌, ◌+◌, true, false, nat_le, IsTrue, IfOk, IfErr, Err, length, map as list_map};
 ghost use Rattle.std.specs.List.{list_all};
 ghost use Rattle.alp_fields.specs.ClockNote.{clock_kept};
 ghost use Rattle.alp_vault.specs.Volumes.{AreServerNotes};
@@ -9,7 +9,7 @@ ghost use Rattle.alp_journal.specs.Opening.{ready_kept, decisions_kept};
 ghost use Rattle.alp_regain.specs.Notes.{part_note};
 ghost use Rattle.alp_regain.specs.Together.{AreNotesTogether, AreOwnFiles, AreTogether, HaveRoomTogether, FitTogether, log_sum, size_of};
 ghost use Rattle.alp_regain.specs.Lives.{IsSoFar};
-ghost use Rattle.alp_regain.specs.Faults.{fault_from};
+ghost use Rattle.alp_regain.specs.Faults.{fault_from, IsOfNoDevice};
 ghost use Rattle.alp_regain.specs.Regained.{IsRegained};
 ghost use Rattle.alp_regain.specs.declared.fault.RegainFault.TheVariants.{BadNote};
 
@@ -39,6 +39,7 @@ fn epoch_kept<V: Vault>(alloc: Global, vault: &V) -> Result<u32, RegainFault>
     requires { IsTrue (V.serves vault.now) }
     ensures epoch { IfOk result (λ e. e ≡ (clock_kept (V.held vault.now).notes).epoch) }
     ensures fault { result ≡ Err BadNote → ⊥ }
+    ensures quiet { IfErr result IsOfNoDevice }
 {
     let name = clock_note_name(alloc)?;
     let Some(value) = vault.note(&name) else {
@@ -101,8 +102,10 @@ fn lives_within<V: Vault>(
     Ok(lives)
 }
 
-/// What the notes of an earlier run leave the server, one of so many, where they are in their format and go together with one another
-/// and with the files, as far as the vault tells. The vault holds what it held, whatever comes of it.
+/// What the notes of an earlier run leave the server, one of so many, where they are in their format and go together with one another,
+/// and there is room for them beside the files, as far as the vault tells. The vault holds what it held, whatever comes of it.
+///
+/// That the files are well formed and charged with what the parts change is not looked at yet.
 pub fn regain<V: Vault>(
     alloc: Global,
     vault: &mut V,
@@ -113,7 +116,7 @@ pub fn regain<V: Vault>(
     requires own { IsTrue (V.tells vault.old) → AreOwnFiles server (clock_kept (V.held vault.old).notes).epoch (V.held vault.old).cells }
     ensures regained { IfOk result (λ r. IsRegained (V.tells vault.old) (V.held vault.old).cells server r (V.held vault.old).notes) }
     ensures notes { IfOk result (λ _. AreNotesTogether server servers (V.volume vault.old).area (V.held vault.old).notes) }
-    ensures together { IsTrue (V.tells vault.old) → IfOk result (λ _. AreTogether server servers (V.volume vault.old) (V.held vault.old).cells (V.held vault.old).notes) }
+    ensures room { IsTrue (V.tells vault.old) → IfOk result (λ _. HaveRoomTogether (V.volume vault.old) (V.held vault.old).cells (ready_kept (V.held vault.old).notes)) }
     ensures bad { IsTrue (V.tells vault.old) → result ≡ Err BadNote → AreTogether server servers (V.volume vault.old) (V.held vault.old).cells (V.held vault.old).notes → ⊥ }
     ensures looked { Looks V.Vault vault.old vault.new (fault_from result) }
 {
