@@ -3,4 +3,5 @@ pub mod ListLemmas
 pub mod NoteLemmas
 pub mod LockLemmas
 pub mod LiveLemmas
+pub mod QuietLemmas
 pub mod RoomLemmas

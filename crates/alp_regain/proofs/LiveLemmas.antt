@@ -1,22 +1,28 @@
 -- one ready part after the other becomes live
-use Rattle.std.specs.Prelude.{cond, Bool, true, false, ◌&&◌, ◌||◌, Option, None, Some, is_some, unwrap_or, map as list_map}
+use Rattle.std.specs.Prelude.{cond, Bool, true, false, ◌&&◌, ◌||◌, Option, None, Some, is_some, unwrap_or, nat_le, IsTrue, map as list_map}
 use Rattle.std.specs.List.{list_all, list_any, AllByRecursion}
 use Rattle.std.specs.FinMap as map
 use Rattle.std.specs.FinMap.{get-empty, get-insert}
 use Rattle.std.specs.Ordering.{eq_by_cmp, is_eq}
 use Rattle.std.specs.Cmp.{eq_by_cmp_equiv, tied_itself}
-use Rattle.std.proofs.Common.{◌≡◌, ℕ, List, [], ◌∷◌, ◌++◌, append_assoc, length, refl, sym, ◌∙◌, ap, subst}
+use Rattle.std.proofs.Common.{◌≡◌, ℕ, ◌≤◌, List, [], ◌∷◌, ◌++◌, append_assoc, append-nil, length, refl, sym, ◌∙◌, ap, subst, arith}
 use Rattle.std.proofs.lemmas.Map.Views.{tells_apart}
 use Rattle.std.proofs.lemmas.List.Folds.{list_any-append}
 use Rattle.alp_base.specs.Orders.{trans_cmp, resource_cmp, transactions_total, exact_transactions}
 use Rattle.alp_base.specs.declared.ids.TransId.{TransId}
 use Rattle.alp_base.specs.declared.key.Resource.{Resource}
 use Rattle.alp_modes.specs.declared.Mode.{Mode}
+use Rattle.alp_files.specs.Act.{no_opens}
 use Rattle.alp_files.specs.Cells.{Cells}
 use Rattle.alp_files.specs.Locks.{Need}
 use Rattle.alp_files.specs.Edits.{Edit}
 use Rattle.alp_files.specs.Holdings.{Holding, agree_held, join_held, held_by, DoAgree}
 use Rattle.alp_files.proofs.HoldingLemmas.{agree-turned}
+use Rattle.alp_files.specs.Needs.{Intents, intents_of, changed_by}
+use Rattle.alp_trans.specs.Counting.{AreCountsOf}
+use Rattle.alp_trans.specs.Parts.{own_of}
+use Rattle.alp_trans.specs.declared.part.Part.{Part}
+use Rattle.alp_calls.specs.Parts.{IsPart, AllFit}
 use Rattle.alp_queue.specs.Rises.{Held}
 use Rattle.alp_locks.specs.Asks.{joined, with_regained}
 use Rattle.alp_locks.specs.Sound.{IsSound}
@@ -25,11 +31,13 @@ use Rattle.alp_locks.proofs.LawLemmas.{joined-holds}
 use Rattle.alp_journal.specs.Counts.{with_resources}
 use Rattle.alp_journal.specs.Opening.{ReadyNote}
 use Rattle.alp_regain.specs.Named.{is_beside_intention, is_covered}
-use Rattle.alp_regain.specs.Together.{IsPartNote, AreTwo, AreApart}
+use Rattle.alp_regain.specs.Lives.{is_plain, IsSoFar}
+use Rattle.alp_regain.specs.Together.{IsPartNote, AreTwo, AreApart, AreGoodLocks}
 use Rattle.alp_regain.specs.Regained.{IsPartOf, ArePartsOf, has_note_of, HoldsNoted, AreLocksOf}
 use Rattle.alp_regain.specs.declared.part.RegainedPart.{RegainedPart}
-use Rattle.alp_regain.proofs.ListLemmas.{at_middle, pushed}
-use Rattle.alp_regain.proofs.LockLemmas.{counted}
+use Rattle.alp_regain.specs.declared.parts.Lives.{Lives}
+use Rattle.alp_regain.proofs.ListLemmas.{both, at_middle, pushed}
+use Rattle.alp_regain.proofs.LockLemmas.{counted, are_intended, are_within}
 
 -- ---- transactions by their ids
 
@@ -171,3 +179,71 @@ module _ (t : Table) (done : List ReadyNote) (n : ReadyNote) (locks : AreLocksOf
       go false unknown =
           ap (λ (o : Option Held). agree_held (held_by n.locks r) (map.get (unwrap_or o map.empty) r)) (locks.others u unknown)
           ∙ ap (agree_held (held_by n.locks r)) (get-empty resource_cmp r) ∙ free (held_by n.locks r)
+
+-- ---- one part with its note
+
+le_is : (a b : ℕ) → nat_le a b ≡ true → a ≤ b
+le_is a b h = grind arith
+
+-- all that a note is to say of a part
+note_of : (server epoch : ℕ) (n : ReadyNote) (p : Part) → is_plain server epoch n ≡ true → AreGoodLocks n.locks n.edits → IsPart p → p.intents ≡ intents_of n.edits → IsPartNote server epoch n
+note_of server epoch n p plain good part same =
+    let h1 = both plain in
+    let h2 = both h1.1 in
+    let h3 = both h2.1 in
+    let h4 = both h3.1 in
+    let h5 = both h4.1 in
+    record {
+      modes = h1.0;
+      locks = good;
+      locked = h2.0;
+      edited = h3.0;
+      join = le_is n.join.epoch epoch h4.0;
+      client = (le_is 1 n.client h5.0, le_is n.client 16 h5.1);
+      cells = omega (arith, part.most, part.cells, ap (λ (i : Intents). changed_by i) same);
+      fit = subst (λ (i : Intents). AllFit i.puts) same part.fit;
+    }
+
+pub part_noted : (tells : Bool) (m : Cells) (server epoch : ℕ) (p : RegainedPart) (n : ReadyNote) → p.join ≡ n.join → p.trans ≡ n.trans → p.ts ≡ n.ts → p.client ≡ n.client
+    → p.part.intents ≡ intents_of n.edits → own_of p.part ≡ no_opens → IsPart p.part → (IsTrue tells → AreCountsOf m n.edits p.part.counts) → p.locks ≡ length (with_resources n.locks [])
+    → is_plain server epoch n ≡ true → AreGoodLocks n.locks n.edits → IsPartOf tells m server epoch p n
+part_noted tells m server epoch p n join trans ts client intents own part counts locks plain good = record {
+  join = join;
+  trans = trans;
+  ts = ts;
+  client = client;
+  intents = intents;
+  own = own;
+  part = part;
+  counts = counts;
+  locks = locks;
+  note = note_of server epoch n p.part plain good part intents;
+  within = are_within (held_by n.locks) n.edits good.covered;
+  intended = are_intended n.locks good.intended;
+}
+
+-- ---- all notes one after the other
+
+-- the parts of the first notes are live, and the rest follow
+pub record Taking (tells : Bool) (m : Cells) (server epoch : ℕ) (l : Lives) (all rest : List ReadyNote) : Type 0 where
+  pub done : List ReadyNote
+  pub split : done ++ rest ≡ all
+  pub live : IsSoFar tells m server epoch l done
+
+module _ (tells : Bool) (m : Cells) (server epoch : ℕ) (l : Lives) (all : List ReadyNote) where
+  pub takes_none : IsSoFar tells m server epoch l [] → Taking tells m server epoch l all all
+  takes_none live = record { done = []; split = refl; live = live }
+
+  pub takes_on : (new : Lives) (n : ReadyNote) (rest : List ReadyNote) (t : Taking tells m server epoch l all (n ∷ rest))
+      → IsSoFar tells m server epoch new (t.done ++ n ∷ []) → Taking tells m server epoch new all rest
+  takes_on new n rest t live = record { done = t.done ++ n ∷ []; split = append_assoc t.done (n ∷ []) rest ∙ t.split; live = live }
+
+  pub takes_all : (rest : List ReadyNote) → rest ≡ [] → Taking tells m server epoch l all rest → IsSoFar tells m server epoch l all
+  takes_all rest none t = subst (λ (ns : List ReadyNote). IsSoFar tells m server epoch l ns) (sym (append-nil t.done) ∙ ap (λ (ns : List ReadyNote). t.done ++ ns) (sym none) ∙ t.split) t.live
+
+  -- where all can stand beside one another, so can the next and those before it
+  pub next_two : (n : ReadyNote) (rest : List ReadyNote) (t : Taking tells m server epoch l all (n ∷ rest)) → AreApart all → AllByRecursion (λ o. AreTwo o n) t.done
+  next_two n rest t apart = apart_before t.done n rest (subst AreApart (sym t.split) apart)
+
+  pub next_note : (n : ReadyNote) (rest : List ReadyNote) (t : Taking tells m server epoch l all (n ∷ rest)) → AllByRecursion (IsPartNote server epoch) all → IsPartNote server epoch n
+  next_note n rest t notes = at_middle (IsPartNote server epoch) t.done n rest (subst (AllByRecursion (IsPartNote server epoch)) (sym t.split) notes)
