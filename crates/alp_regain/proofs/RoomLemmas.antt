@@ -1,16 +1,20 @@
 -- what regained parts come to is what their notes say
 use Rattle.std.specs.Prelude.{Bool, true, false, nat_le, sum_by, map as list_map, IsTrue}
+use Rattle.std.specs.List.{list_all, AllByRecursion}
 use Rattle.std.proofs.Common.{◌≡◌, ℕ, ◌+◌, ◌≤◌, List, [], ◌∷◌, length, refl, sym, ap, ◌∙◌, arith}
 use Rattle.std.proofs.lemmas.List.Sums.{sum_by-cons}
 use Rattle.alp_base.specs.declared.faults.Sizes.{Sizes}
 use Rattle.alp_files.specs.Cells.{Cells}
 use Rattle.alp_files.specs.Needs.{Intents, changed_by, need_of, made_of, is_leader, is_owner}
 use Rattle.alp_worker.specs.declared.room.PartSize.{PartSize}
-use Rattle.alp_journal.specs.Opening.{ReadyNote}
+use Rattle.alp_coord.specs.Coordinators.{noted}
+use Rattle.alp_coord.specs.declared.decision.Decision.{Decision}
+use Rattle.alp_journal.specs.Opening.{ReadyNote, DecisionNote}
 use Rattle.alp_regain.specs.Rooms.{part_size, places_in, files_in, owners_in, HaveRoomFor}
-use Rattle.alp_regain.specs.Together.{size_of, HaveRoomTogether}
+use Rattle.alp_regain.specs.Together.{size_of, log_sum, IsPartNote, HaveRoomTogether}
 use Rattle.alp_regain.specs.Regained.{IsPartOf, ArePartsOf}
 use Rattle.alp_regain.specs.declared.part.RegainedPart.{RegainedPart}
+use Rattle.alp_regain.proofs.ListLemmas.{all_mapped}
 
 module _ (tells : Bool) (m : Cells) (server epoch : ℕ) where
   one_size : (p : RegainedPart) (n : ReadyNote) → IsPartOf tells m server epoch p n → part_size p ≡ size_of n
@@ -63,3 +67,33 @@ module _ (tells : Bool) (m : Cells) (server epoch : ℕ) where
       files = omega (arith, room.files, same_files ps ns are);
       owners = omega (arith, room.owners, same_owners ps ns are);
     }
+
+-- ---- the log
+
+le_is : (a b : ℕ) → nat_le a b ≡ true → a ≤ b
+le_is a b h = grind arith
+
+le_not : (a b : ℕ) → nat_le a b ≡ false → a ≤ b → ⊥
+le_not a b h less = grind arith
+
+module _ (tells : Bool) (m : Cells) (server epoch area : ℕ) (ps : List RegainedPart) (ns : List ReadyNote) (are : ArePartsOf tells m server epoch ps ns) where
+  same_sum : log_sum (list_map part_size ps) ≡ log_sum (list_map size_of ns)
+  same_sum = ap (λ (xs : List PartSize). log_sum xs) (same_sizes tells m server epoch ps ns are)
+
+  pub log_said : nat_le (log_sum (list_map part_size ps)) area ≡ true → log_sum (list_map size_of ns) ≤ area
+  log_said fits = le_is (log_sum (list_map size_of ns)) area (ap (λ (n : ℕ). nat_le n area) (sym same_sum) ∙ fits)
+
+  pub log_meant : nat_le (log_sum (list_map part_size ps)) area ≡ false → log_sum (list_map size_of ns) ≤ area → ⊥
+  log_meant full less = le_not (log_sum (list_map size_of ns)) area (ap (λ (n : ℕ). nat_le n area) (sym same_sum) ∙ full) less
+
+-- ---- what each note says
+
+module _ (tells : Bool) (m : Cells) (server epoch : ℕ) where
+  pub each_note : (ps : List RegainedPart) (ns : List ReadyNote) → ArePartsOf tells m server epoch ps ns → AllByRecursion (IsPartNote server epoch) ns
+  each_note [] [] are = tt
+  each_note [] (n ∷ ns) are = absurd are
+  each_note (p ∷ ps) [] are = absurd are
+  each_note (p ∷ ps) (n ∷ ns) are = (are.0.note, each_note ps ns are.1)
+
+pub decided_by : (epoch : ℕ) (ds : List Decision) → list_all (λ (d : DecisionNote). nat_le d.stamp.trans.epoch epoch) (list_map noted ds) ≡ list_all (λ (d : Decision). nat_le d.stamp.trans.epoch epoch) ds
+decided_by epoch ds = all_mapped (λ (d : DecisionNote). nat_le d.stamp.trans.epoch epoch) noted ds
