@@ -1,14 +1,11 @@
 -- what the change of a note comes to, each file and key once
-use Rattle.std.specs.Prelude.{Bool, true, false, ◌&&◌, map as list_map}
 use Rattle.std.specs.FinMap as map
 use Rattle.std.specs.FinMap.{len-entries}
-use Rattle.std.proofs.Common.{◌≡◌, ℕ, ◌+◌, ◌≤◌, List, [], ◌∷◌, length, refl, sym, ◌∙◌, ap, subst, arith}
+use Rattle.std.proofs.Common.{◌≡◌, ◌≤◌, List, ◌∙◌, ap, arith}
 use Rattle.std.proofs.lemmas.List.{length-map}
-use Rattle.alp_base.specs.declared.change.Change.{Change}
 use Rattle.alp_files.specs.Cells.{Cells}
-use Rattle.alp_files.specs.Changes.{edits_of}
 use Rattle.alp_files.specs.Edits.{Edit}
-use Rattle.alp_files.specs.Needs.{Intents, changed_by, changed, intents_of}
+use Rattle.alp_files.specs.Needs.{Intents, changed_by, intents_of}
 use Rattle.alp_vault.specs.Volumes.{changed_cells}
 use Rattle.alp_trans.specs.Counting.{AreCountsOf, counts_by}
 use Rattle.alp_trans.specs.Parts.{change_of}

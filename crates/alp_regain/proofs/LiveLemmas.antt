@@ -1,5 +1,5 @@
 -- one ready part after the other becomes live
-use Rattle.std.specs.Prelude.{cond, Bool, true, false, ◌&&◌, ◌||◌, Option, None, Some, is_some, unwrap_or, nat_le, IsTrue, map as list_map}
+use Rattle.std.specs.Prelude.{cond, Bool, true, false, ◌&&◌, ◌||◌, Option, None, Some, unwrap_or, nat_le, IsTrue}
 use Rattle.std.specs.List.{list_all, list_any, AllByRecursion}
 use Rattle.std.specs.FinMap as map
 use Rattle.std.specs.FinMap.{get-empty, get-insert}
@@ -26,7 +26,7 @@ use Rattle.alp_calls.specs.Parts.{IsPart, AllFit}
 use Rattle.alp_queue.specs.Rises.{Held}
 use Rattle.alp_locks.specs.Asks.{joined, with_regained}
 use Rattle.alp_locks.specs.Sound.{IsSound}
-use Rattle.alp_locks.specs.Tables.{Holders, Table, held_of, holding}
+use Rattle.alp_locks.specs.Tables.{Table, held_of, holding}
 use Rattle.alp_locks.proofs.LawLemmas.{joined-holds}
 use Rattle.alp_journal.specs.Counts.{with_resources}
 use Rattle.alp_journal.specs.Opening.{ReadyNote}
@@ -148,12 +148,14 @@ module _ (t : Table) (done : List ReadyNote) (n : ReadyNote) (locks : AreLocksOf
       where
         walk : (os : List ReadyNote) → has_note_of n.trans os ≡ false → AllByRecursion (HoldsNoted t) os → AllByRecursion (λ o. AreTwo o n) os
         walk [] none held = tt
-        walk (o ∷ os) none held =
-            (record {
-              apart = turned o.trans n.trans ∙ (or_none none).0;
-              agree = λ r.
-                  agree-turned (held_by o.locks r) (held_by n.locks r) ∙ ap (λ (x : Option Mode). agree_held (held_by n.locks r) x) (sym (held.0 r)) ∙ agree o.trans (or_none none).0 r;
-            }, walk os (or_none none).1 held.1)
+        walk (o ∷ os) none held = (
+          record {
+            apart = turned o.trans n.trans ∙ (or_none none).0;
+            agree = λ r.
+                agree-turned (held_by o.locks r) (held_by n.locks r) ∙ ap (λ (x : Option Mode). agree_held (held_by n.locks r) x) (sym (held.0 r)) ∙ agree o.trans (or_none none).0 r;
+          },
+          walk os (or_none none).1 held.1,
+        )
 
   -- and the other way round
   pub agree_known : AllByRecursion (λ o. AreTwo o n) done → (u : TransId) → eq_by_cmp trans_cmp n.trans u ≡ false → DoAgree (held_by n.locks) (holding t.held u)

@@ -1,11 +1,11 @@
 -- locks as a note lists them: how many there are, what they intend, and what they let write
-use Rattle.std.specs.Prelude.{cond, Bool, true, false, ◌&&◌, ◌||◌, Option, None, Some, is_some, IsTrue, map as list_map}
-use Rattle.std.specs.List.{list_all, list_any, AllByRecursion}
+use Rattle.std.specs.Prelude.{cond, Bool, true, false, ◌||◌, Option, None, Some, is_some}
+use Rattle.std.specs.List.{list_all}
 use Rattle.std.specs.Option.{option_and_then}
 use Rattle.std.specs.FinMap as map
 use Rattle.std.specs.FinMap.{get-empty, get-insert, len-insert, len-empty, len-entries}
 use Rattle.std.specs.Ordering.{eq_by_cmp}
-use Rattle.std.proofs.Common.{◌≡◌, ℕ, ◌+◌, List, [], ◌∷◌, ◌++◌, length, length-append, refl, sym, ◌∙◌, ap, subst, arith}
+use Rattle.std.proofs.Common.{◌≡◌, ◌+◌, List, [], ◌∷◌, ◌++◌, length, length-append, refl, sym, ◌∙◌, ap, arith}
 use Rattle.std.proofs.lemmas.Map.Views.{tells_apart}
 use Rattle.std.proofs.lemmas.List.Folds.{list_any-append}
 use Rattle.alp_base.specs.Orders.{resource_cmp, resources_total, exact_resources}
@@ -19,7 +19,7 @@ use Rattle.alp_modes.specs.Modes.{covers_of, join_of, leaf_of}
 use Rattle.alp_modes.proofs.ModeLemmas.{at-all, implied, implied-is}
 use Rattle.alp_files.specs.Apart.{IsWithin}
 use Rattle.alp_files.specs.Edits.{Edit, Drop, Cut, Put}
-use Rattle.alp_files.specs.Holdings.{Holding, join_held, covers_held, held_by, file_of, mode_on, intention_of, IsIntended}
+use Rattle.alp_files.specs.Holdings.{Holding, join_held, covers_held, held_by, file_of, intention_of, IsIntended}
 use Rattle.alp_files.specs.Locks.{Need, Writes}
 use Rattle.alp_files.proofs.FilesLemmas.{same-some}
 use Rattle.alp_queue.specs.Rises.{Held}

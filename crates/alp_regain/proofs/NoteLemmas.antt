@@ -1,6 +1,6 @@
 -- notes that are read one by one by their names
-use Rattle.std.specs.Prelude.{Bool, true, false, ◌&&◌, ◌||◌, Option, None, Some, is_some, map as list_map}
-use Rattle.std.specs.List.{list_all, list_any, filter_map, cons_option}
+use Rattle.std.specs.Prelude.{Bool, true, false, ◌||◌, Option, None, Some, is_some, map as list_map}
+use Rattle.std.specs.List.{list_any, filter_map, cons_option}
 use Rattle.std.specs.Option.{option_to_list, option_and_then}
 use Rattle.std.specs.FinMap as map
 use Rattle.std.specs.FinMap.{get-entries, entries_sorted, find, contains_key-keys}
@@ -18,9 +18,9 @@ use Rattle.alp_fields.specs.ReadyNote.{ready_in}
 use Rattle.alp_fields.specs.DecisionNote.{decision_in}
 use Rattle.alp_fields.specs.declared.ready_note.ReadyPart.{ReadyPart}
 use Rattle.alp_vault.specs.Volumes.{AreServerNotes}
-use Rattle.alp_journal.specs.Opening.{ReadyNote, DecisionNote, ready_noted, decision_noted, ready_kept, decisions_kept}
+use Rattle.alp_journal.specs.Opening.{ReadyNote, ready_noted, decision_noted, ready_kept, decisions_kept}
 use Rattle.alp_queue.proofs.SortedLemmas.{find-here}
-use Rattle.alp_regain.specs.Notes.{part_note, part_under, decision_under, parts_under, decisions_under, is_good, are_good}
+use Rattle.alp_regain.specs.Notes.{part_note, parts_under, decisions_under, is_good, are_good}
 use Rattle.alp_regain.proofs.ListLemmas.{both}
 
 -- ---- each of the notes is there under its name

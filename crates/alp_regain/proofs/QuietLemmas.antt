@@ -1,6 +1,6 @@
 -- faults that leave a vault as it was, and looks from one vault on to the next
-use Rattle.std.specs.Prelude.{Bool, IsTrue, None}
-use Rattle.std.proofs.Common.{◌≡◌, refl, sym, subst}
+use Rattle.std.specs.Prelude.{Bool, IsTrue}
+use Rattle.std.proofs.Common.{refl, sym, subst}
 use Rattle.alp_files.specs.Cells.{Cells}
 use Rattle.alp_vault.specs.Contents.{Contents}
 use Rattle.alp_vault.specs.declared.vault.Vault.{Ghosts}

@@ -5,7 +5,7 @@ use Rattle.std.proofs.Common.{◌≡◌, ℕ, ◌+◌, ◌≤◌, List, [], ◌�
 use Rattle.std.proofs.lemmas.List.Sums.{sum_by-cons}
 use Rattle.alp_base.specs.declared.faults.Sizes.{Sizes}
 use Rattle.alp_files.specs.Cells.{Cells}
-use Rattle.alp_files.specs.Needs.{Intents, changed_by, need_of, made_of, is_leader, is_owner}
+use Rattle.alp_files.specs.Needs.{changed_by, need_of, made_of, is_leader, is_owner}
 use Rattle.alp_worker.specs.declared.room.PartSize.{PartSize}
 use Rattle.alp_coord.specs.Coordinators.{noted}
 use Rattle.alp_coord.specs.declared.decision.Decision.{Decision}

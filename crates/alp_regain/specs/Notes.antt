@@ -5,11 +5,9 @@ use Rattle.std.specs.Option.{option_and_then}
 use Rattle.std.specs.FinMap as map
 use Rattle.alp_base.specs.Notes.{Notes}
 use Rattle.alp_base.specs.declared.ids.JoinNo.{JoinNo}
-use Rattle.alp_base.specs.declared.ids.TransId.{TransId}
 use Rattle.alp_fields.specs.ReadyNote.{ready_in}
 use Rattle.alp_fields.specs.DecisionNote.{decision_in}
 use Rattle.alp_fields.specs.declared.ready_note.ReadyPart.{ReadyPart}
-use Rattle.alp_fields.specs.declared.decision_note.Decision.{Decision}
 use Rattle.alp_files.specs.Changes.{edits_of}
 use Rattle.alp_vault.specs.Volumes.{is_server_note}
 use Rattle.alp_journal.specs.Opening.{ReadyNote, DecisionNote, decision_noted}

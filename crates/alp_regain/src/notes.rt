@@ -155,8 +155,8 @@ impl Notes {
     {
         let part = part_in(alloc, name, value)?;
         let decision = decision_of(alloc, name, value)?;
-        let is_note =
-            is_clock_note(name, value) || (is_ready_on(of, &part) || is_decision_of(of, &decision));
+        let is_note = is_clock_note(name, value)
+            || (is_ready_on(of, &part) || is_decision_of(of, &decision));
         if !is_note {
             return Err(RegainFault::BadNote);
         }

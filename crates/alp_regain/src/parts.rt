@@ -109,11 +109,7 @@ fn are_good_locks(table: &LockTable, kept: &ReadyPart) -> bool
 
 // The transaction holds the locks of its note, where they are good and agree with those of the others. The count is that of the
 // resources.
-fn locks_of(
-    table: &mut LockTable,
-    alloc: Global,
-    kept: &ReadyPart,
-) -> Result<u32, RegainFault>
+fn locks_of(table: &mut LockTable, alloc: Global, kept: &ReadyPart) -> Result<u32, RegainFault>
     requires idle { waits table.old.waiting kept.now.trans ≡ false }
     requires unknown { map.get table.old.held kept.now.trans ≡ None }
     ensures after { OnOk result (table.new ≡ with_regained table.old kept.now.trans kept.now.locks None) }

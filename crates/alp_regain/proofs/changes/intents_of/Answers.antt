@@ -1,9 +1,7 @@
 use Rattle.std.specs.Prelude.{ℕ, map as list_map}
-use Rattle.std.proofs.Common.{◌≡◌, List, ◌++◌, sym, ap, ◌∙◌}
-use Rattle.alp_base.specs.declared.cell.Cell.{Cell}
+use Rattle.std.proofs.Common.{◌≡◌, List, ◌++◌, sym, ◌∙◌}
 use Rattle.alp_base.specs.declared.change.Change.{Change}
 use Rattle.alp_base.specs.declared.ids.FileId.{FileId}
-use Rattle.alp_base.specs.declared.key.Key.{Key}
 use Rattle.alp_files.specs.Edits.{Edit, Drop, Cut}
 use Rattle.alp_files.specs.Needs.{Intents, no_intents, intents_from}
 use Rattle.alp_files.specs.Undo.{puts_of}

@@ -1,7 +1,6 @@
 use Rattle.std.proofs.Common.{◌≡◌, sym, ap, ◌∙◌, subst}
 use Rattle.alp_base.specs.declared.change.Change.{Change}
 use Rattle.alp_files.specs.Changes.{edits_of}
-use Rattle.alp_files.specs.Edits.{Edit}
 use Rattle.alp_files.specs.Needs.{Intents, intents_of}
 use Rattle.alp_trans.specs.Parts.{change_of}
 use Rattle.alp_calls.specs.Regained.{IsNoted}

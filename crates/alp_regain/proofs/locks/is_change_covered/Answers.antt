@@ -1,6 +1,6 @@
-use Rattle.std.specs.Prelude.{ℕ, Bool, ◌&&◌}
+use Rattle.std.specs.Prelude.{ℕ, ◌&&◌}
 use Rattle.std.specs.List.{list_all}
-use Rattle.std.proofs.Common.{List, sym, ap, ◌∙◌}
+use Rattle.std.proofs.Common.{sym, ap, ◌∙◌}
 use Rattle.alp_base.specs.declared.cell.Cell.{Cell}
 use Rattle.alp_base.specs.declared.ids.FileId.{FileId}
 use Rattle.alp_base.specs.declared.key.Key.{Key}

@@ -1,14 +1,13 @@
-use Rattle.std.specs.Prelude.{Option, Bool, true, false, ◌&&◌, Err, Result, map as list_map}
-use Rattle.std.specs.List.{cons_option}
+use Rattle.std.specs.Prelude.{Bool, true, false, ◌&&◌, Err, map as list_map}
 use Rattle.std.specs.FinMap as map
-use Rattle.std.proofs.Common.{◌≡◌, ℕ, ◌+◌, List, [], ◌∷◌, ◌++◌, drop, get_or, refl, sym, ap, ◌∙◌, append-nil, arith, rules}
+use Rattle.std.proofs.Common.{◌≡◌, ℕ, ◌+◌, List, ◌∷◌, ◌++◌, drop, sym, ap, ◌∙◌, append-nil, rules}
 use Rattle.std.proofs.lemmas.List.{at_drop_more, at_drop_all}
 use Rattle.alp_base.specs.Notes.{Notes}
 use Rattle.alp_base.specs.declared.ids.JoinNo.{JoinNo}
 use Rattle.alp_fields.specs.declared.ready_note.ReadyPart.{ReadyPart}
 use Rattle.alp_journal.specs.Opening.{DecisionNote}
 use Rattle.alp_coord.specs.Coordinators.{noted}
-use Rattle.alp_regain.specs.Notes.{part_note, part_under, decision_under, parts_under, decisions_under, is_good, are_good}
+use Rattle.alp_regain.specs.Notes.{part_note, part_under, decision_under, parts_under, decisions_under, are_good}
 use Rattle.alp_regain.specs.declared.fault.RegainFault.TheVariants.{BadNote}
 use Rattle.alp_regain.proofs.NoteLemmas.{parts_kept, all_decisions, good_notes, each_good, read_on}
 use Rattle.alp_regain.proofs.notes.notes_of.Goals as goal

@@ -1,6 +1,5 @@
-use Rattle.std.specs.Prelude.{Bool, None, Some, Err, Result, map as list_map}
-use Rattle.std.specs.List.{AllByRecursion}
-use Rattle.std.proofs.Common.{◌≡◌, ℕ, ◌+◌, List, [], ◌∷◌, ◌++◌, drop, get_or, refl, sym, ap, ◌∙◌, subst, arith, rules}
+use Rattle.std.specs.Prelude.{Bool, None, Err, Result, map as list_map}
+use Rattle.std.proofs.Common.{◌≡◌, ℕ, ◌+◌, List, [], ◌∷◌, ◌++◌, drop, refl, sym, ap, ◌∙◌, subst, rules}
 use Rattle.std.proofs.Math.ListN.{drop_of_length-le}
 use Rattle.std.proofs.lemmas.List.{at_drop_more}
 use Rattle.alp_base.specs.declared.ids.JoinNo.{JoinNo}
@@ -35,9 +34,10 @@ pub take_part-requires-clause-serving : goal.take_part-requires-clause-serving
 take_part-requires-clause-serving g c = c.loop-part.invariant.left.1
 
 pub take_part-requires-clause-live : goal.take_part-requires-clause-live
-take_part-requires-clause-live g c =
-    (c.loop-part.invariant.taking.done,
-    looked_on g.V.Vault c.args.vault.now c.loop-part.vault c.loop-part.invariant.left.0 (λ (b : Bool) (m : Cells). IsSoFar b m c.args.of.0 c.args.of.1 c.loop-part.lives c.loop-part.invariant.taking.done) c.loop-part.invariant.taking.live)
+take_part-requires-clause-live g c = (
+  c.loop-part.invariant.taking.done,
+  looked_on g.V.Vault c.args.vault.now c.loop-part.vault c.loop-part.invariant.left.0 (λ (b : Bool) (m : Cells). IsSoFar b m c.args.of.0 c.args.of.1 c.loop-part.lives c.loop-part.invariant.taking.done) c.loop-part.invariant.taking.live,
+)
 
 pub loop-part-preserved : goal.loop-part-preserved
 loop-part-preserved g c =

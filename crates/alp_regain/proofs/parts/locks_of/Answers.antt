@@ -1,21 +1,13 @@
-use Rattle.std.specs.Prelude.{Bool, true, false, ◌&&◌, Ok, Err, IfOk, OnOk, Result, None}
-use Rattle.std.specs.List.{list_all}
-use Rattle.std.specs.FinMap as map
-use Rattle.std.proofs.Common.{◌≡◌, ℕ, ◌≤◌, List, [], length, ap, sym, ◌∙◌, arith}
+use Rattle.std.specs.Prelude.{None}
+use Rattle.std.proofs.Common.{◌≡◌, List, ap, sym, ◌∙◌, arith}
 use Rattle.std.proofs.lemmas.Result.{IfOk-weaker}
-use Rattle.alp_base.specs.declared.key.Resource.{Resource}
-use Rattle.alp_modes.specs.declared.Mode.{Mode}
 use Rattle.alp_files.specs.Changes.{edits_of}
-use Rattle.alp_files.specs.Edits.{Edit}
-use Rattle.alp_files.specs.Holdings.{Holding, held_by}
+use Rattle.alp_files.specs.Holdings.{held_by}
 use Rattle.alp_files.specs.Locks.{Need}
 use Rattle.alp_locks.specs.Asks.{with_regained}
-use Rattle.alp_locks.specs.Tables.{Table, held_of, holding}
-use Rattle.alp_queue.specs.Rises.{Held}
-use Rattle.alp_regain.specs.Named.{is_beside_intention, is_covered}
-use Rattle.alp_regain.specs.Together.{AreGoodLocks}
+use Rattle.alp_locks.specs.Tables.{Table, holding}
 use Rattle.alp_regain.proofs.ListLemmas.{both, neither}
-use Rattle.alp_regain.proofs.LiveLemmas.{all_held, own_holding, counted_in, good_held}
+use Rattle.alp_regain.proofs.LiveLemmas.{own_holding, counted_in, good_held}
 use Rattle.alp_regain.proofs.parts.locks_of.Goals as goal
 
 pub returns-then-not-are_good_locks-clause-bad : goal.returns-then-not-are_good_locks-clause-bad

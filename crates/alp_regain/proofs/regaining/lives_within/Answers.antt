@@ -1,5 +1,5 @@
-use Rattle.std.specs.Prelude.{Bool, true, false, nat_le, IsTrue, map as list_map}
-use Rattle.std.proofs.Common.{◌≡◌, ℕ, ◌≤◌, List, length, ap, sym, ◌∙◌, subst, arith}
+use Rattle.std.specs.Prelude.{Bool, nat_le, map as list_map}
+use Rattle.std.proofs.Common.{◌≡◌, List, length, ap, sym, ◌∙◌, subst, arith}
 use Rattle.std.proofs.lemmas.List.{length-map}
 use Rattle.alp_base.specs.declared.faults.Sizes.{Sizes}
 use Rattle.alp_base.specs.declared.ids.JoinNo.{JoinNo}

@@ -1,5 +1,5 @@
 use Rattle.std.specs.Prelude.{Bool, true, nat_le, map as list_map}
-use Rattle.std.specs.List.{list_all, AllByRecursion}
+use Rattle.std.specs.List.{list_all}
 use Rattle.std.proofs.Common.{◌≡◌, ℕ, ◌≤◌, List, length, ap, sym, ◌∙◌, subst, arith}
 use Rattle.std.proofs.lemmas.List.{length-map}
 use Rattle.alp_base.specs.Notes.{Notes}
@@ -7,10 +7,10 @@ use Rattle.alp_fields.specs.ClockNote.{clock_kept}
 use Rattle.alp_files.specs.Cells.{Cells}
 use Rattle.alp_coord.specs.Coordinators.{noted}
 use Rattle.alp_coord.specs.declared.decision.Decision.{Decision}
-use Rattle.alp_journal.specs.Opening.{ReadyNote, DecisionNote, ready_kept, decisions_kept}
+use Rattle.alp_journal.specs.Opening.{ReadyNote, DecisionNote, ready_kept}
 use Rattle.alp_regain.specs.Notes.{part_note}
 use Rattle.alp_regain.specs.Lives.{IsSoFar}
-use Rattle.alp_regain.specs.Together.{IsPartNote, AreApart, size_of, log_sum}
+use Rattle.alp_regain.specs.Together.{size_of, log_sum}
 use Rattle.alp_regain.proofs.RoomLemmas.{each_note, decided_by}
 use Rattle.alp_regain.proofs.regaining.regain.Goals as goal
 

@@ -1,4 +1,3 @@
-use Rattle.std.specs.Prelude.{Option, None}
 use Rattle.std.specs.FinMap as map
 use Rattle.std.specs.FinMap.{get-empty}
 use Rattle.std.proofs.Common.{List, [], ap, sym, subst, ◌∙◌}

@@ -1,6 +1,5 @@
-use Rattle.std.specs.Prelude.{Bool, true, false, Ok, Err, Result}
+use Rattle.std.specs.Prelude.{Bool, true, false, Err, Result}
 use Rattle.std.specs.List.{list_any}
-use Rattle.std.specs.FinMap as map
 use Rattle.std.specs.Ordering.{eq_by_cmp}
 use Rattle.std.proofs.Common.{◌≡◌, ℕ, List, [], ◌∷◌, ◌++◌, refl, ap, sym, ◌∙◌, subst, rules}
 use Rattle.alp_base.specs.Orders.{trans_cmp}
