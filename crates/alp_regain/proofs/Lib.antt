@@ -3,5 +3,6 @@ pub mod ListLemmas
 pub mod NoteLemmas
 pub mod LockLemmas
 pub mod LiveLemmas
+pub mod OwnerLemmas
 pub mod QuietLemmas
 pub mod RoomLemmas

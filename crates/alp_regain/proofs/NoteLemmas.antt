@@ -25,16 +25,16 @@ use Rattle.alp_regain.proofs.ListLemmas.{both}
 
 -- ---- each of the notes is there under its name
 
-abbrev Entry : Type 0
+abbrev pub Entry : Type 0
 Entry = List ℕ × List ℕ
 
 module _ (notes : Notes) where
-  there : (before after : List Entry) (e : Entry) → before ++ e ∷ after ≡ map.entries notes → map.get notes e.0 ≡ Some e.1
+  pub there : (before after : List Entry) (e : Entry) → before ++ e ∷ after ≡ map.entries notes → map.get notes e.0 ≡ Some e.1
   there before after e split =
       let sorted : T (map.is_sorted text_cmp (before ++ e ∷ after)) = subst (λ (es : List Entry). T (map.is_sorted text_cmp es)) (sym split) (entries_sorted notes) in
       get-entries notes e.0 ∙ ap (find text_cmp e.0) (sym split) ∙ find-here nat_list_cmp_total e.0 before e after sorted (tied_itself nat_list_cmp_total e.0)
 
-  next : (before after : List Entry) (e : Entry) → before ++ e ∷ after ≡ map.entries notes → (before ++ e ∷ []) ++ after ≡ map.entries notes
+  pub next : (before after : List Entry) (e : Entry) → before ++ e ∷ after ≡ map.entries notes → (before ++ e ∷ []) ++ after ≡ map.entries notes
   next before after e split = append_assoc before (e ∷ []) after ∙ split
 
   -- what is read under each name is what each note keeps

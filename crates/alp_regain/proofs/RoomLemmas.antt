@@ -10,6 +10,7 @@ use Rattle.alp_worker.specs.declared.room.PartSize.{PartSize}
 use Rattle.alp_coord.specs.Coordinators.{noted}
 use Rattle.alp_coord.specs.declared.decision.Decision.{Decision}
 use Rattle.alp_journal.specs.Opening.{ReadyNote, DecisionNote}
+use Rattle.alp_regain.specs.Named.{is_drawn_by}
 use Rattle.alp_regain.specs.Rooms.{part_size, places_in, files_in, owners_in, HaveRoomFor}
 use Rattle.alp_regain.specs.Together.{size_of, log_sum, IsPartNote, HaveRoomTogether}
 use Rattle.alp_regain.specs.Regained.{IsPartOf, ArePartsOf}
@@ -95,5 +96,5 @@ module _ (tells : Bool) (m : Cells) (server epoch : ℕ) where
   each_note (p ∷ ps) [] are = absurd are
   each_note (p ∷ ps) (n ∷ ns) are = (are.0.note, each_note ps ns are.1)
 
-pub decided_by : (epoch : ℕ) (ds : List Decision) → list_all (λ (d : DecisionNote). nat_le d.stamp.trans.epoch epoch) (list_map noted ds) ≡ list_all (λ (d : Decision). nat_le d.stamp.trans.epoch epoch) ds
-decided_by epoch ds = all_mapped (λ (d : DecisionNote). nat_le d.stamp.trans.epoch epoch) noted ds
+pub decided_by : (epoch : ℕ) (ds : List Decision) → list_all (λ (d : DecisionNote). is_drawn_by epoch d.stamp.trans.epoch d.stamp.trans.counter) (list_map noted ds) ≡ list_all (λ (d : Decision). is_drawn_by epoch d.stamp.trans.epoch d.stamp.trans.counter) ds
+decided_by epoch ds = all_mapped (λ (d : DecisionNote). is_drawn_by epoch d.stamp.trans.epoch d.stamp.trans.counter) noted ds

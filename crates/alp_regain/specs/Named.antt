@@ -12,6 +12,10 @@ use Rattle.alp_files.specs.Holdings.{Holding, covers_held, file_of, mode_on, int
 
 -- ---- ids
 
+-- a part or a transaction with these numbers was drawn in an epoch up to that one: epochs and counters begin at 1
+abbrev pub is_drawn_by : (now : ℕ) → (epoch counter : ℕ) → Bool
+is_drawn_by now epoch counter = nat_le 1 epoch && (nat_le 1 counter && nat_le epoch now)
+
 -- the file was made by this server in an epoch up to that one
 abbrev pub is_own : (server epoch : ℕ) → FileId → Bool
 is_own server epoch f = f.server == server && nat_le f.epoch epoch

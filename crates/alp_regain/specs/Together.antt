@@ -1,5 +1,5 @@
 -- What the notes of a server are to say of one another and of its files.
-use Rattle.std.specs.Prelude.{◌≡◌, ◌≤◌, ℕ, ◌+◌, true, false, nat_le, sum_by, flat_map, List, [], ◌∷◌, length, Some, map as list_map}
+use Rattle.std.specs.Prelude.{◌≡◌, ◌≤◌, ℕ, ◌+◌, true, false, sum_by, flat_map, List, [], ◌∷◌, length, Some, map as list_map}
 use Rattle.std.specs.List.{list_all, AllByRecursion}
 use Rattle.std.specs.FinMap as map
 use Rattle.std.specs.Ordering.{eq_by_cmp}
@@ -22,7 +22,7 @@ use Rattle.alp_vault.specs.declared.limits.TheConstants.{FILES_PER_SERVER, OWNER
 use Rattle.alp_calls.specs.Parts.{AllFit}
 use Rattle.alp_journal.specs.Counts.{with_resources, ready_sum}
 use Rattle.alp_journal.specs.Opening.{ReadyNote, DecisionNote, ready_kept, decisions_kept}
-use Rattle.alp_regain.specs.Named.{is_own, is_own_resource, is_own_edit, is_mode_on, is_beside_intention, is_covered}
+use Rattle.alp_regain.specs.Named.{is_drawn_by, is_own, is_own_resource, is_own_edit, is_mode_on, is_beside_intention, is_covered}
 use Rattle.alp_worker.specs.Rooms.{sum_of}
 use Rattle.alp_worker.specs.declared.room.PartSize.{PartSize}
 
@@ -36,14 +36,14 @@ pub record AreGoodLocks (locks : List Need) (es : List Edit) : Type 0 where
 -- ---- one part that is ready
 
 -- Its locks are of such modes and good for what it changes. It names files that this server made, in epochs up to that one, and was
--- joined in one of them, for a client of the run. It changes no more than a part may, and each cell that it puts is within the limits
+-- drawn in one of them, for a client of the run. It changes no more than a part may, and each cell that it puts is within the limits
 -- of a file.
 pub record IsPartNote (server epoch : ℕ) (n : ReadyNote) : Type 0 where
   pub modes : list_all (λ l. is_mode_on l.0 l.1) n.locks ≡ true
   pub locks : AreGoodLocks n.locks n.edits
   pub locked : list_all (λ l. is_own_resource server epoch l.0) n.locks ≡ true
   pub edited : list_all (is_own_edit server epoch) n.edits ≡ true
-  pub join : n.join.epoch ≤ epoch
+  pub join : is_drawn_by epoch n.join.epoch n.join.counter ≡ true
   pub client : (1 ≤ n.client) × (n.client ≤ 16)
   pub cells : changed n.edits ≤ 256
   pub fit : AllFit (intents_of n.edits).puts
@@ -69,12 +69,12 @@ size_of n = record { cells = changed n.edits; locks = length (with_resources n.l
 abbrev pub log_sum : List PartSize → ℕ
 log_sum ns = ready_sum (sum_of ns).weights (sum_of ns).greatest
 
--- Each note is in the format, and so is what it says of a part. Decisions were made in epochs up to that of the clock's note. The
+-- Each note is in the format, and so is what it says of a part. Transactions that are decided were drawn in epochs up to that of the clock's note. The
 -- parts keep apart. With the decisions they are no more than a server has live transactions, and the log has room for them.
 pub record AreNotesTogether (server servers area : ℕ) (notes : Notes) : Type 0 where
   pub format : AreServerNotes server servers notes
   pub parts : AllByRecursion (IsPartNote server (clock_kept notes).epoch) (ready_kept notes)
-  pub decided : list_all (λ (d : DecisionNote). nat_le d.stamp.trans.epoch (clock_kept notes).epoch) (decisions_kept notes) ≡ true
+  pub decided : list_all (λ (d : DecisionNote). is_drawn_by (clock_kept notes).epoch d.stamp.trans.epoch d.stamp.trans.counter) (decisions_kept notes) ≡ true
   pub apart : AreApart (ready_kept notes)
   pub few : length (ready_kept notes) + length (decisions_kept notes) ≤ 64
   pub log : log_sum (list_map size_of (ready_kept notes)) ≤ area

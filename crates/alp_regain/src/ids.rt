@@ -2,7 +2,7 @@
 ghost use Rattle.std.specs.Prelude.{◌≡◌, ◌&&◌};
 ghost use Rattle.std.specs.List.{list_all};
 ghost use Rattle.alp_files.specs.Changes.{edits_of};
-ghost use Rattle.alp_regain.specs.Named.{is_own as is_own_said, is_own_key as is_own_key_said, is_own_resource as is_own_resource_said, is_own_edit};
+ghost use Rattle.alp_regain.specs.Named.{is_drawn_by as is_drawn_by_said, is_own as is_own_said, is_own_key as is_own_key_said, is_own_resource as is_own_resource_said, is_own_edit};
 
 use alp_base::{Cell, Change, FileId, Key, Resource};
 use alp_modes::Mode;
@@ -12,6 +12,13 @@ pub(super) fn are_all(drops: bool, cuts: bool, puts: bool) -> bool
     ensures { result ≡ (drops && (cuts && puts)) }
 {
     drops && (cuts && puts)
+}
+
+/// Whether a part or a transaction with these numbers was drawn in an epoch up to the first one.
+pub(super) fn is_drawn_by(now: u32, epoch: u32, counter: u32) -> bool
+    ensures { result ≡ is_drawn_by_said now epoch counter }
+{
+    1 <= epoch && (1 <= counter && epoch <= now)
 }
 
 // Whether the server made the file in an epoch up to that one.

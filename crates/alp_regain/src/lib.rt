@@ -4,6 +4,7 @@
 mod changes;
 mod fault;
 mod ids;
+mod laws;
 mod locks;
 mod notes;
 mod part;
@@ -12,5 +13,6 @@ mod regaining;
 mod rooms;
 
 pub use fault::RegainFault;
+pub use laws::notes_name_their_servers;
 pub use part::RegainedPart;
 pub use regaining::{Regained, regain};

@@ -23,7 +23,7 @@ ghost use Rattle.alp_regain.specs.Lives.{IsSoFar, is_plain};
 ghost use Rattle.alp_regain.specs.declared.fault.RegainFault.TheVariants.{BadNote};
 
 use crate::changes::part_of;
-use crate::ids::{are_own_locks, is_own_change};
+use crate::ids::{are_own_locks, is_drawn_by, is_own_change};
 use crate::locks::{are_intended, have_modes, is_change_covered};
 use crate::{RegainFault, RegainedPart};
 use alp_base::{JoinNo, Resource, TransId};
@@ -61,7 +61,8 @@ fn is_plain_part(join: JoinNo, kept: &ReadyPart, of: (u8, u32)) -> bool
     have_modes(kept.locks.as_slice())
         && (are_own_locks(of, kept.locks.as_slice())
             && (is_own_change(of, &kept.change)
-                && (join.epoch <= of.1 && (1 <= kept.client && kept.client <= CLIENTS))))
+                && (is_drawn_by(of.1, join.epoch, join.counter)
+                    && (1 <= kept.client && kept.client <= CLIENTS))))
 }
 
 // The transaction holds all of these locks, where they agree with those of the others.

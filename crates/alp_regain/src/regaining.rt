@@ -1,11 +1,12 @@
 //! What a server regains from the notes of an earlier run.
-ghost use Rattle.std.specs.Prelude.{◌≡◌, ◌≤◌, ◌+◌, true, false, nat_le, IsTrue, IfOk, IfErr, Err, length, map as list_map};
+ghost use Rattle.std.specs.Prelude.{◌≡◌, ◌≤◌, ◌+◌, true, false, IsTrue, IfOk, IfErr, Err, length, map as list_map};
 ghost use Rattle.std.specs.List.{list_all};
 ghost use Rattle.alp_fields.specs.ClockNote.{clock_kept};
 ghost use Rattle.alp_vault.specs.Volumes.{AreServerNotes};
 ghost use Rattle.alp_calls.specs.Looks.{Looks};
 ghost use Rattle.alp_coord.specs.Coordinators.{noted};
 ghost use Rattle.alp_journal.specs.Opening.{ready_kept, decisions_kept};
+ghost use Rattle.alp_regain.specs.Named.{is_drawn_by as is_drawn_by_said};
 ghost use Rattle.alp_regain.specs.Notes.{part_note};
 ghost use Rattle.alp_regain.specs.Together.{AreNotesTogether, AreOwnFiles, AreTogether, HaveRoomTogether, FitTogether, log_sum, size_of};
 ghost use Rattle.alp_regain.specs.Lives.{IsSoFar};
@@ -13,6 +14,7 @@ ghost use Rattle.alp_regain.specs.Faults.{fault_from, IsOfNoDevice};
 ghost use Rattle.alp_regain.specs.Regained.{IsRegained};
 ghost use Rattle.alp_regain.specs.declared.fault.RegainFault.TheVariants.{BadNote};
 
+use crate::ids::is_drawn_by;
 use crate::notes::{Notes, notes_of};
 use crate::parts::{Lives, lives_of};
 use crate::rooms::{log_has_room, volume_has_room};
@@ -51,19 +53,20 @@ fn epoch_kept<V: Vault>(alloc: Global, vault: &V) -> Result<u32, RegainFault>
     }
 }
 
-// Whether the decisions are of transactions that began in epochs up to that one.
+// Whether the decisions are of transactions that were drawn in epochs up to that one.
 fn are_decided_by(decisions: &[Decision], epoch: u32) -> bool
-    ensures { result ≡ list_all (λ d. nat_le d.stamp.trans.epoch epoch) decisions.now }
+    ensures { result ≡ list_all (λ d. is_drawn_by_said epoch d.stamp.trans.epoch d.stamp.trans.counter) decisions.now }
 {
-    decisions
-        .iter()
-        .all(|decision| decision.stamp.trans.epoch <= epoch)
+    decisions.iter().all(|decision| {
+        let trans = decision.stamp.trans;
+        is_drawn_by(epoch, trans.epoch, trans.counter)
+    })
 }
 
 // Whether the decisions are of epochs up to that one, and with the parts no more than a server has live transactions.
 fn are_few(notes: &Notes, epoch: u32) -> bool
-    ensures yes { result ≡ true → (list_all (λ d. nat_le d.stamp.trans.epoch epoch) notes.now.decisions.items ≡ true) × (length notes.now.parts.items + length notes.now.decisions.items ≤ 64) }
-    ensures no { result ≡ false → list_all (λ d. nat_le d.stamp.trans.epoch epoch) notes.now.decisions.items ≡ true → length notes.now.parts.items + length notes.now.decisions.items ≤ 64 → ⊥ }
+    ensures yes { result ≡ true → (list_all (λ d. is_drawn_by_said epoch d.stamp.trans.epoch d.stamp.trans.counter) notes.now.decisions.items ≡ true) × (length notes.now.parts.items + length notes.now.decisions.items ≤ 64) }
+    ensures no { result ≡ false → list_all (λ d. is_drawn_by_said epoch d.stamp.trans.epoch d.stamp.trans.counter) notes.now.decisions.items ≡ true → length notes.now.parts.items + length notes.now.decisions.items ≤ 64 → ⊥ }
 {
     if notes.parts.len() > TRANSACTIONS {
         return false;

@@ -1,4 +1,4 @@
-use Rattle.std.specs.Prelude.{Bool, true, nat_le, map as list_map}
+use Rattle.std.specs.Prelude.{Bool, true, map as list_map}
 use Rattle.std.specs.List.{list_all}
 use Rattle.std.proofs.Common.{◌≡◌, ℕ, ◌≤◌, List, length, ap, sym, ◌∙◌, subst, arith}
 use Rattle.std.proofs.lemmas.List.{length-map}
@@ -8,6 +8,7 @@ use Rattle.alp_files.specs.Cells.{Cells}
 use Rattle.alp_coord.specs.Coordinators.{noted}
 use Rattle.alp_coord.specs.declared.decision.Decision.{Decision}
 use Rattle.alp_journal.specs.Opening.{ReadyNote, DecisionNote, ready_kept}
+use Rattle.alp_regain.specs.Named.{is_drawn_by}
 use Rattle.alp_regain.specs.Notes.{part_note}
 use Rattle.alp_regain.specs.Lives.{IsSoFar}
 use Rattle.alp_regain.specs.Together.{size_of, log_sum}
@@ -17,9 +18,9 @@ use Rattle.alp_regain.proofs.regaining.regain.Goals as goal
 pub returns-then-not-are_few-clause-bad : goal.returns-then-not-are_few-clause-bad
 returns-then-not-are_few-clause-bad g c = λ told bad together.
     let notes : Notes = (g.V.Vault.held c.args.vault.now).notes in
-    let decided : list_all (λ (d : Decision). nat_le d.stamp.trans.epoch c.in_ok-epoch.epoch) c.in_ok-notes.notes.decisions.items ≡ true =
+    let decided : list_all (λ (d : Decision). is_drawn_by c.in_ok-epoch.epoch d.stamp.trans.epoch d.stamp.trans.counter) c.in_ok-notes.notes.decisions.items ≡ true =
     sym (decided_by c.in_ok-epoch.epoch c.in_ok-notes.notes.decisions.items)
-    ∙ (λ i. list_all (λ (d : DecisionNote). nat_le d.stamp.trans.epoch (c.in_ok-epoch.ensures.epoch i)) (c.in_ok-notes.ensures.decisions i)) ∙ together.notes_alone.decided in
+    ∙ (λ i. list_all (λ (d : DecisionNote). is_drawn_by (c.in_ok-epoch.ensures.epoch i) d.stamp.trans.epoch d.stamp.trans.counter) (c.in_ok-notes.ensures.decisions i)) ∙ together.notes_alone.decided in
     c.are_few.ensures.no c.if-not-are_few.true decided
     (omega (
       arith,
@@ -43,7 +44,7 @@ returns-clause-notes g c =
       format = c.in_ok-notes.ensures.format;
       parts = each_note tells held c.args.server (clock_kept notes).epoch c.in_ok-lives.lives.parts.items (ready_kept notes) live.parts;
       decided =
-          sym (λ i. list_all (λ (d : DecisionNote). nat_le d.stamp.trans.epoch (c.in_ok-epoch.ensures.epoch i)) (c.in_ok-notes.ensures.decisions i))
+          sym (λ i. list_all (λ (d : DecisionNote). is_drawn_by (c.in_ok-epoch.ensures.epoch i) d.stamp.trans.epoch d.stamp.trans.counter) (c.in_ok-notes.ensures.decisions i))
           ∙ decided_by c.in_ok-epoch.epoch c.in_ok-notes.notes.decisions.items ∙ few.0;
       apart = live.apart;
       few =

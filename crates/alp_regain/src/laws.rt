@@ -1,0 +1,15 @@
+//! What the format of notes says of ready parts.
+ghost use Rattle.std.specs.Prelude.{◌≡◌, ℕ, true};
+ghost use Rattle.alp_base.specs.Notes.{Notes};
+ghost use Rattle.alp_vault.specs.Volumes.{AreServerNotes};
+ghost use Rattle.alp_journal.specs.Laws.{are_joins_apart};
+ghost use Rattle.alp_journal.specs.Opening.{ready_kept, decisions_kept};
+ghost use Rattle.alp_regain.specs.Owners.{AreReadyHere, AreDecidedHere, joins_of};
+
+/// Ready parts are of this server, and of transactions of others of the run; decisions are of this server's transactions, with at
+/// least one part, and parts on others of the run alone. No two ready parts have one number.
+pub fn notes_name_their_servers()
+    ensures ready { (server servers : ℕ) (notes : Notes) → AreServerNotes server servers notes → AreReadyHere server servers (ready_kept notes) }
+    ensures decided { (server servers : ℕ) (notes : Notes) → AreServerNotes server servers notes → AreDecidedHere server servers (decisions_kept notes) }
+    ensures apart { (notes : Notes) → are_joins_apart (joins_of (ready_kept notes)) ≡ true }
+{}
