@@ -6,3 +6,4 @@ pub mod LiveLemmas
 pub mod OwnerLemmas
 pub mod QuietLemmas
 pub mod RoomLemmas
+pub mod TouchedLemmas

@@ -6,3 +6,4 @@ pub mod Owners
 pub mod Regained
 pub mod Rooms
 pub mod Together
+pub mod Touched
