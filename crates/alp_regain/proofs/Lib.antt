@@ -1,4 +1,5 @@
 pub mod ChangeLemmas
+pub mod ChargeLemmas
 pub mod ListLemmas
 pub mod NoteLemmas
 pub mod LockLemmas

@@ -20,7 +20,7 @@ use Rattle.alp_vault.specs.Volumes.{fits_key}
 use Rattle.alp_calls.specs.Parts.{AllFit}
 use Rattle.alp_regain.specs.Touched.{EndsAt, IsGoodPut, AreGoodPuts, AreFilesJustSo}
 
-kind_of_fit : (k : Key) (c : Cell) → fits_key k c ≡ true → IsOfKind k c
+pub kind_of_fit : (k : Key) (c : Cell) → fits_key k c ≡ true → IsOfKind k c
 kind_of_fit (Leader f) (cell.Leader p) h = tt
 kind_of_fit (Leader f) (cell.Page bytes) h = cc
 kind_of_fit (Leader f) (cell.Owner o) h = cc

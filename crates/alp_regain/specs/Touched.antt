@@ -1,5 +1,5 @@
--- By what a part puts it is seen whether it leaves files well formed.
-use Rattle.std.specs.Prelude.{◌≡◌, ◌≤◌, ◌<◌, ℕ, Option, None, Some}
+-- By what a part touches it is seen whether it leaves files well formed and charged.
+use Rattle.std.specs.Prelude.{◌≡◌, ◌≤◌, ◌<◌, ◌+◌, ℕ, Bool, false, ◌||◌, List, Option, None, Some}
 use Rattle.std.specs.FinMap as map
 use Rattle.alp_base.specs.declared.cell.Cell.{Cell}
 use Rattle.alp_base.specs.declared.cell.Cell.TheVariants as cell
@@ -9,8 +9,9 @@ use Rattle.alp_base.specs.declared.ids.FileId.{FileId}
 use Rattle.alp_base.specs.declared.key.Key.{Key}
 use Rattle.alp_base.specs.declared.key.Key.TheVariants.{Leader, PageOf, OwnerOf}
 use Rattle.alp_files.specs.Cells.{Cells, View}
-use Rattle.alp_files.specs.Files.{AreFiles}
+use Rattle.alp_files.specs.Files.{AreFiles, charge_of}
 use Rattle.alp_files.specs.Needs.{Intents, through}
+use Rattle.alp_trans.specs.Counting.{with_intents}
 
 -- no page of the file is seen from that number on
 abbrev pub EndsAt : View → FileId → ℕ → Type 0
@@ -29,3 +30,19 @@ AreGoodPuts i m = (k : Key) (c : Cell) → map.get i.puts k ≡ Some c → IsGoo
 pub record AreFilesJustSo (i : Intents) (m : Cells) : Type 0 where
   pub so : AreGoodPuts i m → AreFiles (through i (map.get m))
   pub only : AreFiles (through i (map.get m)) → AreGoodPuts i m
+
+-- ---- charges
+
+-- a leader that is put, or goes
+abbrev pub is_touched : Intents → Key → Bool
+is_touched i (Leader f) = map.contains_key i.puts (Leader f) || map.contains_key i.drops f
+is_touched i (PageOf f n) = false
+is_touched i (OwnerOf name) = false
+
+-- the sizes of the owner's leaders that are touched, as they lie below
+abbrev pub charge_lost : Intents → Cells → List ℕ → ℕ
+charge_lost i m owner = charge_of (map.retain_keys m (is_touched i)) owner
+
+-- The charge of each owner falls by the sizes of its leaders that are touched, and rises by those of its leaders that are put.
+abbrev pub DoChargesFollow : Intents → Cells → Type 0
+DoChargesFollow i m = (owner : List ℕ) → charge_of (with_intents i m) owner + charge_lost i m owner ≡ charge_of m owner + charge_of i.puts owner

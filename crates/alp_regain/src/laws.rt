@@ -10,7 +10,7 @@ ghost use Rattle.alp_calls.specs.Parts.{AllFit};
 ghost use Rattle.alp_journal.specs.Laws.{are_joins_apart};
 ghost use Rattle.alp_journal.specs.Opening.{ready_kept, decisions_kept};
 ghost use Rattle.alp_regain.specs.Owners.{AreReadyHere, AreDecidedHere, joins_of};
-ghost use Rattle.alp_regain.specs.Touched.{AreFilesJustSo};
+ghost use Rattle.alp_regain.specs.Touched.{AreFilesJustSo, DoChargesFollow};
 
 /// Ready parts are of this server, and of transactions of others of the run; decisions are of this server's transactions, with at
 /// least one part, and parts on others of the run alone. No two ready parts have one number.
@@ -24,4 +24,10 @@ pub fn notes_name_their_servers()
 /// is there and that has no page at or past its size, or a page below the size in its leader. So it is enough to look at these.
 pub fn puts_tell_of_files()
     ensures { (i : Intents) (m : Cells) → AreFiles (map.get m) → AllFit i.puts → AreFilesJustSo i m }
+{}
+
+/// With what a part intends the charge of each owner falls by the sizes of its leaders that are put anew or go, and rises by those of
+/// its leaders that are put. So it is enough to look at these.
+pub fn charges_follow_leaders()
+    ensures { (i : Intents) (m : Cells) → AreFiles (map.get m) → AllFit i.puts → DoChargesFollow i m }
 {}
