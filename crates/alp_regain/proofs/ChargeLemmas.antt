@@ -3,23 +3,23 @@ use Rattle.std.specs.Prelude.{cond, Bool, true, false, not, ◌||◌, Option, No
 use Rattle.std.specs.Option.{option_or}
 use Rattle.std.specs.FinMap as map
 use Rattle.std.specs.FinMap.{same_map}
-use Rattle.std.proofs.Common.{◌≡◌, ℕ, ◌+◌, List, refl, sym, ◌∙◌, ap, subst, arith}
+use Rattle.std.proofs.Common.{◌≡◌, ℕ, ◌+◌, List, refl, sym, ◌∙◌, ap, arith}
 use Rattle.alp_base.specs.KeyLaws.{keys_total, exact_keys}
 use Rattle.alp_base.specs.declared.cell.Cell.{Cell}
 use Rattle.alp_base.specs.declared.cell.Cell.TheVariants as cell
 use Rattle.alp_base.specs.declared.ids.FileId.{FileId}
 use Rattle.alp_base.specs.declared.key.Key.{Key}
 use Rattle.alp_base.specs.declared.key.Key.TheVariants.{Leader, PageOf, OwnerOf}
-use Rattle.alp_files.specs.Cells.{Cells, View}
-use Rattle.alp_files.specs.Files.{AreFiles, IsOfKind, cost, charge_of}
-use Rattle.alp_files.specs.Needs.{Intents, is_gone, is_leader, through}
+use Rattle.alp_files.specs.Cells.{Cells}
+use Rattle.alp_files.specs.Files.{IsOfKind, cost, charge_of}
+use Rattle.alp_files.specs.Needs.{Intents, is_gone, is_leader}
 use Rattle.alp_files.proofs.ChargeLemmas.{AreKinds}
 use Rattle.alp_files.proofs.IntentLemmas.{kept}
 use Rattle.alp_files.proofs.SumLemmas.{sum_of, sum-retain_keys, sum_of-nothing}
-use Rattle.alp_trans.specs.Counting.{left_by, with_intents}
+use Rattle.alp_trans.specs.Counting.{with_intents}
 use Rattle.alp_calls.specs.Parts.{AllFit}
 use Rattle.alp_calls.proofs.IntentCounts.{get-left, get-with}
-use Rattle.alp_regain.specs.Touched.{is_touched, charge_lost, DoChargesFollow}
+use Rattle.alp_regain.specs.Touched.{is_touched, DoChargesFollow}
 use Rattle.alp_regain.proofs.TouchedLemmas.{kind_of_fit}
 
 not_not : (b : Bool) → not (not b) ≡ b

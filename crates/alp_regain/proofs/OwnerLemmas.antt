@@ -1,21 +1,20 @@
 -- of which servers the notes are that keep parts and decisions
-use Rattle.std.specs.Prelude.{Bool, true, false, not, ◌&&◌, ◌||◌, nat_eq, Option, None, Some, is_some, unwrap_or, map as list_map}
-use Rattle.std.specs.List.{list_all, filter_map, cons_option, AllByRecursion}
+use Rattle.std.specs.Prelude.{Bool, true, false, not, ◌&&◌, ◌||◌, nat_eq, Option, None, Some}
+use Rattle.std.specs.List.{filter_map, cons_option}
 use Rattle.std.specs.FinMap as map
 use Rattle.std.specs.FinMap.{entries_sorted}
 use Rattle.std.specs.FinMap.Entries.{below_all}
 use Rattle.std.specs.Cmp.{tied_itself}
-use Rattle.std.specs.Cmp.Lexicographic.{pointwise, nat_list_cmp_total}
+use Rattle.std.specs.Cmp.Lexicographic.{nat_list_cmp_total}
 use Rattle.std.specs.Ordering.{is_lt}
 use Rattle.std.specs.declared.cmp.Ordering.{Ordering}
-use Rattle.std.specs.declared.cmp.Ordering.TheVariants.{Less, Equal, Greater}
 use Rattle.std.proofs.Common.{◌≡◌, ℕ, ◌≤◌, List, [], ◌∷◌, ◌++◌, length, refl, sym, ◌∙◌, ap, subst, arith}
 use Rattle.std.proofs.Math.Dec.{T}
 use Rattle.alp_base.specs.Notes.{Notes, text_cmp}
 use Rattle.alp_base.specs.declared.ids.JoinNo.{JoinNo}
 use Rattle.alp_base.specs.declared.ids.TransId.{TransId}
 use Rattle.alp_fields.specs.Forms.{whole}
-use Rattle.alp_fields.specs.ClockNote.{clock_name, clock_form, is_clock_note}
+use Rattle.alp_fields.specs.ClockNote.{clock_name, is_clock_note}
 use Rattle.alp_fields.specs.ReadyNote.{ready_name, ready_form, ready_with, ready_in}
 use Rattle.alp_fields.specs.DecisionNote.{decision_name, decision_form, decision_with, decision_in}
 use Rattle.alp_fields.specs.declared.ready_note.ReadyPart.{ReadyPart}
@@ -25,13 +24,12 @@ use Rattle.alp_fields.proofs.ReadyNoteLaw.{ready_name_law}
 use Rattle.alp_fields.proofs.DecisionNoteLaw.{decision_name_law, decision_law, decision_fits}
 use Rattle.alp_files.proofs.FilesLemmas.{same-some}
 use Rattle.alp_files.proofs.SameLemmas.{same_name-true}
-use Rattle.alp_vault.specs.Volumes.{AreServerNotes, is_another, is_ready_on, is_decision_of, is_server_note}
-use Rattle.alp_queue.proofs.SortedLemmas.{right-part}
+use Rattle.alp_vault.specs.Volumes.{AreServerNotes, is_ready_on, is_decision_of, is_server_note}
 use Rattle.alp_journal.specs.Ids.{same_join, has_join}
 use Rattle.alp_journal.specs.Laws.{are_joins_apart}
-use Rattle.alp_journal.specs.Opening.{ReadyNote, DecisionNote, ready_noted, decision_noted, ready_kept, decisions_kept}
+use Rattle.alp_journal.specs.Opening.{ready_noted, decision_noted, ready_kept, decisions_kept}
 use Rattle.alp_journal.proofs.IdLemmas.{same_join-true}
-use Rattle.alp_regain.specs.Owners.{joins_of, IsReadyHere, IsDecidedHere, AreReadyHere, AreDecidedHere}
+use Rattle.alp_regain.specs.Owners.{joins_of, AreReadyHere, AreDecidedHere}
 use Rattle.alp_regain.proofs.ListLemmas.{both}
 use Rattle.alp_regain.proofs.NoteLemmas.{Entry, there, next}
 

@@ -1,8 +1,8 @@
 -- what is seen through intents is well formed just where what they put is good
-use Rattle.std.specs.Prelude.{cond, Bool, true, false, ◌||◌, ◌⊎◌, Option, None, Some, is_some}
+use Rattle.std.specs.Prelude.{cond, Bool, true, false, ◌||◌, ◌⊎◌, Option, None, Some}
 use Rattle.std.specs.Option.{option_or}
 use Rattle.std.specs.FinMap as map
-use Rattle.std.proofs.Common.{◌≡◌, ℕ, ◌≤◌, ◌<◌, List, inl, inr, ⊎_elim, refl, sym, ◌∙◌, ap, subst, arith}
+use Rattle.std.proofs.Common.{◌≡◌, ℕ, ◌≤◌, ◌<◌, List, inl, inr, ⊎_elim, refl, sym, ◌∙◌, ap, arith}
 use Rattle.std.proofs.lemmas.Bool.{cases_lt}
 use Rattle.alp_base.specs.declared.cell.Cell.{Cell}
 use Rattle.alp_base.specs.declared.cell.Cell.TheVariants as cell
@@ -11,14 +11,13 @@ use Rattle.alp_base.specs.declared.cell.Props.{Props}
 use Rattle.alp_base.specs.declared.ids.FileId.{FileId}
 use Rattle.alp_base.specs.declared.key.Key.{Key}
 use Rattle.alp_base.specs.declared.key.Key.TheVariants.{Leader, PageOf, OwnerOf}
-use Rattle.alp_files.specs.Cells.{Cells, View, same_name}
+use Rattle.alp_files.specs.Cells.{Cells, View}
 use Rattle.alp_files.specs.Files.{AreFiles, IsOfKind}
 use Rattle.alp_files.specs.Needs.{Intents, through, is_gone, is_cut}
-use Rattle.alp_files.proofs.FilesLemmas.{same-some}
 use Rattle.alp_files.proofs.SameLemmas.{same_name-true}
 use Rattle.alp_vault.specs.Volumes.{fits_key}
 use Rattle.alp_calls.specs.Parts.{AllFit}
-use Rattle.alp_regain.specs.Touched.{EndsAt, IsGoodPut, AreGoodPuts, AreFilesJustSo}
+use Rattle.alp_regain.specs.Touched.{EndsAt, AreGoodPuts, AreFilesJustSo}
 
 pub kind_of_fit : (k : Key) (c : Cell) → fits_key k c ≡ true → IsOfKind k c
 kind_of_fit (Leader f) (cell.Leader p) h = tt
