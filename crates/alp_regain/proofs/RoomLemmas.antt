@@ -1,17 +1,19 @@
 -- what regained parts come to is what their notes say
-use Rattle.std.specs.Prelude.{Bool, true, false, nat_le, sum_by, map as list_map, IsTrue}
+use Rattle.std.specs.Prelude.{max, Bool, true, false, nat_le, sum_by, map as list_map, IsTrue}
 use Rattle.std.specs.List.{list_all, AllByRecursion}
 use Rattle.std.proofs.Common.{◌≡◌, ℕ, ◌+◌, ◌≤◌, List, [], ◌∷◌, length, refl, sym, ap, ◌∙◌, arith}
 use Rattle.std.proofs.lemmas.List.Sums.{sum_by-cons}
 use Rattle.alp_base.specs.declared.faults.Sizes.{Sizes}
 use Rattle.alp_files.specs.Cells.{Cells}
 use Rattle.alp_files.specs.Needs.{changed_by, need_of, made_of, is_leader, is_owner}
+use Rattle.alp_worker.specs.Rooms.{applying_of, sum_of}
 use Rattle.alp_worker.specs.declared.room.PartSize.{PartSize}
+use Rattle.alp_journal.specs.Counts.{log_need}
 use Rattle.alp_coord.specs.Coordinators.{noted}
 use Rattle.alp_coord.specs.declared.decision.Decision.{Decision}
 use Rattle.alp_journal.specs.Opening.{ReadyNote, DecisionNote}
 use Rattle.alp_regain.specs.Named.{is_drawn_by}
-use Rattle.alp_regain.specs.Rooms.{part_size, places_in, files_in, owners_in, HaveRoomFor}
+use Rattle.alp_regain.specs.Rooms.{FitsLogAlone, part_size, places_in, files_in, owners_in, HaveRoomFor}
 use Rattle.alp_regain.specs.Together.{size_of, log_sum, IsPartNote, HaveRoomTogether}
 use Rattle.alp_regain.specs.Regained.{IsPartOf, ArePartsOf}
 use Rattle.alp_regain.specs.declared.part.RegainedPart.{RegainedPart}
@@ -98,3 +100,21 @@ module _ (tells : Bool) (m : Cells) (server epoch : ℕ) where
 
 pub decided_by : (epoch : ℕ) (ds : List Decision) → list_all (λ (d : DecisionNote). is_drawn_by epoch d.stamp.trans.epoch d.stamp.trans.counter) (list_map noted ds) ≡ list_all (λ (d : Decision). is_drawn_by epoch d.stamp.trans.epoch d.stamp.trans.counter) ds
 decided_by epoch ds = all_mapped (λ (d : DecisionNote). is_drawn_by epoch d.stamp.trans.epoch d.stamp.trans.counter) noted ds
+
+-- ---- room in the log for each part
+
+le_max_left : (a b : ℕ) → a ≤ max a b
+le_max_left a b = omega arith
+
+le_max_right : (a b : ℕ) → b ≤ max a b
+le_max_right a b = omega arith
+
+one_fits : (n : PartSize) (ns : List PartSize) (area : ℕ) → log_sum (n ∷ ns) ≤ area → log_need n.cells n.locks ≤ area
+one_fits n ns area fits = omega (arith, fits, le_max_left (applying_of n) (sum_of ns).greatest)
+
+rest_fits : (n : PartSize) (ns : List PartSize) (area : ℕ) → log_sum (n ∷ ns) ≤ area → log_sum ns ≤ area
+rest_fits n ns area fits = omega (arith, fits, le_max_right (applying_of n) (sum_of ns).greatest)
+
+pub each_fits : (ns : List ReadyNote) (area : ℕ) → log_sum (list_map size_of ns) ≤ area → AllByRecursion (FitsLogAlone area) ns
+each_fits [] area fits = tt
+each_fits (n ∷ ns) area fits = (one_fits (size_of n) (list_map size_of ns) area fits, each_fits ns area (rest_fits (size_of n) (list_map size_of ns) area fits))

@@ -13,6 +13,8 @@ mod regaining;
 mod rooms;
 
 pub use fault::RegainFault;
-pub use laws::{charges_follow_leaders, notes_name_their_servers, puts_tell_of_files};
+pub use laws::{
+    charges_follow_leaders, notes_name_their_servers, puts_tell_of_files, ready_parts_fit_the_log,
+};
 pub use part::RegainedPart;
 pub use regaining::{Regained, regain};
