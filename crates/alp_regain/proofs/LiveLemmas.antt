@@ -1,21 +1,29 @@
 -- one ready part after the other becomes live
-use Rattle.std.specs.Prelude.{cond, Bool, true, false, ◌&&◌, ◌||◌, Option, None, Some, unwrap_or, nat_le, IsTrue}
+use Rattle.std.specs.Prelude.{All, cond, Bool, true, false, ◌&&◌, ◌||◌, Option, None, Some, unwrap_or, nat_le, IsTrue, map as list_map}
 use Rattle.std.specs.List.{list_all, list_any, AllByRecursion}
 use Rattle.std.specs.FinMap as map
 use Rattle.std.specs.FinMap.{get-empty, get-insert}
 use Rattle.std.specs.Ordering.{eq_by_cmp, is_eq}
 use Rattle.std.specs.Cmp.{eq_by_cmp_equiv, tied_itself}
 use Rattle.std.proofs.Common.{◌≡◌, ℕ, ◌≤◌, List, [], ◌∷◌, ◌++◌, append_assoc, append-nil, length, refl, sym, ◌∙◌, ap, subst, arith}
+use Rattle.std.proofs.lemmas.List.Elements.{recursion_from_All}
 use Rattle.std.proofs.lemmas.Map.Views.{tells_apart}
 use Rattle.std.proofs.lemmas.List.Folds.{list_any-append}
 use Rattle.alp_base.specs.Orders.{trans_cmp, resource_cmp, transactions_total, exact_transactions}
+use Rattle.alp_base.specs.declared.cell.Cell.{Cell}
+use Rattle.alp_base.specs.declared.change.Change.{Change}
+use Rattle.alp_base.specs.declared.ids.FileId.{FileId}
 use Rattle.alp_base.specs.declared.ids.TransId.{TransId}
+use Rattle.alp_base.specs.declared.key.Key.{Key}
 use Rattle.alp_base.specs.declared.key.Resource.{Resource}
 use Rattle.alp_modes.specs.declared.Mode.{Mode}
 use Rattle.alp_files.specs.Act.{no_opens}
 use Rattle.alp_files.specs.Cells.{Cells}
 use Rattle.alp_files.specs.Locks.{Need}
-use Rattle.alp_files.specs.Edits.{Edit}
+use Rattle.alp_files.specs.Apart.{IsSized}
+use Rattle.alp_files.specs.Changes.{edits_of}
+use Rattle.alp_files.specs.Edits.{Edit, Drop, Cut}
+use Rattle.alp_files.specs.Undo.{puts_of}
 use Rattle.alp_files.specs.Holdings.{Holding, agree_held, join_held, held_by, DoAgree}
 use Rattle.alp_files.proofs.HoldingLemmas.{agree-turned}
 use Rattle.alp_files.specs.Needs.{Intents, intents_of, changed_by}
@@ -33,7 +41,7 @@ use Rattle.alp_journal.specs.Opening.{ReadyNote}
 use Rattle.alp_regain.specs.Named.{is_beside_intention, is_covered}
 use Rattle.alp_regain.specs.Lives.{is_plain, IsSoFar}
 use Rattle.alp_regain.specs.Together.{IsPartNote, AreTwo, AreApart, AreGoodLocks}
-use Rattle.alp_regain.specs.Regained.{IsPartOf, ArePartsOf, has_note_of, HoldsNoted, AreLocksOf}
+use Rattle.alp_regain.specs.Regained.{PutsAreSized, IsPartOf, ArePartsOf, has_note_of, HoldsNoted, AreLocksOf}
 use Rattle.alp_regain.specs.declared.part.RegainedPart.{RegainedPart}
 use Rattle.alp_regain.specs.declared.parts.Lives.{Lives}
 use Rattle.alp_regain.proofs.ListLemmas.{both, at_middle, pushed}
@@ -184,6 +192,23 @@ module _ (t : Table) (done : List ReadyNote) (n : ReadyNote) (locks : AreLocksOf
 
 -- ---- one part with its note
 
+puts_sized : (puts : List (Key × Cell)) → AllByRecursion (λ (e : Key × Cell). IsSized e.1) puts → PutsAreSized (puts_of puts)
+puts_sized [] all = tt
+puts_sized (p ∷ puts) all = (all.0, puts_sized puts all.1)
+
+cuts_sized : (cuts : List (FileId × ℕ)) (es : List Edit) → PutsAreSized es → PutsAreSized (list_map (λ (x : FileId × ℕ). Cut x.0 x.1) cuts ++ es)
+cuts_sized [] es all = all
+cuts_sized (x ∷ cuts) es all = cuts_sized cuts es all
+
+drops_sized : (drops : List FileId) (es : List Edit) → PutsAreSized es → PutsAreSized (list_map Drop drops ++ es)
+drops_sized [] es all = all
+drops_sized (x ∷ drops) es all = drops_sized drops es all
+
+pub change_sized : (c : Change) → All (λ (e : Key × Cell). IsSized e.1) c.puts → PutsAreSized (edits_of c)
+change_sized c all =
+    drops_sized c.drops (list_map (λ (x : FileId × ℕ). Cut x.0 x.1) c.cuts ++ puts_of c.puts)
+    (cuts_sized c.cuts (puts_of c.puts) (puts_sized c.puts (recursion_from_All (λ (e : Key × Cell). IsSized e.1) c.puts all)))
+
 le_is : (a b : ℕ) → nat_le a b ≡ true → a ≤ b
 le_is a b h = grind arith
 
@@ -208,8 +233,8 @@ note_of server epoch n p plain good part same =
 
 pub part_noted : (tells : Bool) (m : Cells) (server epoch : ℕ) (p : RegainedPart) (n : ReadyNote) → p.join ≡ n.join → p.trans ≡ n.trans → p.ts ≡ n.ts → p.client ≡ n.client
     → p.part.intents ≡ intents_of n.edits → own_of p.part ≡ no_opens → IsPart p.part → (IsTrue tells → AreCountsOf m n.edits p.part.counts) → p.locks ≡ length (with_resources n.locks [])
-    → is_plain server epoch n ≡ true → AreGoodLocks n.locks n.edits → IsPartOf tells m server epoch p n
-part_noted tells m server epoch p n join trans ts client intents own part counts locks plain good = record {
+    → is_plain server epoch n ≡ true → AreGoodLocks n.locks n.edits → PutsAreSized n.edits → IsPartOf tells m server epoch p n
+part_noted tells m server epoch p n join trans ts client intents own part counts locks plain good sized = record {
   join = join;
   trans = trans;
   ts = ts;
@@ -222,6 +247,7 @@ part_noted tells m server epoch p n join trans ts client intents own part counts
   note = note_of server epoch n p.part plain good part intents;
   within = are_within (held_by n.locks) n.edits good.covered;
   intended = are_intended n.locks good.intended;
+  sized = sized;
 }
 
 -- ---- all notes one after the other

@@ -10,8 +10,9 @@ use Rattle.alp_base.specs.declared.key.Resource.{Resource}
 use Rattle.alp_coord.specs.Coordinators.{noted}
 use Rattle.alp_fields.specs.ClockNote.{clock_kept}
 use Rattle.alp_files.specs.Act.{no_opens}
-use Rattle.alp_files.specs.Apart.{IsWithin}
+use Rattle.alp_files.specs.Apart.{IsSized, IsWithin}
 use Rattle.alp_files.specs.Cells.{Cells}
+use Rattle.alp_files.specs.Edits.{Edit, Drop, Cut, Put}
 use Rattle.alp_files.specs.Holdings.{held_by, IsIntended}
 use Rattle.alp_files.specs.Locks.{Writes}
 use Rattle.alp_files.specs.Needs.{intents_of}
@@ -27,6 +28,13 @@ use Rattle.alp_regain.specs.declared.part.RegainedPart.{RegainedPart}
 use Rattle.alp_regain.specs.declared.regaining.Regained.{Regained}
 
 -- ---- parts
+
+-- the size in each leader that is put is a number of pages
+abbrev pub PutsAreSized : List Edit → Type 0
+PutsAreSized [] = Unit {0}
+PutsAreSized (Drop f ∷ es) = PutsAreSized es
+PutsAreSized (Cut f n ∷ es) = PutsAreSized es
+PutsAreSized (Put k c ∷ es) = IsSized c × PutsAreSized es
 
 -- The part of the note is live again: with its join, its client and the time of its vote, with what it intends and nothing open,
 -- counted as far as the vault tells. It has as many resources locked as it counts. Under its locks it may write what it changes, and
@@ -44,6 +52,7 @@ pub record IsPartOf (tells : Bool) (m : Cells) (server epoch : ℕ) (p : Regaine
   pub note : IsPartNote server epoch n
   pub within : IsWithin (Writes (held_by n.locks)) n.edits
   pub intended : IsIntended (held_by n.locks)
+  pub sized : PutsAreSized n.edits
 
 -- each part is that of its note, in the order of the notes
 abbrev pub ArePartsOf : Bool → Cells → (server epoch : ℕ) → List RegainedPart → List ReadyNote → Type 0

@@ -11,6 +11,7 @@ mod part;
 mod parts;
 mod regaining;
 mod rooms;
+mod sizes;
 
 pub use fault::RegainFault;
 pub use laws::{

@@ -25,6 +25,7 @@ ghost use Rattle.alp_regain.specs.declared.fault.RegainFault.TheVariants.{BadNot
 use crate::changes::part_of;
 use crate::ids::{are_own_locks, is_drawn_by, is_own_change};
 use crate::locks::{are_intended, have_modes, is_change_covered};
+use crate::sizes::size_puts;
 use crate::{RegainFault, RegainedPart};
 use alp_base::{JoinNo, Resource, TransId};
 use alp_fields::ReadyPart;
@@ -160,6 +161,7 @@ impl Lives {
         if has_part(self.parts.as_slice(), kept.trans) {
             return Err(RegainFault::BadNote);
         }
+        size_puts(kept.change.puts.as_slice());
         let locks = locks_of(&mut self.locks, alloc, kept)?;
         let part = part_of(alloc, vault, &kept.change)?;
         self.parts.push(RegainedPart {

@@ -1,8 +1,11 @@
-use Rattle.std.specs.Prelude.{Bool, true, false, Err, Result}
+use Rattle.std.specs.Prelude.{All, Bool, true, false, Err, Result}
 use Rattle.std.specs.List.{list_any}
 use Rattle.std.specs.Ordering.{eq_by_cmp}
 use Rattle.std.proofs.Common.{◌≡◌, ℕ, List, [], ◌∷◌, ◌++◌, refl, ap, sym, ◌∙◌, subst, rules}
 use Rattle.alp_base.specs.Orders.{trans_cmp}
+use Rattle.alp_base.specs.declared.cell.Cell.{Cell}
+use Rattle.alp_base.specs.declared.key.Key.{Key}
+use Rattle.alp_files.specs.Apart.{IsSized}
 use Rattle.alp_files.specs.Cells.{Cells}
 use Rattle.alp_calls.specs.Looks.{Looks}
 use Rattle.alp_locks.specs.Sound.{IsSound}
@@ -14,7 +17,7 @@ use Rattle.alp_regain.specs.Regained.{has_note_of, IsPartOf, ArePartsOf, AreLock
 use Rattle.alp_regain.specs.declared.part.RegainedPart.{RegainedPart}
 use Rattle.alp_regain.specs.declared.fault.RegainFault.{RegainFault}
 use Rattle.alp_regain.specs.declared.fault.RegainFault.TheVariants.{BadNote}
-use Rattle.alp_regain.proofs.LiveLemmas.{same_has, not_twice, agree_known, agree_each, parts_pushed, part_noted, locks_pushed, apart_pushed}
+use Rattle.alp_regain.proofs.LiveLemmas.{same_has, not_twice, agree_known, agree_each, parts_pushed, part_noted, change_sized, locks_pushed, apart_pushed}
 use Rattle.alp_regain.proofs.QuietLemmas.{quiet_looks}
 use Rattle.alp_regain.proofs.parts.Lives.take_part.Goals as goal
 
@@ -66,7 +69,8 @@ returns-clause-taken g c = λ done live.
     ∙ sym (c.has_part.ensures ∙ ap (λ (ps : List RegainedPart). list_any (λ (p : RegainedPart). eq_by_cmp trans_cmp n.trans p.trans) ps) c.as_slice.ensures.value) ∙ c.if-has_part.false in
     let is : IsPartOf tells held server epoch part n =
     part_noted tells held server epoch part n refl refl refl refl c.in_ok-part.ensures.intents c.in_ok-part.ensures.own c.in_ok-part.ensures.part c.in_ok-part.ensures.counts
-    c.in_ok-locks.ensures.count (sym c.is_plain_part.ensures ∙ c.if-not-is_plain_part.false) c.in_ok-locks.ensures.good in
+    c.in_ok-locks.ensures.count (sym c.is_plain_part.ensures ∙ c.if-not-is_plain_part.false) c.in_ok-locks.ensures.good
+    (change_sized c.args.kept.now.change (subst (λ (ps : List (Key × Cell)). All (λ (e : Key × Cell). IsSized e.1) ps) c.as_slice-2.ensures c.size_puts.ensures)) in
     record {
       parts =
           subst (λ (ps : List RegainedPart). ArePartsOf tells held server epoch ps (done ++ n ∷ [])) (sym c.in_ok-push.ensures.items)
