@@ -1,6 +1,5 @@
 //! What a ready part changes, as its note says it.
-ghost use Rattle.std.specs.Prelude.{◌≡◌, ◌≤◌, true, false, IfOk, OnOk, Err, map as list_map};
-ghost use Rattle.std.specs.Prelude.{IsTrue};
+ghost use Rattle.std.specs.Prelude.{◌≡◌, ◌≤◌, true, false, IfOk, OnOk, IsTrue, Err, map as list_map};
 ghost use Rattle.alp_files.specs.Act.{no_opens};
 ghost use Rattle.alp_files.specs.Changes.{edits_of};
 ghost use Rattle.alp_files.specs.Edits.{Drop as Dropped, Cut};

@@ -2,10 +2,8 @@
 ghost use Rattle.std.specs.Prelude.{◌≡◌, ◌≤◌, ◌+◌, true, false, IsTrue, IfOk, IfErr, Err, length, map as list_map};
 ghost use Rattle.std.specs.List.{list_all};
 ghost use Rattle.alp_fields.specs.ClockNote.{clock_kept};
-ghost use Rattle.alp_vault.specs.Volumes.{AreServerNotes};
 ghost use Rattle.alp_calls.specs.Looks.{Looks};
-ghost use Rattle.alp_coord.specs.Coordinators.{noted};
-ghost use Rattle.alp_journal.specs.Opening.{ready_kept, decisions_kept};
+ghost use Rattle.alp_journal.specs.Opening.{ready_kept};
 ghost use Rattle.alp_regain.specs.Named.{is_drawn_by as is_drawn_by_said};
 ghost use Rattle.alp_regain.specs.Notes.{part_note};
 ghost use Rattle.alp_regain.specs.Together.{AreNotesTogether, AreOwnFiles, AreTogether, HaveRoomTogether, FitTogether, log_sum, size_of};

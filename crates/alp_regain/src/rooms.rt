@@ -1,8 +1,5 @@
 //! Room for ready parts: on the volume, and in the log.
-ghost use Rattle.std.specs.Prelude.{◌≡◌, ◌≤◌, ◌+◌, ◌*◌, ◌^◌, ℕ, true, false, nat_le, sum_by, List, IsTrue, IfOk, length, map as list_map};
-ghost use Rattle.std.specs.List.{AllByRecursion};
-ghost use Rattle.alp_files.specs.Counts.{used_of, file_count_of, owner_count_of};
-ghost use Rattle.alp_calls.specs.Parts.{IsPart};
+ghost use Rattle.std.specs.Prelude.{◌≡◌, ◌≤◌, ◌+◌, ◌^◌, true, false, nat_le, sum_by, List, IsTrue, IfOk, length, map as list_map};
 ghost use Rattle.alp_regain.specs.Together.{log_sum};
 ghost use Rattle.alp_regain.specs.Rooms.{part_size, HaveRoomFor, places_in, files_in, owners_in};
 
