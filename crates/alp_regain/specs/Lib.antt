@@ -5,5 +5,6 @@ pub mod Notes
 pub mod Owners
 pub mod Regained
 pub mod Rooms
+pub mod Seen
 pub mod Together
 pub mod Touched

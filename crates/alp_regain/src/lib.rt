@@ -11,6 +11,7 @@ mod part;
 mod parts;
 mod regaining;
 mod rooms;
+mod seen;
 mod sizes;
 
 pub use fault::RegainFault;
