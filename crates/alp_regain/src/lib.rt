@@ -13,6 +13,7 @@ mod regaining;
 mod rooms;
 mod seen;
 mod sizes;
+mod touched;
 
 pub use fault::RegainFault;
 pub use laws::{

@@ -1,0 +1,81 @@
+//! Whether files stay well formed with what a part puts.
+ghost use Rattle.std.specs.Prelude.{◌≡◌, true, false, IfOk, IsTrue, Ok, is_none, List};
+ghost use Rattle.std.specs.List.{AllByRecursion};
+ghost use Rattle.std.specs.FinMap as map;
+ghost use Rattle.alp_base.specs.declared.key.Key.TheVariants as key;
+ghost use Rattle.alp_files.specs.Files.{AreFiles};
+ghost use Rattle.alp_files.specs.Needs.{through};
+ghost use Rattle.alp_calls.specs.Looks.{Looks};
+ghost use Rattle.alp_calls.specs.Parts.{AllFit};
+ghost use Rattle.alp_regain.specs.Faults.{fault_from};
+ghost use Rattle.alp_regain.specs.Seen.{size_at, limit_by, limit_of, NoneBetween, Passes};
+ghost use Rattle.alp_regain.specs.Touched.{EndsAt, IsGoodPut};
+
+use crate::RegainFault;
+use crate::seen::{fetched, owner_stands, page_stands, seen};
+use alp_base::{Cell, FileId, Key, Props};
+use alp_trans::Intents;
+use alp_vault::Vault;
+
+fn is_unseen<V: Vault>(
+    vault: &mut V,
+    intents: &Intents,
+    file: FileId,
+    number: u32,
+) -> Result<bool, RegainFault>
+    requires serving { IsTrue (V.serves vault.old) }
+    ensures none { IsTrue (V.tells vault.old) → IfOk result (λ b. b ≡ is_none (through intents.now (map.get (V.held vault.old).cells) (key.PageOf file number))) }
+    ensures looked { Looks V.Vault vault.old vault.new (fault_from result) }
+{
+    Ok(seen(vault, intents, &Key::PageOf(file, number))?.is_none())
+}
+
+// Whether none of the file's pages from the first number on, and below the limit, is seen.
+fn ends_between<V: Vault>(
+    vault: &mut V,
+    intents: &Intents,
+    file: FileId,
+    first: u32,
+    limit: u32,
+) -> Result<bool, RegainFault>
+    requires serving { IsTrue (V.serves vault.old) }
+    ensures yes { IsTrue (V.tells vault.old) → result ≡ Ok true → NoneBetween (through intents.now (map.get (V.held vault.old).cells)) file first limit }
+    ensures no { IsTrue (V.tells vault.old) → result ≡ Ok false → EndsAt (through intents.now (map.get (V.held vault.old).cells)) file first → ⊥ }
+    ensures looked { Looks V.Vault vault.old vault.new (fault_from result) }
+{
+    for number in first..limit {
+        if !is_unseen(vault, intents, file, number)? {
+            return Ok(false);
+        }
+    }
+    Ok(true)
+}
+
+fn size_in(cell: Option<Cell>) -> Option<u32>
+    ensures { result ≡ size_at cell }
+{
+    match cell {
+        Some(Cell::Leader(props)) => Some(props.size),
+        _ => None,
+    }
+}
+
+fn limit(size: Option<u32>, gone: Option<u32>) -> u32
+    ensures { result ≡ limit_by size gone }
+{
+    match (size, gone) {
+        (Some(size), Some(first)) => size.min(first),
+        (Some(size), None) => size,
+        (None, _) => 0,
+    }
+}
+
+// The pages of the file that lie below and stay have numbers below this.
+fn limit_for<V: Vault>(vault: &mut V, intents: &Intents, file: FileId) -> Result<u32, RegainFault>
+    requires serving { IsTrue (V.serves vault.old) }
+    ensures limit { IsTrue (V.tells vault.old) → IfOk result (λ n. n ≡ limit_of intents.now (V.held vault.old).cells file) }
+    ensures looked { Looks V.Vault vault.old vault.new (fault_from result) }
+{
+    let size = size_in(fetched(vault, &Key::Leader(file))?);
+    Ok(limit(size, intents.first_gone(&file)))
+}
