@@ -32,7 +32,7 @@ NoneBetween v f first limit = (n : ℕ) → first ≤ n → n < limit → v (Pag
 
 -- the pages of a file that lie below and stay have numbers below this
 abbrev pub limit_by : Option ℕ → Option ℕ → ℕ
-limit_by None gone = 0
+limit_by None first = 0
 limit_by (Some size) None = size
 limit_by (Some size) (Some first) = min size first
 
@@ -42,5 +42,5 @@ limit_of i m f = limit_by (size_at (map.get m (Leader f))) (first_gone i f)
 -- what is looked at for a cell that is put
 abbrev pub Passes : Intents → Cells → Key → Cell → Type 0
 Passes i m (Leader f) (cell.Leader p) = (is_owner (through i (map.get m) (OwnerOf p.owner)) ≡ true) × NoneBetween (through i (map.get m)) f p.size (limit_of i m f)
-Passes i m (PageOf f n) c = is_below n (size_at (through i (map.get m) (Leader f))) ≡ true
+Passes i m (PageOf f n) (cell.Page bytes) = is_below n (size_at (through i (map.get m) (Leader f))) ≡ true
 Passes i m k c = Unit {0}

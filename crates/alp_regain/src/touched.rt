@@ -1,14 +1,15 @@
 //! Whether files stay well formed with what a part puts.
-ghost use Rattle.std.specs.Prelude.{◌≡◌, true, false, IfOk, IsTrue, Ok, is_none, List};
+ghost use Rattle.std.specs.Prelude.{◌≡◌, true, false, IfOk, IsTrue, Ok, is_none, ℕ, List};
 ghost use Rattle.std.specs.List.{AllByRecursion};
 ghost use Rattle.std.specs.FinMap as map;
+ghost use Rattle.alp_base.specs.declared.cell.Cell.TheVariants as cell;
 ghost use Rattle.alp_base.specs.declared.key.Key.TheVariants as key;
 ghost use Rattle.alp_files.specs.Files.{AreFiles};
 ghost use Rattle.alp_files.specs.Needs.{through};
 ghost use Rattle.alp_calls.specs.Looks.{Looks};
 ghost use Rattle.alp_calls.specs.Parts.{AllFit};
 ghost use Rattle.alp_regain.specs.Faults.{fault_from};
-ghost use Rattle.alp_regain.specs.Seen.{size_at, limit_by, limit_of, NoneBetween, Passes};
+ghost use Rattle.alp_regain.specs.Seen.{size_at, is_below, limit_by, limit_of, NoneBetween, Passes};
 ghost use Rattle.alp_regain.specs.Touched.{EndsAt, IsGoodPut};
 
 use crate::RegainFault;
@@ -78,4 +79,57 @@ fn limit_for<V: Vault>(vault: &mut V, intents: &Intents, file: FileId) -> Result
 {
     let size = size_in(fetched(vault, &Key::Leader(file))?);
     Ok(limit(size, intents.first_gone(&file)))
+}
+
+// Whether the leader is good where it is put.
+fn leader_passes<V: Vault>(
+    vault: &mut V,
+    intents: &Intents,
+    file: FileId,
+    props: &Props,
+) -> Result<bool, RegainFault>
+    requires serving { IsTrue (V.serves vault.old) }
+    ensures yes { IsTrue (V.tells vault.old) → result ≡ Ok true → Passes intents.now (V.held vault.old).cells (key.Leader file) (cell.Leader props.now) }
+    ensures no { IsTrue (V.tells vault.old) → result ≡ Ok false → IsGoodPut (through intents.now (map.get (V.held vault.old).cells)) (key.Leader file) (cell.Leader props.now) → ⊥ }
+    ensures looked { Looks V.Vault vault.old vault.new (fault_from result) }
+{
+    if !owner_stands(vault, intents, props.owner)? {
+        return Ok(false);
+    }
+    let limit = limit_for(vault, intents, file)?;
+    ends_between(vault, intents, file, props.size, limit)
+}
+
+// Whether the page is.
+fn page_passes<V: Vault>(
+    vault: &mut V,
+    intents: &Intents,
+    file: FileId,
+    number: u32,
+) -> Result<bool, RegainFault>
+    requires serving { IsTrue (V.serves vault.old) }
+    ensures yes { IsTrue (V.tells vault.old) → result ≡ Ok true → is_below number (size_at (through intents.now (map.get (V.held vault.old).cells) (key.Leader file))) ≡ true }
+    ensures no { IsTrue (V.tells vault.old) → result ≡ Ok false → (bytes : List ℕ) → IsGoodPut (through intents.now (map.get (V.held vault.old).cells)) (key.PageOf file number) (cell.Page bytes) → ⊥ }
+    ensures looked { Looks V.Vault vault.old vault.new (fault_from result) }
+{
+    page_stands(vault, intents, file, number)
+}
+
+// Whether the cell is.
+fn passes<V: Vault>(
+    vault: &mut V,
+    intents: &Intents,
+    at: &Key,
+    put: &Cell,
+) -> Result<bool, RegainFault>
+    requires serving { IsTrue (V.serves vault.old) }
+    ensures yes { IsTrue (V.tells vault.old) → result ≡ Ok true → Passes intents.now (V.held vault.old).cells at.now put.now }
+    ensures no { IsTrue (V.tells vault.old) → result ≡ Ok false → IsGoodPut (through intents.now (map.get (V.held vault.old).cells)) at.now put.now → ⊥ }
+    ensures looked { Looks V.Vault vault.old vault.new (fault_from result) }
+{
+    match (at, put) {
+        (Key::Leader(file), Cell::Leader(props)) => leader_passes(vault, intents, *file, props),
+        (Key::PageOf(file, number), Cell::Page(_)) => page_passes(vault, intents, *file, *number),
+        _ => Ok(true),
+    }
 }
