@@ -1,3 +1,4 @@
+pub mod Balance
 pub mod Faults
 pub mod Lives
 pub mod Named
@@ -6,5 +7,6 @@ pub mod Owners
 pub mod Regained
 pub mod Rooms
 pub mod Seen
+pub mod Sums
 pub mod Together
 pub mod Touched

@@ -55,14 +55,26 @@ fn copies_of(alloc: Global, puts: &[(Key, Cell)]) -> Result<Vec<(Key, Cell)>, Ou
     Ok(copies)
 }
 
+/// The change is intended too.
+pub(super) fn add_change(
+    intents: &mut Intents,
+    alloc: Global,
+    change: &Change,
+) -> Result<(), OutOfMemory>
+    ensures { OnOk result (intents.new ≡ intents_from intents.old (edits_of change.now)) }
+{
+    drop_files(intents, alloc, change.drops.as_slice())?;
+    cut_files(intents, alloc, change.cuts.as_slice())?;
+    let puts = copies_of(alloc, change.puts.as_slice())?;
+    intents.change(alloc, None, puts)?;
+    Ok(())
+}
+
 fn intents_of(alloc: Global, change: &Change) -> Result<Intents, OutOfMemory>
     ensures { IfOk result (λ i. i ≡ intents_said (edits_of change.now)) }
 {
     let mut intents = Intents::new(alloc);
-    drop_files(&mut intents, alloc, change.drops.as_slice())?;
-    cut_files(&mut intents, alloc, change.cuts.as_slice())?;
-    let puts = copies_of(alloc, change.puts.as_slice())?;
-    intents.change(alloc, None, puts)?;
+    add_change(&mut intents, alloc, change)?;
     Ok(intents)
 }
 

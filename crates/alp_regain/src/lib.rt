@@ -1,7 +1,9 @@
 //! What the notes of an earlier run leave a server: parts that are ready, with their locks and their intents, and decisions.
 #![tactic(auto)]
 
+mod balance;
 mod changes;
+mod charges;
 mod fault;
 mod ids;
 mod laws;
@@ -13,6 +15,7 @@ mod regaining;
 mod rooms;
 mod seen;
 mod sizes;
+mod sound;
 mod touched;
 
 pub use fault::RegainFault;

@@ -6,7 +6,7 @@ ghost use Rattle.alp_calls.specs.Looks.{Looks};
 ghost use Rattle.alp_journal.specs.Opening.{ready_kept};
 ghost use Rattle.alp_regain.specs.Named.{is_drawn_by as is_drawn_by_said};
 ghost use Rattle.alp_regain.specs.Notes.{part_note};
-ghost use Rattle.alp_regain.specs.Together.{AreNotesTogether, AreOwnFiles, AreTogether, HaveRoomTogether, FitTogether, log_sum, size_of};
+ghost use Rattle.alp_regain.specs.Together.{AreNotesTogether, AreOwnFiles, AreTogether, AreSoundTogether, HaveRoomTogether, FitTogether, log_sum, size_of};
 ghost use Rattle.alp_regain.specs.Lives.{IsSoFar};
 ghost use Rattle.alp_regain.specs.Faults.{fault_from, IsOfNoDevice};
 ghost use Rattle.alp_regain.specs.Regained.{IsRegained};
@@ -16,6 +16,7 @@ use crate::ids::is_drawn_by;
 use crate::notes::{Notes, notes_of};
 use crate::parts::{Lives, lives_of};
 use crate::rooms::{log_has_room, volume_has_room};
+use crate::sound::stay_together;
 use crate::{RegainFault, RegainedPart};
 use alp_coord::Decision;
 use alp_fields::{clock_note_name, read_clock};
@@ -103,10 +104,32 @@ fn lives_within<V: Vault>(
     Ok(lives)
 }
 
-/// What the notes of an earlier run leave the server, one of so many, where they are in their format and go together with one another,
-/// and there is room for them beside the files, as far as the vault tells. The vault holds what it held, whatever comes of it.
-///
-/// That the files are well formed and charged with what the parts change is not looked at yet.
+// The parts, where there is room for them and the files stay well formed and charged with what they change.
+fn lives_beside<V: Vault>(
+    alloc: Global,
+    vault: &mut V,
+    notes: &Notes,
+    of: (u8, u32),
+) -> Result<Lives, RegainFault>
+    requires serving { IsTrue (V.serves vault.old) }
+    requires few { length notes.now.parts.items ≤ 64 }
+    ensures live { IfOk result (λ l. IsSoFar (V.tells vault.old) (V.held vault.old).cells of.0 of.1 l (list_map part_note notes.now.parts.items)) }
+    ensures log { IfOk result (λ _. log_sum (list_map size_of (list_map part_note notes.now.parts.items)) ≤ (V.volume vault.old).area) }
+    ensures room { IsTrue (V.tells vault.old) → IfOk result (λ _. HaveRoomTogether (V.volume vault.old) (V.held vault.old).cells (list_map part_note notes.now.parts.items)) }
+    ensures sound { IsTrue (V.tells vault.old) → IfOk result (λ _. AreSoundTogether (V.held vault.old).cells (list_map part_note notes.now.parts.items)) }
+    ensures bad { IsTrue (V.tells vault.old) → result ≡ Err BadNote → FitTogether (V.volume vault.old) (V.held vault.old).cells of.0 of.1 (list_map part_note notes.now.parts.items) → AreSoundTogether (V.held vault.old).cells (list_map part_note notes.now.parts.items) → ⊥ }
+    ensures looked { Looks V.Vault vault.old vault.new (fault_from result) }
+{
+    let lives = lives_within(alloc, vault, notes, of)?;
+    if !stay_together(alloc, vault, notes.parts.as_slice(), lives.parts.as_slice())? {
+        return Err(RegainFault::BadNote);
+    }
+    Ok(lives)
+}
+
+/// What the notes of an earlier run leave the server, one of so many, where they are in their format and go together with one another
+/// and, as far as the vault tells, with the files: there is room for them beside these, which stay well formed and charged with what
+/// each part changes and with what all of them change. The vault holds what it held, whatever comes of it.
 pub fn regain<V: Vault>(
     alloc: Global,
     vault: &mut V,
@@ -117,7 +140,7 @@ pub fn regain<V: Vault>(
     requires own { IsTrue (V.tells vault.old) → AreOwnFiles server (clock_kept (V.held vault.old).notes).epoch (V.held vault.old).cells }
     ensures regained { IfOk result (λ r. IsRegained (V.tells vault.old) (V.held vault.old).cells server r (V.held vault.old).notes) }
     ensures notes { IfOk result (λ _. AreNotesTogether server servers (V.volume vault.old).area (V.held vault.old).notes) }
-    ensures room { IsTrue (V.tells vault.old) → IfOk result (λ _. HaveRoomTogether (V.volume vault.old) (V.held vault.old).cells (ready_kept (V.held vault.old).notes)) }
+    ensures together { IsTrue (V.tells vault.old) → IfOk result (λ _. AreTogether server servers (V.volume vault.old) (V.held vault.old).cells (V.held vault.old).notes) }
     ensures bad { IsTrue (V.tells vault.old) → result ≡ Err BadNote → AreTogether server servers (V.volume vault.old) (V.held vault.old).cells (V.held vault.old).notes → ⊥ }
     ensures looked { Looks V.Vault vault.old vault.new (fault_from result) }
 {
@@ -126,7 +149,7 @@ pub fn regain<V: Vault>(
     if !are_few(&notes, epoch) {
         return Err(RegainFault::BadNote);
     }
-    let lives = lives_within(alloc, vault, &notes, (server, epoch))?;
+    let lives = lives_beside(alloc, vault, &notes, (server, epoch))?;
     let Notes { decisions, .. } = notes;
     let Lives { parts, locks } = lives;
     Ok(Regained {

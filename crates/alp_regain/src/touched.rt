@@ -1,13 +1,10 @@
 //! Whether files stay well formed with what a part puts.
-ghost use Rattle.std.specs.Prelude.{◌≡◌, true, false, IfOk, IsTrue, Ok, is_none, ℕ, List};
-ghost use Rattle.std.specs.List.{AllByRecursion};
+ghost use Rattle.std.specs.Prelude.{◌≡◌, true, false, IfOk, IsTrue, Ok, is_none, ℕ, List, All};
 ghost use Rattle.std.specs.FinMap as map;
 ghost use Rattle.alp_base.specs.declared.cell.Cell.TheVariants as cell;
 ghost use Rattle.alp_base.specs.declared.key.Key.TheVariants as key;
-ghost use Rattle.alp_files.specs.Files.{AreFiles};
 ghost use Rattle.alp_files.specs.Needs.{through};
 ghost use Rattle.alp_calls.specs.Looks.{Looks};
-ghost use Rattle.alp_calls.specs.Parts.{AllFit};
 ghost use Rattle.alp_regain.specs.Faults.{fault_from};
 ghost use Rattle.alp_regain.specs.Seen.{size_at, is_below, limit_by, limit_of, NoneBetween, Passes};
 ghost use Rattle.alp_regain.specs.Touched.{EndsAt, IsGoodPut};
@@ -132,4 +129,23 @@ fn passes<V: Vault>(
         (Key::PageOf(file, number), Cell::Page(_)) => page_passes(vault, intents, *file, *number),
         _ => Ok(true),
     }
+}
+
+/// Whether all of these cells are.
+pub(super) fn all_pass<V: Vault>(
+    vault: &mut V,
+    intents: &Intents,
+    puts: &[(Key, Cell)],
+) -> Result<bool, RegainFault>
+    requires serving { IsTrue (V.serves vault.old) }
+    ensures yes { IsTrue (V.tells vault.old) → result ≡ Ok true → All (λ e. Passes intents.now (V.held vault.old).cells e.0 e.1) puts.now }
+    ensures no { IsTrue (V.tells vault.old) → result ≡ Ok false → All (λ e. IsGoodPut (through intents.now (map.get (V.held vault.old).cells)) e.0 e.1) puts.now → ⊥ }
+    ensures looked { Looks V.Vault vault.old vault.new (fault_from result) }
+{
+    for put in puts {
+        if !passes(vault, intents, &put.0, &put.1)? {
+            return Ok(false);
+        }
+    }
+    Ok(true)
 }

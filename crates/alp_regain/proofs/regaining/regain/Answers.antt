@@ -1,8 +1,9 @@
-use Rattle.std.specs.Prelude.{Bool, true, map as list_map}
+use Rattle.std.specs.Prelude.{Bool, true, Err, map as list_map}
 use Rattle.std.specs.List.{list_all}
-use Rattle.std.proofs.Common.{◌≡◌, ℕ, ◌≤◌, List, length, ap, sym, ◌∙◌, subst, arith}
+use Rattle.std.proofs.Common.{◌≡◌, ℕ, ◌≤◌, List, length, ap, sym, ◌∙◌, subst, arith, rules}
 use Rattle.std.proofs.lemmas.List.{length-map}
 use Rattle.alp_base.specs.Notes.{Notes}
+use Rattle.alp_base.specs.declared.faults.Sizes.{Sizes}
 use Rattle.alp_fields.specs.ClockNote.{clock_kept}
 use Rattle.alp_files.specs.Cells.{Cells}
 use Rattle.alp_coord.specs.Coordinators.{noted}
@@ -11,7 +12,8 @@ use Rattle.alp_journal.specs.Opening.{ReadyNote, DecisionNote, ready_kept}
 use Rattle.alp_regain.specs.Named.{is_drawn_by}
 use Rattle.alp_regain.specs.Notes.{part_note}
 use Rattle.alp_regain.specs.Lives.{IsSoFar}
-use Rattle.alp_regain.specs.Together.{size_of, log_sum}
+use Rattle.alp_regain.specs.Together.{size_of, log_sum, AreSoundTogether, HaveRoomTogether, FitTogether}
+use Rattle.alp_regain.specs.declared.fault.RegainFault.TheVariants.{BadNote}
 use Rattle.alp_regain.proofs.RoomLemmas.{each_note, decided_by}
 use Rattle.alp_regain.proofs.regaining.regain.Goals as goal
 
@@ -59,3 +61,27 @@ returns-clause-notes g c =
       log =
           subst (λ (ns : List ReadyNote). log_sum (list_map size_of ns) ≤ (g.V.Vault.volume c.args.vault.now).area) c.in_ok-notes.ensures.parts c.in_ok-lives.ensures.log;
     }
+
+pub returns-clause-together : goal.returns-clause-together
+returns-clause-together g c = λ told.
+    let held : Cells = (g.V.Vault.held c.args.vault.now).cells in
+    record {
+      notes_alone = returns-clause-notes g c;
+      own = c.requires.own told;
+      room =
+          subst (λ (ns : List ReadyNote). HaveRoomTogether (g.V.Vault.volume c.args.vault.now) held ns) c.in_ok-notes.ensures.parts (c.in_ok-lives.ensures.room told);
+      sound = subst (λ (ns : List ReadyNote). AreSoundTogether held ns) c.in_ok-notes.ensures.parts (c.in_ok-lives.ensures.sound told);
+    }
+
+pub returns-in_err-lives-clause-bad : goal.returns-in_err-lives-clause-bad
+returns-in_err-lives-clause-bad g c = λ told bad together.
+    let notes : Notes = (g.V.Vault.held c.args.vault.now).notes in
+    let held : Cells = (g.V.Vault.held c.args.vault.now).cells in
+    let volume : Sizes = g.V.Vault.volume c.args.vault.now in
+    let is : c.lives_beside.result ≡ Err BadNote = search rules in
+    let fit : FitTogether volume held c.args.server (clock_kept notes).epoch (ready_kept notes) =
+    record { parts = together.notes_alone.parts; apart = together.notes_alone.apart; log = together.notes_alone.log; room = together.room } in
+    c.lives_beside.ensures.bad told is
+    (subst (λ (ns : List ReadyNote). FitTogether volume held c.args.server c.in_ok-epoch.epoch ns) (sym c.in_ok-notes.ensures.parts)
+    (subst (λ (e : ℕ). FitTogether volume held c.args.server e (ready_kept notes)) (sym c.in_ok-epoch.ensures.epoch) fit))
+    (subst (λ (ns : List ReadyNote). AreSoundTogether held ns) (sym c.in_ok-notes.ensures.parts) together.sound)
