@@ -41,6 +41,7 @@ is_among [] k = false
 is_among (f ∷ fs) k = eq_by_cmp key_cmp k (Leader f) || is_among fs k
 
 among_both : (fs gs : List FileId) (k : Key) → is_among (fs ++ gs) k ≡ (is_among fs k || is_among gs k)
+unfolding is_among
 among_both [] gs k = refl
 among_both (f ∷ fs) gs k = ap (λ (b : Bool). eq_by_cmp key_cmp k (Leader f) || b) (among_both fs gs k) ∙ regroup (eq_by_cmp key_cmp k (Leader f)) (is_among fs k) (is_among gs k)
   where
@@ -65,6 +66,7 @@ module _ (m : Cells) where
       go (Some c) e t h = get-insert keys_total below (Leader f) c k ∙ ap (λ (b : Bool). cond b (Some c) (map.get below k)) h ∙ put c e t h
 
   leaders_at : (fs : List FileId) (below : Cells) (k : Key) → map.get (leaders_with m fs below) k ≡ option_or (cond (is_among fs k) (map.get m k) None) (map.get below k)
+  unfolding is_among
   leaders_at [] below k = refl
   leaders_at (f ∷ fs) below k =
       leaders_at fs (with_leader f (map.get m (Leader f)) below) k
@@ -80,20 +82,24 @@ module _ (m : Cells) where
 -- ---- those that are touched
 
 among_files : (g : FileId) (fs : List FileId) → is_among fs (Leader g) ≡ list_any (eq_by_cmp file_cmp g) fs
+unfolding is_among
 among_files g [] = refl
 among_files g (f ∷ fs) = ap (λ (b : Bool). eq_by_cmp file_cmp g f || b) (among_files g fs)
 
 among_put : (g : FileId) (es : List (Key × Cell)) → is_among (files_put es) (Leader g) ≡ list_any (eq_by_cmp key_cmp (Leader g)) (list_map (λ (e : Key × Cell). e.0) es)
+unfolding is_among
 among_put g [] = refl
 among_put g ((Leader f, c) ∷ es) = ap (λ (b : Bool). eq_by_cmp key_cmp (Leader g) (Leader f) || b) (among_put g es)
 among_put g ((PageOf f n, c) ∷ es) = among_put g es
 among_put g ((OwnerOf name, c) ∷ es) = among_put g es
 
 page_among : (g : FileId) (n : ℕ) (fs : List FileId) → is_among fs (PageOf g n) ≡ false
+unfolding is_among
 page_among g n [] = refl
 page_among g n (f ∷ fs) = page_among g n fs
 
 owner_among : (name : List ℕ) (fs : List FileId) → is_among fs (OwnerOf name) ≡ false
+unfolding is_among
 owner_among name [] = refl
 owner_among name (f ∷ fs) = owner_among name fs
 
@@ -129,14 +135,14 @@ with_view i m = λ j q. (get-with i m q ∙ ap (option_or (map.get i.puts q)) (g
 -- a test of all entries is one of what stands at each key
 at_found : (p : Key × Cell → Bool) (k : Key) (c : Cell) (es : List (Key × Cell)) → list_all p es ≡ true → find key_cmp k es ≡ Some c → p (k, c) ≡ true
 at_found p k c [] all here = cc
-at_found p k c (e ∷ es) all here = go (eq_by_cmp key_cmp k e.0) refl here
+at_found p k c (e ∷ es) all here = go (eq_by_cmp key_cmp k e.0) refl (at_found p k c es (both all).1) here
   where
     same : Some e.1 ≡ Some c → e.1 ≡ c
     same h = cc
 
-    go : (b : Bool) → eq_by_cmp key_cmp k e.0 ≡ b → cond b (Some e.1) (find key_cmp k es) ≡ Some c → p (k, c) ≡ true
-    go true t h = (λ j. p (same_key-true k e.0 t j, sym (same h) j)) ∙ (both all).0
-    go false t h = at_found p k c es (both all).1 h
+    go : (b : Bool) → eq_by_cmp key_cmp k e.0 ≡ b → (find key_cmp k es ≡ Some c → p (k, c) ≡ true) → cond b (Some e.1) (find key_cmp k es) ≡ Some c → p (k, c) ≡ true
+    go true t rest h = (λ j. p (same_key-true k e.0 t j, sym (same h) j)) ∙ (both all).0
+    go false t rest h = rest h
 
 pub at_entry : (p : Key × Cell → Bool) (m : Cells) (k : Key) (c : Cell) → list_all p (map.entries m) ≡ true → map.get m k ≡ Some c → p (k, c) ≡ true
 at_entry p m k c all here = at_found p k c (map.entries m) all (sym (get-entries m k) ∙ here)
@@ -160,7 +166,7 @@ module _ (i : Intents) (m : Cells) (lost put : List ℕ → ℕ) where
       go : (c : Cell) → sum_by (λ (x : Key × Cell). cost name x.1) (e ∷ es) ≡ cost name c + sum_by (λ (x : Key × Cell). cost name x.1) es → is_even_for i m lost put (owner_named c) ≡ true
           → (is_even i m lost put name ≡ true) ⊎ (sum_by (λ (x : Key × Cell). cost name x.1) es ≡ 0)
           → (is_even i m lost put name ≡ true) ⊎ (sum_by (λ (x : Key × Cell). cost name x.1) (e ∷ es) ≡ 0)
-      go c sum head (inl yes) = inl yes
+      go c sum head (inl even) = inl even
       go (cell.Page bytes) sum head (inr none) = inr (sum ∙ none)
       go (cell.Owner o) sum head (inr none) = inr (sum ∙ none)
       go (cell.Leader p) sum head (inr none) = by (same_name p.owner name) refl

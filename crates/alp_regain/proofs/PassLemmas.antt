@@ -35,14 +35,14 @@ use Rattle.alp_regain.proofs.TouchedLemmas.{kind_of_fit}
 
 at_found : (P : Key → Cell → Type 0) (k : Key) (c : Cell) (es : List (Key × Cell)) → AllByRecursion (λ (e : Key × Cell). P e.0 e.1) es → find key_cmp k es ≡ Some c → P k c
 at_found P k c [] all here = cc
-at_found P k c (e ∷ es) all here = go (eq_by_cmp key_cmp k e.0) refl here
+at_found P k c (e ∷ es) all here = go (eq_by_cmp key_cmp k e.0) refl (at_found P k c es all.1) here
   where
     same : Some e.1 ≡ Some c → e.1 ≡ c
     same h = cc
 
-    go : (b : Bool) → eq_by_cmp key_cmp k e.0 ≡ b → cond b (Some e.1) (find key_cmp k es) ≡ Some c → P k c
-    go true t h = subst (λ (q : Key). P q c) (sym (same_key-true k e.0 t)) (subst (λ (d : Cell). P e.0 d) (same h) all.0)
-    go false t h = at_found P k c es all.1 h
+    go : (b : Bool) → eq_by_cmp key_cmp k e.0 ≡ b → (find key_cmp k es ≡ Some c → P k c) → cond b (Some e.1) (find key_cmp k es) ≡ Some c → P k c
+    go true t rest h = subst (λ (q : Key). P q c) (sym (same_key-true k e.0 t)) (subst (λ (d : Cell). P e.0 d) (same h) all.0)
+    go false t rest h = rest h
 
 at_key : (P : Key → Cell → Type 0) (m : Cells) → AllByRecursion (λ (e : Key × Cell). P e.0 e.1) (map.entries m) → (k : Key) (c : Cell) → map.get m k ≡ Some c → P k c
 at_key P m all k c here = at_found P k c (map.entries m) all (sym (get-entries m k) ∙ here)

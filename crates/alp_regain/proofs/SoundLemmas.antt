@@ -48,18 +48,16 @@ module _ (i : Intents) (m : Cells) (sound : AreSound m) (fit : AllFit i.puts) wh
 -- ---- what all parts put fits
 
 -- what edits make of a cell they put, or it was there
+either : (es : List Edit) (q : Key) (o : Option Cell) (c : Cell) → ((x : Option Cell) → edits_at es q x ≡ Some c → (edits_at es q None ≡ Some c) ⊎ (x ≡ Some c))
+    → (b : Bool) (r : Option Cell) → edits_at es q (cond b r o) ≡ Some c → (edits_at es q (cond b r None) ≡ Some c) ⊎ (o ≡ Some c)
+either es q o c rest true r h = inl h
+either es q o c rest false r h = rest o h
+
 put_or_there : (es : List Edit) (q : Key) (o : Option Cell) (c : Cell) → edits_at es q o ≡ Some c → (edits_at es q None ≡ Some c) ⊎ (o ≡ Some c)
 put_or_there [] q o c h = inr h
-put_or_there (e ∷ es) q o c h = by e h
-  where
-    go : (b : Bool) (r : Option Cell) → edits_at es q (cond b r o) ≡ Some c → (edits_at es q (cond b r None) ≡ Some c) ⊎ (o ≡ Some c)
-    go true r k = inl k
-    go false r k = put_or_there es q o c k
-
-    by : (e : Edit) → edits_at (e ∷ es) q o ≡ Some c → (edits_at (e ∷ es) q None ≡ Some c) ⊎ (o ≡ Some c)
-    by (Drop f) k = go (is_in_file f q) None k
-    by (Cut f n) k = go (is_past f n q) None k
-    by (Put x d) k = go (eq_by_cmp key_cmp q x) (Some d) k
+put_or_there (Drop f ∷ es) q o c h = either es q o c (λ x k. put_or_there es q x c k) (is_in_file f q) None h
+put_or_there (Cut f n ∷ es) q o c h = either es q o c (λ x k. put_or_there es q x c k) (is_past f n q) None h
+put_or_there (Put x d ∷ es) q o c h = either es q o c (λ y k. put_or_there es q y c k) (eq_by_cmp key_cmp q x) (Some d) h
 
 fit_on : (i : Intents) (es : List Edit) → AllFit i.puts → AllFit (intents_of es).puts → AllFit (intents_from i es).puts
 fit_on i es old new k c here =
