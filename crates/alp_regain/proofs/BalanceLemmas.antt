@@ -167,8 +167,8 @@ module _ (i : Intents) (m : Cells) (lost put : List ℕ → ℕ) where
           → (is_even i m lost put name ≡ true) ⊎ (sum_by (λ (x : Key × Cell). cost name x.1) es ≡ 0)
           → (is_even i m lost put name ≡ true) ⊎ (sum_by (λ (x : Key × Cell). cost name x.1) (e ∷ es) ≡ 0)
       go c sum head (inl even) = inl even
-      go (cell.Page bytes) sum head (inr none) = inr (sum ∙ none)
-      go (cell.Owner o) sum head (inr none) = inr (sum ∙ none)
+      go (cell.Page bytes) sum head (inr none) = (let free : cost name (cell.Page bytes) ≡ 0 = refl in inr (omega (arith, sum, free, none)))
+      go (cell.Owner o) sum head (inr none) = (let free : cost name (cell.Owner o) ≡ 0 = refl in inr (omega (arith, sum, free, none)))
       go (cell.Leader p) sum head (inr none) = by (same_name p.owner name) refl
         where
           by : (b : Bool) → same_name p.owner name ≡ b → (is_even i m lost put name ≡ true) ⊎ (sum_by (λ (x : Key × Cell). cost name x.1) (e ∷ es) ≡ 0)

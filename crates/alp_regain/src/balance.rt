@@ -5,15 +5,14 @@ ghost use Rattle.std.specs.FinMap as map;
 ghost use Rattle.alp_base.specs.declared.key.Key.TheVariants as key;
 ghost use Rattle.alp_files.specs.Needs.{through};
 ghost use Rattle.alp_trans.specs.Parts.{change_of};
-ghost use Rattle.alp_calls.specs.Looks.{Looks};
+ghost use Rattle.alp_calls.specs.Looks.{Looks, fault_in};
 ghost use Rattle.alp_regain.specs.Balance.{leader_file, files_put, touched_in, with_leader, leaders_with, owner_named, charge_in, is_even, is_even_for, are_even, is_balanced};
-ghost use Rattle.alp_regain.specs.Faults.{fault_from};
 ghost use Rattle.alp_regain.specs.Sums.{charge_at, AreChargesOf, AreSmall};
 
-use crate::RegainFault;
 use crate::charges::{Charges, charges_of};
 use crate::seen::{fetched, seen};
 use alp_base::{Cell, Change, FileId, Key, Name, OutOfMemory};
+use alp_calls::CallFault;
 use alp_files::CellMap;
 use alp_trans::Intents;
 use alp_vault::Vault;
@@ -64,10 +63,10 @@ fn gather_leader<V: Vault>(
     below: &mut CellMap,
     vault: &mut V,
     file: FileId,
-) -> Result<(), RegainFault>
+) -> Result<(), CallFault>
     requires serving { IsTrue (V.serves vault.old) }
     ensures gathered { IsTrue (V.tells vault.old) → OnOk result (below.new ≡ with_leader file (map.get (V.held vault.old).cells (key.Leader file)) below.old) }
-    ensures looked { Looks V.Vault vault.old vault.new (fault_from result) }
+    ensures looked { Looks V.Vault vault.old vault.new (fault_in result) }
 {
     match fetched(vault, &Key::Leader(file))? {
         Some(leader) => Ok(below.put(Key::Leader(file), leader)?),
@@ -80,10 +79,10 @@ fn leaders_below<V: Vault>(
     alloc: Global,
     vault: &mut V,
     files: &[FileId],
-) -> Result<CellMap, RegainFault>
+) -> Result<CellMap, CallFault>
     requires serving { IsTrue (V.serves vault.old) }
     ensures leaders { IsTrue (V.tells vault.old) → IfOk result (λ below. below ≡ leaders_with (V.held vault.old).cells files.now map.empty) }
-    ensures looked { Looks V.Vault vault.old vault.new (fault_from result) }
+    ensures looked { Looks V.Vault vault.old vault.new (fault_in result) }
 {
     let mut below = CellMap::new(alloc);
     for file in files {
@@ -97,10 +96,10 @@ fn touched_below<V: Vault>(
     alloc: Global,
     vault: &mut V,
     change: &Change,
-) -> Result<Vec<(Key, Cell)>, RegainFault>
+) -> Result<Vec<(Key, Cell)>, CallFault>
     requires serving { IsTrue (V.serves vault.old) }
     ensures leaders { IsTrue (V.tells vault.old) → IfOk result (λ es. es.items ≡ map.entries (leaders_with (V.held vault.old).cells (touched_in change.now) map.empty)) }
-    ensures looked { Looks V.Vault vault.old vault.new (fault_from result) }
+    ensures looked { Looks V.Vault vault.old vault.new (fault_in result) }
 {
     let files = files_touched(alloc, change)?;
     let below = leaders_below(alloc, vault, files.as_slice())?;
@@ -141,19 +140,19 @@ fn charge_seen<V: Vault>(
     vault: &mut V,
     intents: &Intents,
     name: Name,
-) -> Result<Option<u32>, RegainFault>
+) -> Result<Option<u32>, CallFault>
     requires serving { IsTrue (V.serves vault.old) }
     ensures charge { IsTrue (V.tells vault.old) → IfOk result (λ n. n ≡ charge_in (through intents.now (map.get (V.held vault.old).cells) (key.OwnerOf name))) }
-    ensures looked { Looks V.Vault vault.old vault.new (fault_from result) }
+    ensures looked { Looks V.Vault vault.old vault.new (fault_in result) }
 {
     Ok(charge_of(seen(vault, intents, &Key::OwnerOf(name))?))
 }
 
 // And in that which lies below, or 0.
-fn charge_below<V: Vault>(vault: &mut V, name: Name) -> Result<u32, RegainFault>
+fn charge_below<V: Vault>(vault: &mut V, name: Name) -> Result<u32, CallFault>
     requires serving { IsTrue (V.serves vault.old) }
     ensures charge { IsTrue (V.tells vault.old) → IfOk result (λ n. n ≡ unwrap_or (charge_in (map.get (V.held vault.old).cells (key.OwnerOf name))) 0) }
-    ensures looked { Looks V.Vault vault.old vault.new (fault_from result) }
+    ensures looked { Looks V.Vault vault.old vault.new (fault_in result) }
 {
     Ok(charge_of(fetched(vault, &Key::OwnerOf(name))?).unwrap_or(0))
 }
@@ -164,11 +163,11 @@ fn is_even_owner<V: Vault>(
     intents: &Intents,
     moved: &Moved,
     name: Name,
-) -> Result<bool, RegainFault>
+) -> Result<bool, CallFault>
     requires serving { IsTrue (V.serves vault.old) }
     requires small { AreSmall moved.now.lost × AreSmall moved.now.put }
     ensures even { IsTrue (V.tells vault.old) → IfOk result (λ b. b ≡ is_even intents.now (V.held vault.old).cells (charge_at moved.now.lost) (charge_at moved.now.put) name) }
-    ensures looked { Looks V.Vault vault.old vault.new (fault_from result) }
+    ensures looked { Looks V.Vault vault.old vault.new (fault_in result) }
 {
     let Some(charge) = charge_seen(vault, intents, name)? else {
         return Ok(true);
@@ -184,11 +183,11 @@ fn is_even_cell<V: Vault>(
     intents: &Intents,
     moved: &Moved,
     cell: &Cell,
-) -> Result<bool, RegainFault>
+) -> Result<bool, CallFault>
     requires serving { IsTrue (V.serves vault.old) }
     requires small { AreSmall moved.now.lost × AreSmall moved.now.put }
     ensures even { IsTrue (V.tells vault.old) → IfOk result (λ b. b ≡ is_even_for intents.now (V.held vault.old).cells (charge_at moved.now.lost) (charge_at moved.now.put) (owner_named cell.now)) }
-    ensures looked { Looks V.Vault vault.old vault.new (fault_from result) }
+    ensures looked { Looks V.Vault vault.old vault.new (fault_in result) }
 {
     match name_in(cell) {
         Some(name) => is_even_owner(vault, intents, moved, name),
@@ -202,11 +201,11 @@ fn are_even_cells<V: Vault>(
     intents: &Intents,
     moved: &Moved,
     cells: &[(Key, Cell)],
-) -> Result<bool, RegainFault>
+) -> Result<bool, CallFault>
     requires serving { IsTrue (V.serves vault.old) }
     requires small { AreSmall moved.now.lost × AreSmall moved.now.put }
     ensures even { IsTrue (V.tells vault.old) → IfOk result (λ b. b ≡ are_even intents.now (V.held vault.old).cells (charge_at moved.now.lost) (charge_at moved.now.put) cells.now) }
-    ensures looked { Looks V.Vault vault.old vault.new (fault_from result) }
+    ensures looked { Looks V.Vault vault.old vault.new (fault_in result) }
 {
     for cell in cells {
         if !is_even_cell(vault, intents, moved, &cell.1)? {
@@ -223,11 +222,11 @@ fn are_even_all<V: Vault>(
     moved: &Moved,
     below: &[(Key, Cell)],
     puts: &[(Key, Cell)],
-) -> Result<bool, RegainFault>
+) -> Result<bool, CallFault>
     requires serving { IsTrue (V.serves vault.old) }
     requires small { AreSmall moved.now.lost × AreSmall moved.now.put }
     ensures even { IsTrue (V.tells vault.old) → IfOk result (λ b. b ≡ (are_even intents.now (V.held vault.old).cells (charge_at moved.now.lost) (charge_at moved.now.put) below.now && are_even intents.now (V.held vault.old).cells (charge_at moved.now.lost) (charge_at moved.now.put) puts.now)) }
-    ensures looked { Looks V.Vault vault.old vault.new (fault_from result) }
+    ensures looked { Looks V.Vault vault.old vault.new (fault_in result) }
 {
     if !are_even_cells(vault, intents, moved, below)? {
         return Ok(false);
@@ -256,11 +255,11 @@ pub(super) fn are_balanced<V: Vault>(
     vault: &mut V,
     intents: &Intents,
     change: &Change,
-) -> Result<bool, RegainFault>
+) -> Result<bool, CallFault>
     requires serving { IsTrue (V.serves vault.old) }
     requires change { change.now ≡ change_of intents.now }
     ensures balanced { IsTrue (V.tells vault.old) → IfOk result (λ b. b ≡ is_balanced intents.now (V.held vault.old).cells) }
-    ensures looked { Looks V.Vault vault.old vault.new (fault_from result) }
+    ensures looked { Looks V.Vault vault.old vault.new (fault_in result) }
 {
     let puts = change.puts.as_slice();
     let below = touched_below(alloc, vault, change)?;

@@ -4,11 +4,9 @@ ghost use Rattle.std.specs.FinMap as map;
 ghost use Rattle.alp_base.specs.declared.key.Key.TheVariants as key;
 ghost use Rattle.alp_files.specs.Needs.{through};
 ghost use Rattle.alp_base.specs.Faults.{IsOfVolume};
-ghost use Rattle.alp_calls.specs.Looks.{Looks, fault_as};
-ghost use Rattle.alp_regain.specs.Faults.{fault_from};
+ghost use Rattle.alp_calls.specs.Looks.{Looks, fault_as, fault_in};
 ghost use Rattle.alp_regain.specs.Seen.{size_at, is_owner, is_below};
 
-use crate::RegainFault;
 use alp_base::{Cell, FileId, Key, Name, VaultFault};
 use alp_calls::CallFault;
 use alp_trans::Intents;
@@ -27,14 +25,14 @@ fn fault_of(fault: VaultFault) -> CallFault
 }
 
 /// The cell that the vault holds at the key.
-pub(super) fn fetched<V: Vault>(vault: &mut V, key: &Key) -> Result<Option<Cell>, RegainFault>
+pub(super) fn fetched<V: Vault>(vault: &mut V, key: &Key) -> Result<Option<Cell>, CallFault>
     requires { IsTrue (V.serves vault.old) }
     ensures cell { IsTrue (V.tells vault.old) → IfOk result (λ c. c ≡ map.get (V.held vault.old).cells key.now) }
-    ensures looked { Looks V.Vault vault.old vault.new (fault_from result) }
+    ensures looked { Looks V.Vault vault.old vault.new (fault_in result) }
 {
     match vault.fetch(key) {
         Ok(cell) => Ok(cell),
-        Err(fault) => Err(RegainFault::Vault(fault_of(fault))),
+        Err(fault) => Err(fault_of(fault)),
     }
 }
 
@@ -43,10 +41,10 @@ pub(super) fn seen<V: Vault>(
     vault: &mut V,
     intents: &Intents,
     key: &Key,
-) -> Result<Option<Cell>, RegainFault>
+) -> Result<Option<Cell>, CallFault>
     requires serving { IsTrue (V.serves vault.old) }
     ensures cell { IsTrue (V.tells vault.old) → IfOk result (λ c. c ≡ through intents.now (map.get (V.held vault.old).cells) key.now) }
-    ensures looked { Looks V.Vault vault.old vault.new (fault_from result) }
+    ensures looked { Looks V.Vault vault.old vault.new (fault_in result) }
 {
     if let Some(cell) = intents.put_at(key) {
         let copy = cell.clone()?;
@@ -63,10 +61,10 @@ pub(super) fn size_seen<V: Vault>(
     vault: &mut V,
     intents: &Intents,
     file: FileId,
-) -> Result<Option<u32>, RegainFault>
+) -> Result<Option<u32>, CallFault>
     requires serving { IsTrue (V.serves vault.old) }
     ensures size { IsTrue (V.tells vault.old) → IfOk result (λ s. s ≡ size_at (through intents.now (map.get (V.held vault.old).cells) (key.Leader file))) }
-    ensures looked { Looks V.Vault vault.old vault.new (fault_from result) }
+    ensures looked { Looks V.Vault vault.old vault.new (fault_in result) }
 {
     match seen(vault, intents, &Key::Leader(file))? {
         Some(Cell::Leader(props)) => Ok(Some(props.size)),
@@ -79,10 +77,10 @@ pub(super) fn owner_stands<V: Vault>(
     vault: &mut V,
     intents: &Intents,
     name: Name,
-) -> Result<bool, RegainFault>
+) -> Result<bool, CallFault>
     requires serving { IsTrue (V.serves vault.old) }
     ensures owner { IsTrue (V.tells vault.old) → IfOk result (λ b. b ≡ is_owner (through intents.now (map.get (V.held vault.old).cells) (key.OwnerOf name))) }
-    ensures looked { Looks V.Vault vault.old vault.new (fault_from result) }
+    ensures looked { Looks V.Vault vault.old vault.new (fault_in result) }
 {
     match seen(vault, intents, &Key::OwnerOf(name))? {
         Some(Cell::Owner(_)) => Ok(true),
@@ -96,10 +94,10 @@ pub(super) fn page_stands<V: Vault>(
     intents: &Intents,
     file: FileId,
     number: u32,
-) -> Result<bool, RegainFault>
+) -> Result<bool, CallFault>
     requires serving { IsTrue (V.serves vault.old) }
     ensures below { IsTrue (V.tells vault.old) → IfOk result (λ b. b ≡ is_below number (size_at (through intents.now (map.get (V.held vault.old).cells) (key.Leader file)))) }
-    ensures looked { Looks V.Vault vault.old vault.new (fault_from result) }
+    ensures looked { Looks V.Vault vault.old vault.new (fault_in result) }
 {
     match size_seen(vault, intents, file)? {
         Some(size) => Ok(number < size),

@@ -6,18 +6,18 @@ ghost use Rattle.alp_files.specs.Needs.{intents_of as intents_said};
 ghost use Rattle.alp_files.specs.Sound.{AreSound};
 ghost use Rattle.alp_trans.specs.Counting.{with_intents};
 ghost use Rattle.alp_trans.specs.Parts.{change_of};
-ghost use Rattle.alp_calls.specs.Looks.{Looks};
+ghost use Rattle.alp_calls.specs.Looks.{Looks, fault_in};
 ghost use Rattle.alp_calls.specs.Parts.{AllFit};
 ghost use Rattle.alp_regain.specs.Balance.{DoIntend};
-ghost use Rattle.alp_regain.specs.Faults.{fault_from};
 ghost use Rattle.alp_regain.specs.Notes.{part_note};
 ghost use Rattle.alp_regain.specs.Together.{AreSoundTogether};
 
+use crate::RegainedPart;
 use crate::balance::are_balanced;
 use crate::changes::add_change;
 use crate::touched::all_pass;
-use crate::{RegainFault, RegainedPart};
 use alp_base::{Change, JoinNo, OutOfMemory};
+use alp_calls::CallFault;
 use alp_fields::ReadyPart;
 use alp_trans::Intents;
 use alp_vault::Vault;
@@ -29,13 +29,13 @@ fn stay_with<V: Vault>(
     vault: &mut V,
     intents: &Intents,
     change: &Change,
-) -> Result<bool, RegainFault>
+) -> Result<bool, CallFault>
     requires serving { IsTrue (V.serves vault.old) }
     requires change { change.now ≡ change_of intents.now }
     requires fit { AllFit intents.now.puts }
     ensures yes { IsTrue (V.tells vault.old) → AreSound (V.held vault.old).cells → result ≡ Ok true → AreSound (with_intents intents.now (V.held vault.old).cells) }
     ensures no { IsTrue (V.tells vault.old) → AreSound (V.held vault.old).cells → result ≡ Ok false → AreSound (with_intents intents.now (V.held vault.old).cells) → ⊥ }
-    ensures looked { Looks V.Vault vault.old vault.new (fault_from result) }
+    ensures looked { Looks V.Vault vault.old vault.new (fault_in result) }
 {
     if !all_pass(vault, intents, change.puts.as_slice())? {
         return Ok(false);
@@ -44,16 +44,12 @@ fn stay_with<V: Vault>(
 }
 
 // Whether they stay so with what is intended.
-fn stay_sound<V: Vault>(
-    alloc: Global,
-    vault: &mut V,
-    intents: &Intents,
-) -> Result<bool, RegainFault>
+fn stay_sound<V: Vault>(alloc: Global, vault: &mut V, intents: &Intents) -> Result<bool, CallFault>
     requires serving { IsTrue (V.serves vault.old) }
     requires fit { AllFit intents.now.puts }
     ensures yes { IsTrue (V.tells vault.old) → result ≡ Ok true → AreSound (with_intents intents.now (V.held vault.old).cells) }
     ensures no { IsTrue (V.tells vault.old) → result ≡ Ok false → AreSound (with_intents intents.now (V.held vault.old).cells) → ⊥ }
-    ensures looked { Looks V.Vault vault.old vault.new (fault_from result) }
+    ensures looked { Looks V.Vault vault.old vault.new (fault_in result) }
 {
     vault.knows();
     let change = intents.to_change(alloc)?;
@@ -65,12 +61,12 @@ fn stay_with_each<V: Vault>(
     alloc: Global,
     vault: &mut V,
     parts: &[RegainedPart],
-) -> Result<bool, RegainFault>
+) -> Result<bool, CallFault>
     requires serving { IsTrue (V.serves vault.old) }
     requires fit { All (λ p. AllFit p.part.intents.puts) parts.now }
     ensures yes { IsTrue (V.tells vault.old) → result ≡ Ok true → All (λ p. AreSound (with_intents p.part.intents (V.held vault.old).cells)) parts.now }
     ensures no { IsTrue (V.tells vault.old) → result ≡ Ok false → All (λ p. AreSound (with_intents p.part.intents (V.held vault.old).cells)) parts.now → ⊥ }
-    ensures looked { Looks V.Vault vault.old vault.new (fault_from result) }
+    ensures looked { Looks V.Vault vault.old vault.new (fault_in result) }
 {
     for part in parts {
         if !stay_sound(alloc, vault, &part.part.intents)? {
@@ -96,12 +92,12 @@ fn stay_with_all<V: Vault>(
     alloc: Global,
     vault: &mut V,
     notes: &[(JoinNo, ReadyPart)],
-) -> Result<bool, RegainFault>
+) -> Result<bool, CallFault>
     requires serving { IsTrue (V.serves vault.old) }
     requires fit { AllByRecursion (λ n. AllFit (intents_said n.edits).puts) (list_map part_note notes.now) }
     ensures yes { IsTrue (V.tells vault.old) → result ≡ Ok true → AreSound (edits_map (flat_map (λ n. n.edits) (list_map part_note notes.now)) (V.held vault.old).cells) }
     ensures no { IsTrue (V.tells vault.old) → result ≡ Ok false → AreSound (edits_map (flat_map (λ n. n.edits) (list_map part_note notes.now)) (V.held vault.old).cells) → ⊥ }
-    ensures looked { Looks V.Vault vault.old vault.new (fault_from result) }
+    ensures looked { Looks V.Vault vault.old vault.new (fault_in result) }
 {
     let intents = intents_of_all(alloc, notes)?;
     stay_sound(alloc, vault, &intents)
@@ -113,12 +109,12 @@ pub(super) fn stay_together<V: Vault>(
     vault: &mut V,
     notes: &[(JoinNo, ReadyPart)],
     parts: &[RegainedPart],
-) -> Result<bool, RegainFault>
+) -> Result<bool, CallFault>
     requires serving { IsTrue (V.serves vault.old) }
     requires intend { DoIntend parts.now (list_map part_note notes.now) }
     ensures yes { IsTrue (V.tells vault.old) → result ≡ Ok true → AreSoundTogether (V.held vault.old).cells (list_map part_note notes.now) }
     ensures no { IsTrue (V.tells vault.old) → result ≡ Ok false → AreSoundTogether (V.held vault.old).cells (list_map part_note notes.now) → ⊥ }
-    ensures looked { Looks V.Vault vault.old vault.new (fault_from result) }
+    ensures looked { Looks V.Vault vault.old vault.new (fault_in result) }
 {
     if !stay_with_each(alloc, vault, parts)? {
         return Ok(false);

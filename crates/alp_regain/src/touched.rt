@@ -4,14 +4,13 @@ ghost use Rattle.std.specs.FinMap as map;
 ghost use Rattle.alp_base.specs.declared.cell.Cell.TheVariants as cell;
 ghost use Rattle.alp_base.specs.declared.key.Key.TheVariants as key;
 ghost use Rattle.alp_files.specs.Needs.{through};
-ghost use Rattle.alp_calls.specs.Looks.{Looks};
-ghost use Rattle.alp_regain.specs.Faults.{fault_from};
+ghost use Rattle.alp_calls.specs.Looks.{Looks, fault_in};
 ghost use Rattle.alp_regain.specs.Seen.{size_at, is_below, limit_by, limit_of, NoneBetween, Passes};
 ghost use Rattle.alp_regain.specs.Touched.{EndsAt, IsGoodPut};
 
-use crate::RegainFault;
 use crate::seen::{fetched, owner_stands, page_stands, seen};
 use alp_base::{Cell, FileId, Key, Props};
+use alp_calls::CallFault;
 use alp_trans::Intents;
 use alp_vault::Vault;
 
@@ -20,10 +19,10 @@ fn is_unseen<V: Vault>(
     intents: &Intents,
     file: FileId,
     number: u32,
-) -> Result<bool, RegainFault>
+) -> Result<bool, CallFault>
     requires serving { IsTrue (V.serves vault.old) }
     ensures none { IsTrue (V.tells vault.old) → IfOk result (λ b. b ≡ is_none (through intents.now (map.get (V.held vault.old).cells) (key.PageOf file number))) }
-    ensures looked { Looks V.Vault vault.old vault.new (fault_from result) }
+    ensures looked { Looks V.Vault vault.old vault.new (fault_in result) }
 {
     Ok(seen(vault, intents, &Key::PageOf(file, number))?.is_none())
 }
@@ -35,11 +34,11 @@ fn ends_between<V: Vault>(
     file: FileId,
     first: u32,
     limit: u32,
-) -> Result<bool, RegainFault>
+) -> Result<bool, CallFault>
     requires serving { IsTrue (V.serves vault.old) }
     ensures yes { IsTrue (V.tells vault.old) → result ≡ Ok true → NoneBetween (through intents.now (map.get (V.held vault.old).cells)) file first limit }
     ensures no { IsTrue (V.tells vault.old) → result ≡ Ok false → EndsAt (through intents.now (map.get (V.held vault.old).cells)) file first → ⊥ }
-    ensures looked { Looks V.Vault vault.old vault.new (fault_from result) }
+    ensures looked { Looks V.Vault vault.old vault.new (fault_in result) }
 {
     for number in first..limit {
         if !is_unseen(vault, intents, file, number)? {
@@ -69,10 +68,10 @@ fn limit(size: Option<u32>, gone: Option<u32>) -> u32
 }
 
 // The pages of the file that lie below and stay have numbers below this.
-fn limit_for<V: Vault>(vault: &mut V, intents: &Intents, file: FileId) -> Result<u32, RegainFault>
+fn limit_for<V: Vault>(vault: &mut V, intents: &Intents, file: FileId) -> Result<u32, CallFault>
     requires serving { IsTrue (V.serves vault.old) }
     ensures limit { IsTrue (V.tells vault.old) → IfOk result (λ n. n ≡ limit_of intents.now (V.held vault.old).cells file) }
-    ensures looked { Looks V.Vault vault.old vault.new (fault_from result) }
+    ensures looked { Looks V.Vault vault.old vault.new (fault_in result) }
 {
     let size = size_in(fetched(vault, &Key::Leader(file))?);
     Ok(limit(size, intents.first_gone(&file)))
@@ -84,11 +83,11 @@ fn leader_passes<V: Vault>(
     intents: &Intents,
     file: FileId,
     props: &Props,
-) -> Result<bool, RegainFault>
+) -> Result<bool, CallFault>
     requires serving { IsTrue (V.serves vault.old) }
     ensures yes { IsTrue (V.tells vault.old) → result ≡ Ok true → Passes intents.now (V.held vault.old).cells (key.Leader file) (cell.Leader props.now) }
     ensures no { IsTrue (V.tells vault.old) → result ≡ Ok false → IsGoodPut (through intents.now (map.get (V.held vault.old).cells)) (key.Leader file) (cell.Leader props.now) → ⊥ }
-    ensures looked { Looks V.Vault vault.old vault.new (fault_from result) }
+    ensures looked { Looks V.Vault vault.old vault.new (fault_in result) }
 {
     if !owner_stands(vault, intents, props.owner)? {
         return Ok(false);
@@ -103,11 +102,11 @@ fn page_passes<V: Vault>(
     intents: &Intents,
     file: FileId,
     number: u32,
-) -> Result<bool, RegainFault>
+) -> Result<bool, CallFault>
     requires serving { IsTrue (V.serves vault.old) }
     ensures yes { IsTrue (V.tells vault.old) → result ≡ Ok true → is_below number (size_at (through intents.now (map.get (V.held vault.old).cells) (key.Leader file))) ≡ true }
     ensures no { IsTrue (V.tells vault.old) → result ≡ Ok false → (bytes : List ℕ) → IsGoodPut (through intents.now (map.get (V.held vault.old).cells)) (key.PageOf file number) (cell.Page bytes) → ⊥ }
-    ensures looked { Looks V.Vault vault.old vault.new (fault_from result) }
+    ensures looked { Looks V.Vault vault.old vault.new (fault_in result) }
 {
     page_stands(vault, intents, file, number)
 }
@@ -118,11 +117,11 @@ fn passes<V: Vault>(
     intents: &Intents,
     at: &Key,
     put: &Cell,
-) -> Result<bool, RegainFault>
+) -> Result<bool, CallFault>
     requires serving { IsTrue (V.serves vault.old) }
     ensures yes { IsTrue (V.tells vault.old) → result ≡ Ok true → Passes intents.now (V.held vault.old).cells at.now put.now }
     ensures no { IsTrue (V.tells vault.old) → result ≡ Ok false → IsGoodPut (through intents.now (map.get (V.held vault.old).cells)) at.now put.now → ⊥ }
-    ensures looked { Looks V.Vault vault.old vault.new (fault_from result) }
+    ensures looked { Looks V.Vault vault.old vault.new (fault_in result) }
 {
     match (at, put) {
         (Key::Leader(file), Cell::Leader(props)) => leader_passes(vault, intents, *file, props),
@@ -136,11 +135,11 @@ pub(super) fn all_pass<V: Vault>(
     vault: &mut V,
     intents: &Intents,
     puts: &[(Key, Cell)],
-) -> Result<bool, RegainFault>
+) -> Result<bool, CallFault>
     requires serving { IsTrue (V.serves vault.old) }
     ensures yes { IsTrue (V.tells vault.old) → result ≡ Ok true → All (λ e. Passes intents.now (V.held vault.old).cells e.0 e.1) puts.now }
     ensures no { IsTrue (V.tells vault.old) → result ≡ Ok false → All (λ e. IsGoodPut (through intents.now (map.get (V.held vault.old).cells)) e.0 e.1) puts.now → ⊥ }
-    ensures looked { Looks V.Vault vault.old vault.new (fault_from result) }
+    ensures looked { Looks V.Vault vault.old vault.new (fault_in result) }
 {
     for put in puts {
         if !passes(vault, intents, &put.0, &put.1)? {
