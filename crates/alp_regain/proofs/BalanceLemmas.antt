@@ -1,11 +1,11 @@
 -- owners are charged for what intents put and take away just where they are so looked at one by one
-use Rattle.std.specs.Prelude.{cond, Bool, true, false, ◌&&◌, ◌||◌, ◌==◌, ◌⊎◌, Option, None, Some, is_some, unwrap_or, sum_by, filter_map, map as list_map}
+use Rattle.std.specs.Prelude.{cond, Bool, true, false, ◌&&◌, ◌||◌, ◌⊎◌, Option, None, Some, is_some, unwrap_or, sum_by, map as list_map}
 use Rattle.std.specs.List.{list_all, list_any}
 use Rattle.std.specs.Option.{option_or}
 use Rattle.std.specs.Ordering.{eq_by_cmp}
 use Rattle.std.specs.FinMap as map
 use Rattle.std.specs.FinMap.{find, get-entries, get-insert, get-empty, same_map, contains_key-keys}
-use Rattle.std.proofs.Common.{◌≡◌, ℕ, ◌+◌, List, [], ◌∷◌, ◌++◌, inl, inr, ⊎_elim, refl, sym, ◌∙◌, ap, subst, arith, eq-eqb}
+use Rattle.std.proofs.Common.{◌≡◌, ℕ, ◌+◌, List, [], ◌∷◌, ◌++◌, inl, inr, ⊎_elim, refl, sym, ◌∙◌, ap, arith, eq-eqb}
 use Rattle.std.proofs.lemmas.Bool.{eqb-true}
 use Rattle.std.proofs.lemmas.List.Sums.{sum_by-cons}
 use Rattle.alp_base.specs.Keys.{key_cmp}
@@ -18,7 +18,7 @@ use Rattle.alp_base.specs.declared.key.Key.{Key}
 use Rattle.alp_base.specs.declared.key.Key.TheVariants.{Leader, PageOf, OwnerOf}
 use Rattle.alp_files.specs.Cells.{Cells, View, same_name, owner_in}
 use Rattle.alp_files.specs.Files.{IsOfKind, cost, charge_of, AreCharged}
-use Rattle.alp_files.specs.Needs.{Intents, through, is_gone}
+use Rattle.alp_files.specs.Needs.{Intents, through}
 use Rattle.alp_files.specs.Sound.{AreSound}
 use Rattle.alp_files.proofs.IntentLemmas.{kept}
 use Rattle.alp_files.proofs.SameLemmas.{same_key-true, same_name-true}

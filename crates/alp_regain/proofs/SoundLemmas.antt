@@ -1,8 +1,8 @@
 -- files stay well formed and charged with what parts change
-use Rattle.std.specs.Prelude.{cond, Bool, true, false, ◌⊎◌, All, flat_map, IsTrue, Option, None, Some, map as list_map}
+use Rattle.std.specs.Prelude.{cond, Bool, true, false, ◌⊎◌, All, flat_map, Option, None, Some, map as list_map}
 use Rattle.std.specs.List.{AllByRecursion}
 use Rattle.std.specs.FinMap as map
-use Rattle.std.proofs.Common.{◌≡◌, ℕ, List, [], ◌∷◌, ◌++◌, inl, inr, ⊎_elim, refl, sym, ◌∙◌, ap, subst}
+use Rattle.std.proofs.Common.{◌≡◌, ℕ, List, [], ◌∷◌, inl, inr, ⊎_elim, refl, sym, ◌∙◌, ap, subst}
 use Rattle.std.proofs.lemmas.List.Elements.{All-from_recursion, recursion_from_All}
 use Rattle.std.specs.Ordering.{eq_by_cmp}
 use Rattle.std.specs.FinMap.{get-empty}
@@ -21,10 +21,9 @@ use Rattle.alp_calls.specs.Parts.{AllFit}
 use Rattle.alp_calls.proofs.IntentCounts.{with_all}
 use Rattle.alp_journal.specs.Opening.{ReadyNote}
 use Rattle.alp_regain.specs.Balance.{is_balanced, intents_in, DoIntend}
-use Rattle.alp_regain.specs.Regained.{IsPartOf, ArePartsOf}
+use Rattle.alp_regain.specs.Regained.{ArePartsOf}
 use Rattle.alp_regain.specs.Seen.{Passes}
-use Rattle.alp_regain.specs.Together.{AreSoundTogether}
-use Rattle.alp_regain.specs.Touched.{IsGoodPut, AreGoodPuts}
+use Rattle.alp_regain.specs.Touched.{IsGoodPut}
 use Rattle.alp_regain.specs.declared.part.RegainedPart.{RegainedPart}
 use Rattle.alp_regain.proofs.BalanceLemmas.{with_view, charged_by, balanced_by}
 use Rattle.alp_regain.proofs.PassLemmas.{passing_good, good_listed}

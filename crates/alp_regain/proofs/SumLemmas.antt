@@ -7,7 +7,7 @@ use Rattle.std.specs.Cmp.{eq_by_cmp_equiv}
 use Rattle.std.proofs.Common.{◌≡◌, ℕ, ◌+◌, ◌≤◌, List, refl, sym, ◌∙◌, ap, arith}
 use Rattle.std.proofs.lemmas.Map.Views.{tells_apart}
 use Rattle.alp_files.specs.Cells.{same_name}
-use Rattle.alp_files.proofs.SameLemmas.{same_name-true, same_name-itself, other_name}
+use Rattle.alp_files.proofs.SameLemmas.{same_name-itself, other_name}
 use Rattle.alp_regain.specs.Sums.{name_cmp, Charges, charge_at, pages_for}
 pub use Rattle.std.specs.Cmp.Lexicographic.{nat_list_cmp_total}
 pub use Rattle.std.proofs.lemmas.Map.Lookups.{exact_bytes}

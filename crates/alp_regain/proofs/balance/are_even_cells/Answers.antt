@@ -1,4 +1,4 @@
-use Rattle.std.specs.Prelude.{None, Ok, true, false, Bool, ◌&&◌, IsTrue}
+use Rattle.std.specs.Prelude.{None, Bool, ◌&&◌, IsTrue}
 use Rattle.std.proofs.Common.{◌≡◌, ℕ, ◌+◌, List, ◌∷◌, drop, sym, ap, ◌∙◌}
 use Rattle.std.proofs.lemmas.List.{at_drop_more, at_drop_all}
 use Rattle.alp_base.specs.declared.cell.Cell.{Cell}

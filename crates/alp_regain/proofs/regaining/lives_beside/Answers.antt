@@ -1,4 +1,4 @@
-use Rattle.std.specs.Prelude.{Bool, Ok, true, false, map as list_map}
+use Rattle.std.specs.Prelude.{Ok, true, false, map as list_map}
 use Rattle.std.proofs.Common.{◌≡◌, List, subst, sym, rules}
 use Rattle.alp_base.specs.declared.ids.JoinNo.{JoinNo}
 use Rattle.alp_fields.specs.declared.ready_note.ReadyPart.{ReadyPart}

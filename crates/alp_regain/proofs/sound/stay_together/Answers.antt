@@ -1,7 +1,7 @@
 use Rattle.std.specs.Prelude.{Ok, true, false, flat_map, map as list_map}
 use Rattle.std.proofs.Common.{◌≡◌, List, rules}
 use Rattle.alp_files.specs.Cells.{Cells}
-use Rattle.alp_files.specs.Edits.{Edit, edits_map}
+use Rattle.alp_files.specs.Edits.{edits_map}
 use Rattle.alp_files.specs.Sound.{AreSound}
 use Rattle.alp_calls.proofs.LookLemmas.{later}
 use Rattle.alp_journal.specs.Opening.{ReadyNote}

@@ -1,11 +1,10 @@
 use Rattle.std.specs.Prelude.{All, None, Ok, true, IsTrue}
-use Rattle.std.proofs.Common.{◌≡◌, ◌+◌, List, subst, sym, rules, arith}
+use Rattle.std.proofs.Common.{◌≡◌, List, subst, rules, arith}
 use Rattle.std.proofs.lemmas.List.{take_all}
 use Rattle.std.proofs.lemmas.List.Elements.{All-more}
 use Rattle.alp_files.specs.Cells.{Cells}
 use Rattle.alp_files.specs.Sound.{AreSound}
 use Rattle.alp_trans.specs.Counting.{with_intents}
-use Rattle.alp_calls.specs.Parts.{AllFit}
 use Rattle.alp_calls.proofs.LookLemmas.{looks_then, later}
 use Rattle.alp_regain.specs.declared.part.RegainedPart.{RegainedPart}
 use Rattle.alp_regain.proofs.sound.stay_with_each.Goals as goal

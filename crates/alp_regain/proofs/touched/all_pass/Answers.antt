@@ -1,5 +1,5 @@
 use Rattle.std.specs.Prelude.{All, None, Ok, true, IsTrue}
-use Rattle.std.proofs.Common.{◌≡◌, ◌+◌, List, subst, sym, rules, arith}
+use Rattle.std.proofs.Common.{◌≡◌, List, subst, rules, arith}
 use Rattle.std.proofs.lemmas.List.{take_all}
 use Rattle.std.proofs.lemmas.List.Elements.{All-more}
 use Rattle.alp_base.specs.declared.cell.Cell.{Cell}

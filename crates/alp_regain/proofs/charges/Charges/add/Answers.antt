@@ -1,7 +1,7 @@
 use Rattle.std.specs.FinMap as map
-use Rattle.std.proofs.Common.{◌≡◌, ℕ, ◌+◌, List, ap, ◌∙◌, arith}
+use Rattle.std.proofs.Common.{◌≡◌, ◌+◌, ap, ◌∙◌, arith}
 use Rattle.alp_base.proofs.TreeLemmas.{put_at}
-use Rattle.alp_regain.specs.Sums.{Charges, charge_at, pages_for}
+use Rattle.alp_regain.specs.Sums.{Charges, charge_at}
 use Rattle.alp_regain.proofs.SumLemmas.{nat_list_cmp_total, exact_bytes, added, few_for}
 use Rattle.alp_regain.proofs.charges.Charges.add.Goals as goal
 
