@@ -74,7 +74,6 @@ pub(super) fn charges_of(alloc: Global, cells: &[(Key, Cell)]) -> Result<Charges
     ensures small { IfOk result (λ c. AreSmall c) }
 {
     let mut charges = Charges::new(alloc);
-    let _count = cells.len();
     for cell in cells {
         charges.add_cell(&cell.1)?;
     }
