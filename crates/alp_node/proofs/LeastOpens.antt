@@ -107,8 +107,8 @@ module _ (p : TransId → Bool) where
   passing (t ∷ ts) = cond {A = map.FinMap trans_cmp ℕ} (p t) (map.insert (passing ts) t 0) (passing ts)
 
   passes_there : (ts : List TransId) (t : TransId) → p t ≡ true → has_trans t ts ≡ true → is_some (map.get (passing ts) t) ≡ true
-  passes_there [] t yes at = let wrong : false ≡ true = at in cc
-  passes_there (u ∷ us) t yes at = go (p u) refl (same_trans u t) refl at (passes_there us t yes)
+  passes_there [] t so_it_is at = let wrong : false ≡ true = at in cc
+  passes_there (u ∷ us) t so_it_is at = go (p u) refl (same_trans u t) refl at (passes_there us t so_it_is)
     where
       either : (c : Bool) (x : Option ℕ) → is_some x ≡ true → is_some (cond {A = Option ℕ} c (Some 0) x) ≡ true
       either true x e = refl
@@ -120,7 +120,7 @@ module _ (p : TransId → Bool) where
           ap (λ (x : Option ℕ). is_some x) (get_put (passing us) u 0 t)
           ∙ ap (λ (c : Bool). is_some (cond {A = Option ℕ} c (Some 0) (map.get (passing us) t))) (ap (same_trans t) (same_trans-true u t e) ∙ same_trans-itself t)
       go true f false e g more = ap (λ (x : Option ℕ). is_some x) (get_put (passing us) u 0 t) ∙ either (same_trans t u) (map.get (passing us) t) (more g)
-      go false f true e g more = let wrong : true ≡ false = sym (ap p (same_trans-true u t e) ∙ yes) ∙ f in cc
+      go false f true e g more = let wrong : true ≡ false = sym (ap p (same_trans-true u t e) ∙ so_it_is) ∙ f in cc
       go false f false e g more = more g
 
   there_passes : (ts : List TransId) (t : TransId) → is_some (map.get (passing ts) t) ≡ true → p t ≡ true
@@ -242,7 +242,7 @@ module _ {V : Type 0} (a : Account) (held : Contents) (k : ServerState V) (h : I
           );
     };
     first = first_least is_open_at all_open (keys_rise (passing is_open_at candidates)) (λ t at. there_passes is_open_at candidates t (sym (key_there (passing is_open_at candidates) t) ∙ at))
-        (λ t yes. key_there (passing is_open_at candidates) t ∙ passes_there is_open_at candidates t yes (among t yes)) (lesser_if x y)
+        (λ t so_it_is. key_there (passing is_open_at candidates) t ∙ passes_there is_open_at candidates t so_it_is (among t so_it_is)) (lesser_if x y)
         (lesser_least (λ t. is_running_fate (fate_in k.coordinator t)) (has_open k.joins.lives) x y (running x own) joined);
   }
     where
