@@ -84,11 +84,11 @@ module _ {V : Type 0} (G : Ghosts V) (k : ServerState V) (d : Deed) (small : IsS
       (λ n h. stepped_ready n (G.serves k.vault) (record k { coordinator = z }) (fated_ready n (G.serves k.vault) k z (fated_like d k.coordinator z small along comes) h))
       (λ notes. fated_noted k.server k.servers k.epoch k.lives k.joins k.coordinator z (G.held k.vault).notes (fated_like d k.coordinator z small along comes) notes)
       (λ a h.
-          (let m : Account = record a { fates = λ u. fate_after d u (a.fates u) } in
-          silent_stepped a m (G.faults k.vault) (G.held k.vault) k (record k { coordinator = z }) e x [] h refl so (leads a h)
-          (kept_fated a (G.held k.vault) k m.fates z h (record { run = run_along a.holder.server a.ids.epoch a.ids.transactions k.coordinator z h.coordinator.run along; fates = known a h })
-          (λ still. notes_stay a m (record { event = e; reply = None; acts = [] }) h.quiet (leads a h).lawful (leads a h).leaves on refl (aborts a) a.ids.epoch (G.held k.vault).notes (h.notes still))
-          (λ u. (small_as d u (a.fates u) small).decision) (leads a h).quiet)))
+      (let m : Account = record a { fates = λ u. fate_after d u (a.fates u) } in
+      silent_stepped a m (G.faults k.vault) (G.held k.vault) k (record k { coordinator = z }) e x [] h refl so (leads a h)
+      (kept_fated a (G.held k.vault) k m.fates z h (record { run = run_along a.holder.server a.ids.epoch a.ids.transactions k.coordinator z h.coordinator.run along; fates = known a h })
+      (λ still. notes_stay a m (record { event = e; reply = None; acts = [] }) h.quiet (leads a h).lawful (leads a h).leaves on refl (aborts a) a.ids.epoch (G.held k.vault).notes (h.notes still))
+      (λ u. (small_as d u (a.fates u) small).decision) (leads a h).quiet)))
 
 -- ---- a part has applied the commit
 
@@ -138,8 +138,8 @@ module _ {V : Type 0} (G : Ghosts V) (k : ServerState V) (from : ℕ) (t : Trans
   done_kept x z kept along comes so =
       fate_step G k (Acknowledges t j) tt z along comes up (event.Arrive from (msg.Done t j)) x so (λ e. (let wrong : event.Arrive from (msg.Done t j) ≡ event.Restart = e in cc)) (λ a. tt)
       (λ a h.
-          (let o : IsKept (a.fates t) = kept_receipt (a.fates t) (sym (known_receipt a.ids.epoch t j (fate_in k.coordinator t) (a.fates t) (h.coordinator.fates t)) ∙ kept) in
-          done_leads a from t j o.stamp o.joins o.before h.quiet (h.down ∙ up) o.is o.its (unfinished a h o)))
+      (let o : IsKept (a.fates t) = kept_receipt (a.fates t) (sym (known_receipt a.ids.epoch t j (fate_in k.coordinator t) (a.fates t) (h.coordinator.fates t)) ∙ kept) in
+      done_leads a from t j o.stamp o.joins o.before h.quiet (h.down ∙ up) o.is o.its (unfinished a h o)))
       (λ a h u. known-after a.ids.epoch (Acknowledges t j) u (fate_in k.coordinator u) (fate_in z u) (a.fates u) refl (h.coordinator.fates u) (comes u))
     where
       -- a decision that all have applied is forgotten
@@ -189,8 +189,8 @@ module _ {V : Type 0} (G : Ghosts V) (k : ServerState V) (from : ℕ) (t : Trans
   pub vote_dropped : (x : Answer) → ballot_of j ts least (fate_in k.coordinator t) ≡ ballot.Dropped → x ≡ told_answer None [] → IsStepAs G None k k (event.Arrive from (msg.Ready t j ts)) (Ok x)
   vote_dropped x dropped so = quiet_step G k (event.Arrive from (msg.Ready t j ts)) x up so
       (λ a h.
-          (let told : ballot_of j ts least (a.fates t) ≡ ballot.Dropped = ballot_told a (G.held k.vault) ballot.Dropped h dropped in
-          ready_passed_leads a from t j ts h.quiet (h.down ∙ up) (λ acts. unheard (state_of a) acts (a.fates t) told) (unsaid a (why_not_own false (state_of a) t) (a.fates t) told)))
+      (let told : ballot_of j ts least (a.fates t) ≡ ballot.Dropped = ballot_told a (G.held k.vault) ballot.Dropped h dropped in
+      ready_passed_leads a from t j ts h.quiet (h.down ∙ up) (λ acts. unheard (state_of a) acts (a.fates t) told) (unsaid a (why_not_own false (state_of a) t) (a.fates t) told)))
 
   -- others are to come
   pub record IsKeptVote (f : Fate) : Type 0 where
@@ -219,6 +219,6 @@ module _ {V : Type 0} (G : Ghosts V) (k : ServerState V) (from : ℕ) (t : Trans
   vote_kept x z kept along comes so =
       fate_step G k (Hears t j ts) tt z along comes up (event.Arrive from (msg.Ready t j ts)) x so (λ e. (let wrong : event.Arrive from (msg.Ready t j ts) ≡ event.Restart = e in cc)) (λ a. tt)
       (λ a h.
-          (let o : IsKeptVote (a.fates t) = kept_vote (a.fates t) (ballot_told a (G.held k.vault) ballot.Kept h kept) in
-          ready_kept_leads a from t j ts o.client o.joins o.votes h.quiet (h.down ∙ up) o.is o.its o.more))
+      (let o : IsKeptVote (a.fates t) = kept_vote (a.fates t) (ballot_told a (G.held k.vault) ballot.Kept h kept) in
+      ready_kept_leads a from t j ts o.client o.joins o.votes h.quiet (h.down ∙ up) o.is o.its o.more))
       (λ a h u. known-after a.ids.epoch (Hears t j ts) u (fate_in k.coordinator u) (fate_in z u) (a.fates u) refl (h.coordinator.fates u) (comes u))

@@ -253,7 +253,7 @@ module _ {V : Type 0} (a : Account) (held : Contents) (k : ServerState V) (m : �
 
 -- the join's part had not voted: its join goes, its client is to be told, and this is said
 module _ {V : Type 0} (G : Ghosts V) (k : ServerState V) (j : JoinNo) (t : TransId) (client : ℕ) (who : List ℕ) (found : join_of t (join_at k.joins.lives j) ≡ Some (record { join = j; trans = t; client = client; stage = stage.Active who })) (up : k.is_down ≡ false)
-  (ready : IsReadyForMore (G.serves k.vault) k) (c : Cause) (p : LiveJoin → Bool) (so : p (record { join = j; trans = t; client = client; stage = stage.Active who }) ≡ true) (js : Joins) (js_is : js ≡ record k.joins { lives = without j p k.joins.lives }) where
+    (ready : IsReadyForMore (G.serves k.vault) k) (c : Cause) (p : LiveJoin → Bool) (so : p (record { join = j; trans = t; client = client; stage = stage.Active who }) ≡ true) (js : Joins) (js_is : js ≡ record k.joins { lives = without j p k.joins.lives }) where
   abbrev pub active : LiveJoin
   active = record { join = j; trans = t; client = client; stage = stage.Active who }
 
@@ -311,10 +311,10 @@ module _ {V : Type 0} (G : Ghosts V) (k : ServerState V) (j : JoinNo) (t : Trans
         down = ap (λ (s : ServerState V). s.is_down) (let_go_of k t);
       }) up said none causes then_ready then_noted
       (λ a h.
-          (let m : Account = held_end_given a (G.held k.vault) k ready.0 (G.serves k.vault) h ready.2 j t client c move js in
-          silent_stepped a m (G.faults k.vault) (G.held k.vault) k (record (let_go k t) { dead = k.dead ++ (record { client = client; trans = t; cause = c }) ∷ []; joins = js }) e x acts h (ap (λ (s : ServerState V). s.clock) (let_go_of k t)) said (leads a h)
-          (held_ended_as a (G.held k.vault) k ready.0 (G.serves k.vault) h ready.2 j t client c move js up (joined a h)
-          (notes_stay a m (record { event = e; reply = None; acts = acts }) h.quiet (leads a h).lawful (leads a h).leaves on unwritten (aborts a h) a.ids.epoch (G.held k.vault).notes) (leads a h).quiet)))
+      (let m : Account = held_end_given a (G.held k.vault) k ready.0 (G.serves k.vault) h ready.2 j t client c move js in
+      silent_stepped a m (G.faults k.vault) (G.held k.vault) k (record (let_go k t) { dead = k.dead ++ (record { client = client; trans = t; cause = c }) ∷ []; joins = js }) e x acts h (ap (λ (s : ServerState V). s.clock) (let_go_of k t)) said (leads a h)
+      (held_ended_as a (G.held k.vault) k ready.0 (G.serves k.vault) h ready.2 j t client c move js up (joined a h)
+      (notes_stay a m (record { event = e; reply = None; acts = acts }) h.quiet (leads a h).lawful (leads a h).leaves on unwritten (aborts a h) a.ids.epoch (G.held k.vault).notes) (leads a h).quiet)))
 
   -- its life in the journal
   pub record IsHeldBy (a : Account) : Type 0 where
@@ -350,13 +350,13 @@ aborted_active_step G k from j t client who found up ready c js js_is deed x so 
     (so ∙ ap (told_answer None) (sym (append-nil (act.Released t ∷ grant_acts (granted_behind k t))))) (grants_go_with (granted_behind k t) [] refl) (λ before now allowance. grants_caused_with before now allowance (granted_behind k t) [] tt)
     (λ a h. subst (λ (xs : List JoinNo). AreJoins a.holder.server a.ids.epoch a.ids.joins (λ i. cond {A = Phase} (same_join j i) (aborted t (a.phases i)) (a.phases i)) xs js) (append-nil a.joined) (deed (state_of a) h.joins))
     (λ a h.
-        (let b : IsHeldBy G k j t client who found up ready c (λ (l : LiveJoin). same_trans t l.trans) (same_trans-itself t) js js_is a = held_by G k j t client who found up ready c (λ (l : LiveJoin). same_trans t l.trans) (same_trans-itself t) js js_is a h in
-        abort_leads a from t j client b.life c h.quiet (h.down ∙ up) (ap live_in b.phase) (subst (IsHolding t) (sym b.phase) refl) b.lives b.mine b.own (granted_behind k t)
-        (held_walk a (G.held k.vault) k ready.0 (G.serves k.vault) h ready.2 j t client c (aborted t) js)))
+    (let b : IsHeldBy G k j t client who found up ready c (λ (l : LiveJoin). same_trans t l.trans) (same_trans-itself t) js js_is a = held_by G k j t client who found up ready c (λ (l : LiveJoin). same_trans t l.trans) (same_trans-itself t) js js_is a h in
+    abort_leads a from t j client b.life c h.quiet (h.down ∙ up) (ap live_in b.phase) (subst (IsHolding t) (sym b.phase) refl) b.lives b.mine b.own (granted_behind k t)
+    (held_walk a (G.held k.vault) k ready.0 (G.serves k.vault) h ready.2 j t client c (aborted t) js)))
     (λ e. (let wrong : event.Arrive from (msg.Abort t j c) ≡ event.Restart = e in cc)) (grants_write (granted_behind k t) [] refl)
     (λ a h.
-        (let b : IsHeldBy G k j t client who found up ready c (λ (l : LiveJoin). same_trans t l.trans) (same_trans-itself t) js js_is a = held_by G k j t client who found up ready c (λ (l : LiveJoin). same_trans t l.trans) (same_trans-itself t) js js_is a h in
-        ap is_ready b.phase))
+    (let b : IsHeldBy G k j t client who found up ready c (λ (l : LiveJoin). same_trans t l.trans) (same_trans-itself t) js js_is a = held_by G k j t client who found up ready c (λ (l : LiveJoin). same_trans t l.trans) (same_trans-itself t) js js_is a h in
+    ap is_ready b.phase))
 
 -- a vote against a commit never says that a read failed
 pub may_against : {V : Type 0} (k : ServerState V) (client : ℕ) (t : TransId) (j : JoinNo) (w : Why) → why_against k client t ≡ Some w → MaySay (msg.No t j w)

@@ -137,7 +137,7 @@ module _ {V : Type 0} (a : Account) (held : Contents) (k : ServerState V) (m : �
 -- ---- the step
 
 module _ {V : Type 0} (G : Ghosts V) (k : ServerState V) (t : TransId) (client : ℕ) (runs : client_of (fate_in k.coordinator t) ≡ Some client) (up : k.is_down ≡ false) (ready : IsReadyForMore (G.serves k.vault) k) (c : Cause) (z : Coordinator) (along : IsAlong k.coordinator z)
-  (ends : (n : ℕ) → Comes (Ends t n c) k.coordinator z) where
+    (ends : (n : ℕ) → Comes (Ends t n c) k.coordinator z) where
   own : t.server ≡ k.server
   own = ready.2.paired.own t client runs
 
@@ -165,7 +165,7 @@ module _ {V : Type 0} (G : Ghosts V) (k : ServerState V) (t : TransId) (client :
 
   pub lapse_step : (js : List JoinNo) (e : Event) (x : Answer) → x ≡ told_answer None ((act.Released t ∷ grant_acts (granted_behind k t)) ++ said_each (λ i. msg.Abort t i c) js)
       → ((a : Account) (h : IsAs a (G.held k.vault) k) (life : Life) → a.holder.lives t ≡ Some life → life.join ≡ None → life.client ≡ client
-          → Leads false a (record { event = e; reply = None; acts = (act.Released t ∷ grant_acts (granted_behind k t)) ++ said_each (λ i. msg.Abort t i c) js }) (lapsed_given a (G.held k.vault) k ready.0 (G.serves k.vault) h ready.2 t client c z))
+      → Leads false a (record { event = e; reply = None; acts = (act.Released t ∷ grant_acts (granted_behind k t)) ++ said_each (λ i. msg.Abort t i c) js }) (lapsed_given a (G.held k.vault) k ready.0 (G.serves k.vault) h ready.2 t client c z))
       → (e ≡ event.Restart → ⊥) → ((a : Account) → IsAs a (G.held k.vault) k → AbortsNoVote (state_of a) e)
       → IsStepAs G None k (record (let_go k t) { dead = k.dead ++ (record { client = client; trans = t; cause = c }) ∷ []; coordinator = z }) e (Ok x)
   lapse_step js e x said leads on aborts =

@@ -74,7 +74,7 @@ once_more (x ∷ xs) l once none = go (same_join l.join x.join) refl none (once_
     go true e f rest = let wrong : Some x ≡ None = f in cc
     go false e f rest = (
       at_more x.join xs l ∙ ap (λ (y : Option LiveJoin). option_or y (cond {A = Option LiveJoin} (same_join x.join l.join) (Some l) None)) once.0
-      ∙ ap (λ (b : Bool). cond {A = Option LiveJoin} b (Some l) None) (turned_join e (same_join x.join l.join) refl),
+          ∙ ap (λ (b : Bool). cond {A = Option LiveJoin} b (Some l) None) (turned_join e (same_join x.join l.join) refl),
       rest f,
     )
 

@@ -166,7 +166,7 @@ module _ {V : Type 0} (k : ServerState V) (j : JoinNo) (t : TransId) (client : �
 -- ---- the steps
 
 module _ {V : Type 0} (G : Ghosts V) (k : ServerState V) (from : ℕ) (j : JoinNo) (t : TransId) (client : ℕ) (who : List ℕ) (found : join_of t (join_at k.joins.lives j) ≡ Some (record { join = j; trans = t; client = client; stage = stage.Joining who })) (up : k.is_down ≡ false)
-  (ready : IsReadyForMore (G.serves k.vault) k) (c : Cause) (joins : Joins) (quits : joins ≡ with_quit k.joins j) (deed : (s : State) → AreJoinsOf s k.joins → AreJoinsOf (state_deed s (Quits j t client (Some c))) joins) where
+    (ready : IsReadyForMore (G.serves k.vault) k) (c : Cause) (joins : Joins) (quits : joins ≡ with_quit k.joins j) (deed : (s : State) → AreJoinsOf s k.joins → AreJoinsOf (state_deed s (Quits j t client (Some c))) joins) where
   after_ready : (n : ℕ) → IsReady n (G.serves k.vault) k → IsReady (n + 1) (G.serves k.vault) (record k { dead = k.dead ++ (record { client = client; trans = t; cause = c }) ∷ []; joins = joins })
   after_ready n h =
       subst (λ (js : Joins). IsReady (n + 1) (G.serves k.vault) (record k { dead = k.dead ++ (record { client = client; trans = t; cause = c }) ∷ []; joins = js })) (sym quits)

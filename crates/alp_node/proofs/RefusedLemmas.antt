@@ -85,7 +85,7 @@ module _ (client : ℕ) (t : TransId) (lives : LiveMap) (other : (l : Live) → 
 -- ---- the step
 
 module _ {V : Type 0} (G : Ghosts V) (k : ServerState V) (from : ℕ) (j : JoinNo) (t : TransId) (client : ℕ) (who : List ℕ) (found : join_of t (join_at k.joins.lives j) ≡ Some (record { join = j; trans = t; client = client; stage = stage.Joining who })) (up : k.is_down ≡ false)
-  (ready : IsReadyForMore (G.serves k.vault) k) (joins : Joins) (quits : joins ≡ with_quit k.joins j) (deed : (s : State) → AreJoinsOf s k.joins → AreJoinsOf (state_deed s (Quits j t client None)) joins) where
+    (ready : IsReadyForMore (G.serves k.vault) k) (joins : Joins) (quits : joins ≡ with_quit k.joins j) (deed : (s : State) → AreJoinsOf s k.joins → AreJoinsOf (state_deed s (Quits j t client None)) joins) where
   -- who is live of it is another client's
   other : (n : ℕ) → IsReady n (G.serves k.vault) k → (l : Live) → map.get k.lives t ≡ Some l → (l.client == client) ≡ false
   other n h l live = go (l.client == client) refl

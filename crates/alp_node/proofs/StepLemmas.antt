@@ -130,6 +130,7 @@ module _ {V : Type 0} (G : Ghosts V) (k new : ServerState V) where
       (ended_ready n k t z k.joins turn (G.serves k.vault) r (own_lets n (G.serves k.vault) k t z k.clock (lets_end k.coordinator z t cause k.clock along ends h.times) own h) is (record { inside = tt; times = tt }) h))
       (λ told a h. subst (λ (y : ServerState V). Stepped a (G.faults k.vault) (G.faults k.vault) (G.held k.vault) y (event.Call turn.client k.epoch turn.number c) x) (sym done) (steps told a h))
       (counts_refused k new turn is c (refusal.Aborted cause) tt (ap (λ (y : ServerState V). y.clock) done ∙ ended_as k turn t r (λ (y : ServerState V). y.clock)) (ap (λ (y : ServerState V). y.sessions) done))
+
 -- what its notes tell of stays as its part goes: of a decision without parts elsewhere, or of none, there is no note
 pub ended_notes : {V : Type 0} (n : ℕ) (serves : Bool) (k : ServerState V) (turn : Turn) (t : TransId) (r : Reply) (z : Coordinator) → IsReady n serves k → t.server ≡ k.server → ((u : TransId) → decision_kept (fate_in z u) ≡ decision_kept (fate_in k.coordinator u))
     → KeepsNotes k (record (ended k turn t r) { coordinator = z })

@@ -23,8 +23,8 @@ use alp_fields::{ClockNote, Decision, JoinList, clock_change, decision_change};
 use alp_files::Why;
 use alp_journal::{Act, Parts};
 use alp_vault::Vault;
-use std::alloc::Global;
 use alp_worker::{PartSize, ReadySum, first_why, votes_look_at_the_sum, walks_are_alike};
+use std::alloc::Global;
 
 /// The last time of a clock.
 const CLOCK_END: u64 = 1 << 62;
@@ -96,11 +96,7 @@ impl<V: Vault> ServerState<V> {
     }
 
     /// What is in the way of the vote of the client's part of another server's transaction.
-    pub(super) fn why_not(
-        &self,
-        client: u8,
-        trans: &TransId,
-    ) -> Result<Option<Why>, OutOfMemory>
+    pub(super) fn why_not(&self, client: u8, trans: &TransId) -> Result<Option<Why>, OutOfMemory>
         requires live { map.get self.now.lives trans.now ≢ None }
         requires ready { IsReadyForMore (V.serves self.now.vault) self.now }
         ensures same { IfOk result (λ w. w ≡ why_against self.now client trans.now) }
@@ -148,11 +144,7 @@ impl<V: Vault> ServerState<V> {
     }
 
     /// What a decision takes of memory.
-    pub(super) fn decision(
-        &self,
-        stamp: Stamp,
-        joins: &[JoinNo],
-    ) -> Result<Pending, OutOfMemory>
+    pub(super) fn decision(&self, stamp: Stamp, joins: &[JoinNo]) -> Result<Pending, OutOfMemory>
         requires time { stamp.ts ≤ 2 ^ 62 }
         requires few { length joins.now ≤ 7 }
         ensures { IfOk result (λ p. IsPending self.now stamp joins.now p) }

@@ -54,12 +54,7 @@ impl<V: Vault> ServerState<V> {
     }
 
     // A join that was drawn here and is not live has applied it, or nothing.
-    fn done_before(
-        &self,
-        trans: TransId,
-        join: JoinNo,
-        stamp: Stamp,
-    ) -> Result<Answer, OutOfMemory>
+    fn done_before(&self, trans: TransId, join: JoinNo, stamp: Stamp) -> Result<Answer, OutOfMemory>
         requires none { join_at self.now.joins.lives join ≡ None }
         requires up { self.now.is_down ≡ false }
         ensures { (from : ℕ) → IsStepAs V.Vault None self.now self.now (event.Arrive from (msg.Commit trans join stamp)) result }
@@ -72,12 +67,7 @@ impl<V: Vault> ServerState<V> {
     }
 
     // A ready part is applied: its intents, the clock and the end of its note stand in one write. Then it lets go.
-    fn apply(
-        &mut self,
-        trans: TransId,
-        join: JoinNo,
-        stamp: Stamp,
-    ) -> Result<Answer, OutOfMemory>
+    fn apply(&mut self, trans: TransId, join: JoinNo, stamp: Stamp) -> Result<Answer, OutOfMemory>
         requires voted { (client : ℕ) × (ts : ℕ) × (join_at self.old.joins.lives join ≡ Some (record { join = join; trans = trans; client = client; stage = stage.Ready ts })) }
         requires of { stamp.trans ≡ trans }
         requires up { self.old.is_down ≡ false }

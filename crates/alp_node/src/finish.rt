@@ -216,8 +216,7 @@ impl<V: Vault> ServerState<V> {
         })?;
         self.coordinator.finish(&trans);
         tell_asks(&mut acts, trans, joins);
-        self.sessions
-            .count(turn, Reply::Refused(Refusal::NotYet));
+        self.sessions.count(turn, Reply::Refused(Refusal::NotYet));
         Ok(Answer::refused(Refusal::NotYet, Acts::new(acts)))
     }
 

@@ -110,8 +110,7 @@ impl<V: Vault> ServerState<V> {
                 client,
             },
         });
-        self.sessions
-            .count(turn, Reply::Refused(Refusal::NotYet));
+        self.sessions.count(turn, Reply::Refused(Refusal::NotYet));
         Ok(Answer::refused(Refusal::NotYet, Acts::new(acts)))
     }
 

@@ -105,12 +105,7 @@ impl<V: Vault> ServerState<V> {
     }
 
     // An active part votes for the commit, once its note stands. From then on it does what its coordinator says.
-    fn vote_for(
-        &mut self,
-        trans: TransId,
-        join: JoinNo,
-        client: u8,
-    ) -> Result<Answer, OutOfMemory>
+    fn vote_for(&mut self, trans: TransId, join: JoinNo, client: u8) -> Result<Answer, OutOfMemory>
         requires active { (who : List ℕ) × (join_of trans (join_at self.old.joins.lives join) ≡ Some (record { join = join; trans = trans; client = client; stage = stage.Active who })) }
         requires may { why_against self.old client trans ≡ None }
         requires up { self.old.is_down ≡ false }
@@ -199,15 +194,16 @@ impl<V: Vault> ServerState<V> {
             return Ok(self.silence());
         }
         let server = join.server;
-        self.lapse(trans, client, joins.as_slice(), Cause::Voted { server, why })
+        self.lapse(
+            trans,
+            client,
+            joins.as_slice(),
+            Cause::Voted { server, why },
+        )
     }
 
     /// Time runs out for a transaction of this server.
-    pub(super) fn time_out_own(
-        &mut self,
-        trans: TransId,
-        client: u8,
-    ) -> Result<Answer, OutOfMemory>
+    pub(super) fn time_out_own(&mut self, trans: TransId, client: u8) -> Result<Answer, OutOfMemory>
         requires runs { client_of (fate_in self.old.coordinator trans) ≡ Some client }
         requires up { self.old.is_down ≡ false }
         requires ready { IsReadyForMore (V.serves self.old.vault) self.old }

@@ -102,9 +102,19 @@ props_most : (p : Props) → props.Fits p → length (props.spell p) ≤ 278
 unfolding props
 props_most p fits =
     let whole : length (props.spell p) ≡ length (name.spell p.owner ++ (name.spell p.name ++ (numbers.spell (numbers_of p) ++ (list.spell p.read ++ list.spell p.modify)))) = refl in
-    omega (arith, whole, length-append (name.spell p.owner) (name.spell p.name ++ (numbers.spell (numbers_of p) ++ (list.spell p.read ++ list.spell p.modify))), length-append (name.spell p.name) (numbers.spell (numbers_of p) ++ (list.spell p.read ++ list.spell p.modify)),
-    length-append (numbers.spell (numbers_of p)) (list.spell p.read ++ list.spell p.modify), length-append (list.spell p.read) (list.spell p.modify),
-    name_most p.owner fits.0, name_most p.name fits.1.0, numbers_length p, list_most p.read fits.1.1.1.0, list_most p.modify fits.1.1.1.1)
+    omega (
+      arith,
+      whole,
+      length-append (name.spell p.owner) (name.spell p.name ++ (numbers.spell (numbers_of p) ++ (list.spell p.read ++ list.spell p.modify))),
+      length-append (name.spell p.name) (numbers.spell (numbers_of p) ++ (list.spell p.read ++ list.spell p.modify)),
+      length-append (numbers.spell (numbers_of p)) (list.spell p.read ++ list.spell p.modify),
+      length-append (list.spell p.read) (list.spell p.modify),
+      name_most p.owner fits.0,
+      name_most p.name fits.1.0,
+      numbers_length p,
+      list_most p.read fits.1.1.1.0,
+      list_most p.modify fits.1.1.1.1,
+    )
 
 page_length : (bytes : List ℕ) → page.Fits bytes → length (page.spell bytes) ≡ 512
 unfolding page
@@ -150,9 +160,19 @@ ready_most p fits =
     let locks : length ((rising lock).spell p.locks) ≤ 2 + length p.locks * 27 = rising_most lock 27 lock_most p.locks fits.1.1.1.0 in
     let change : length (change_form.spell p.change) ≤ 6 + changed_cells p.change * 538 = change_most p.change fits.1.1.1.1 in
     let whole : length (ready_form.spell p) ≡ length (trans_id.spell p.trans ++ (u64.spell p.ts ++ (u8.spell p.client ++ ((rising lock).spell p.locks ++ change_form.spell p.change)))) = refl in
-    omega (arith, whole, locks, change, trans_length p.trans, u64_length p.ts, u8_length p.client,
-    length-append (trans_id.spell p.trans) (u64.spell p.ts ++ (u8.spell p.client ++ ((rising lock).spell p.locks ++ change_form.spell p.change))), length-append (u64.spell p.ts) (u8.spell p.client ++ ((rising lock).spell p.locks ++ change_form.spell p.change)),
-    length-append (u8.spell p.client) ((rising lock).spell p.locks ++ change_form.spell p.change), length-append ((rising lock).spell p.locks) (change_form.spell p.change))
+    omega (
+      arith,
+      whole,
+      locks,
+      change,
+      trans_length p.trans,
+      u64_length p.ts,
+      u8_length p.client,
+      length-append (trans_id.spell p.trans) (u64.spell p.ts ++ (u8.spell p.client ++ ((rising lock).spell p.locks ++ change_form.spell p.change))),
+      length-append (u64.spell p.ts) (u8.spell p.client ++ ((rising lock).spell p.locks ++ change_form.spell p.change)),
+      length-append (u8.spell p.client) ((rising lock).spell p.locks ++ change_form.spell p.change),
+      length-append ((rising lock).spell p.locks) (change_form.spell p.change),
+    )
 
 -- a decision's
 pub decision_most : (d : Decision) → decision_form.Fits d → length (decision_form.spell d) ≤ 72

@@ -21,11 +21,13 @@ loop-join-preserved c =
     let j : JoinNo = slice_index_or js i none in
     let one : suc i ≡ i + 1 = omega arith in
     let next : drop i js ≡ j ∷ drop (i + 1) js = drop-cons js i none c.loop-join-test.true ∙ ap (λ (n : ℕ). j ∷ drop n js) one in
-    let pushed : c.push_reserved.new.self.items ≡ c.loop-join.acts.items ++ act.Sent j.server ((λ (j : JoinNo). msg.Abort c.args.trans j c.args.cause) j) ∷ [] = c.push_reserved.ensures.items in
-    (ap (λ (xs : List Act). xs ++ said_each (λ (j : JoinNo). msg.Abort c.args.trans j c.args.cause) (drop (i + 1) js)) pushed
-    ∙ append_assoc c.loop-join.acts.items (act.Sent j.server ((λ (j : JoinNo). msg.Abort c.args.trans j c.args.cause) j) ∷ []) (said_each (λ (j : JoinNo). msg.Abort c.args.trans j c.args.cause) (drop (i + 1) js))
-    ∙ ap (λ (xs : List JoinNo). c.loop-join.acts.items ++ said_each (λ (j : JoinNo). msg.Abort c.args.trans j c.args.cause) xs) (sym next) ∙ c.loop-join.invariant.0,
-    omega (arith, ap length pushed, length-append c.loop-join.acts.items (act.Sent j.server ((λ (j : JoinNo). msg.Abort c.args.trans j c.args.cause) j) ∷ []), c.loop-join.invariant.1), c.push_reserved.ensures.capacity ∙ c.loop-join.invariant.2)
+    let pushed : c.push_reserved.new.self.items ≡ c.loop-join.acts.items ++ act.Sent j.server ((λ (j : JoinNo). msg.Abort c.args.trans j c.args.cause) j) ∷ [] = c.push_reserved.ensures.items in (
+      ap (λ (xs : List Act). xs ++ said_each (λ (j : JoinNo). msg.Abort c.args.trans j c.args.cause) (drop (i + 1) js)) pushed
+          ∙ append_assoc c.loop-join.acts.items (act.Sent j.server ((λ (j : JoinNo). msg.Abort c.args.trans j c.args.cause) j) ∷ []) (said_each (λ (j : JoinNo). msg.Abort c.args.trans j c.args.cause) (drop (i + 1) js))
+          ∙ ap (λ (xs : List JoinNo). c.loop-join.acts.items ++ said_each (λ (j : JoinNo). msg.Abort c.args.trans j c.args.cause) xs) (sym next) ∙ c.loop-join.invariant.0,
+      omega (arith, ap length pushed, length-append c.loop-join.acts.items (act.Sent j.server ((λ (j : JoinNo). msg.Abort c.args.trans j c.args.cause) j) ∷ []), c.loop-join.invariant.1),
+      c.push_reserved.ensures.capacity ∙ c.loop-join.invariant.2,
+    )
 
 pub returns : goal.returns
 returns c =

@@ -22,8 +22,8 @@ pub returns-in_default-stage : goal.returns-in_default-stage
 returns-in_default-stage g c from =
     unasked_step g.V.Vault c.args.self.now from c.args.join.now c.args.trans c.silence-in_default-stage.result c.requires.up c.silence-in_default-stage.ensures
     (λ client who found.
-        let same = same_some c.in-Some.live (record { join = c.args.join.now; trans = c.args.trans; client = client; stage = stage.Joining who }) (sym c.in-Some.is ∙ c.join_at.ensures ∙ found) in
-        c.in_default-stage.not-Joining who (ap (λ (y : LiveJoin). y.stage) same))
+    let same = same_some c.in-Some.live (record { join = c.args.join.now; trans = c.args.trans; client = client; stage = stage.Joining who }) (sym c.in-Some.is ∙ c.join_at.ensures ∙ found) in
+    c.in_default-stage.not-Joining who (ap (λ (y : LiveJoin). y.stage) same))
 
 -- it is over
 pub returns : goal.returns

@@ -44,8 +44,8 @@ returns-in_default-stage g c from =
     let j = c.args.join.now in
     passed_step g.V.Vault k from t j c.silence-in_default-stage.result c.requires.up c.silence-in_default-stage.ensures
     (λ a held h one.
-        let same = same_some c.in-Some.found (record { join = j; trans = t; client = one.client; stage = stage.Joining one.who }) (sym c.in-Some.is ∙ let_in_found a held k t j h one c.join_at.result c.join_at.ensures) in
-        c.in_default-stage.not-Joining one.who (ap (λ (x : LiveJoin). x.stage) same))
+    let same = same_some c.in-Some.found (record { join = j; trans = t; client = one.client; stage = stage.Joining one.who }) (sym c.in-Some.is ∙ let_in_found a held k t j h one c.join_at.result c.join_at.ensures) in
+    c.in_default-stage.not-Joining one.who (ap (λ (x : LiveJoin). x.stage) same))
 
 -- its transaction has a part here
 pub returns-then-is_some : goal.returns-then-is_some
