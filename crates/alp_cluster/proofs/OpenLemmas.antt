@@ -2,7 +2,7 @@
 use Rattle.std.specs.Prelude.{◌⊎◌, ◌↔◌, Bool, true, false, map as list_map, slice_get, IsTrue, Option, None, Some}
 use Rattle.std.specs.List.{AllByRecursion, Contains}
 use Rattle.std.proofs.lemmas.Bool.{cases_eq}
-use Rattle.std.proofs.Common.{inl, inr, ◌≡◌, ℕ, zero, suc, ◌+◌, ◌-◌, ◌<◌, ◌≤◌, List, [], ◌∷◌, length, refl, sym, ◌∙◌, ap, subst, arith}
+use Rattle.std.proofs.Common.{inl, inr, ◌≡◌, ℕ, zero, suc, ◌+◌, ◌-◌, ◌<◌, ◌≤◌, List, [], ◌∷◌, length, get_or, refl, sym, ◌∙◌, ap, subst, arith}
 use Rattle.alp_base.specs.declared.ids.TransId.{TransId}
 use Rattle.alp_journal.specs.Coordinator.{Fate, Undrawn, Running, Finishing, Committed, Forgotten, Ended}
 use Rattle.alp_journal.specs.State.{State}
@@ -19,7 +19,7 @@ use Rattle.alp_cluster.specs.Stations.{AreOn, IsOneOf, course_of}
 use Rattle.alp_cluster.specs.declared.station.Station.{Station}
 use Rattle.alp_cluster.specs.declared.stations.Stations.{Stations}
 use Rattle.alp_course.proofs.RankLemmas.{get_below}
-use Rattle.alp_cluster.proofs.StationsLemmas.{same_some, seat_stands}
+use Rattle.alp_cluster.proofs.StationsLemmas.{same_some, read_some, seat_stands}
 
 -- ---- what is open
 
@@ -45,6 +45,10 @@ least_same s x h = record {
   are = record { rise = h.are.rise; parts = λ t. ((λ c. part_to s t ((h.are.parts t).0 c)), (λ p. (h.are.parts t).1 (part_back s t p))) };
   first = h.first;
 }
+
+-- what a loop reads at a place of a copy of the list
+pub read_at : {X : Type 0} (xs ys : List X) → ys ≡ xs → (i : ℕ) (x : X) → i < length ys → x ≡ get_or ys i x → slice_get xs i ≡ Some x
+read_at {X} xs ys same i x low is = subst (λ (zs : List X). slice_get zs i ≡ Some x) same (read_some ys i x low (sym is))
 
 -- ---- whether it is at rest
 

@@ -1,5 +1,5 @@
 //! How messages come from one server of a run to another.
-ghost use Rattle.std.specs.Prelude.{◌≡◌, ◌∷◌, [], Ok, OnOk, IfOk, IfSome, length};
+ghost use Rattle.std.specs.Prelude.{◌≡◌, ◌||◌, ◌∷◌, [], Ok, OnOk, IfOk, IfSome, length};
 ghost use Rattle.alp_node.specs.Halts.{IsTimelyMessage};
 ghost use Rattle.alp_course.specs.Courses.{looks, brings, loses, repeats, next_message as next_of};
 ghost use Rattle.alp_course.specs.Languages.{Just};
@@ -14,6 +14,13 @@ use crate::fault::RunFault;
 use crate::stations::Stations;
 use alp_journal::{Event, Message};
 use alp_vault::Vault;
+
+// Whether one of the two holds.
+fn is_either(one: bool, other: bool) -> bool
+    ensures { result ≡ one || other }
+{
+    one || other
+}
 
 impl<V: Vault> Stations<V> {
     // The next message of one server to another that was not taken.
@@ -195,7 +202,7 @@ impl<V: Vault> Stations<V> {
         let mut some = false;
         for place in 0..self.count() {
             let more = self.carry_to(from, place + 1)?;
-            some = more || some;
+            some = is_either(more, some);
         }
         Ok(some)
     }
@@ -210,7 +217,7 @@ impl<V: Vault> Stations<V> {
         let mut some = false;
         for place in 0..self.count() {
             let more = self.carry_from(place + 1)?;
-            some = more || some;
+            some = is_either(more, some);
         }
         Ok(some)
     }

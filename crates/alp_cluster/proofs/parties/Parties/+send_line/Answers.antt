@@ -60,7 +60,7 @@ returns-in_default-clause-ended g t c =
       [],
       s.clients,
       omega arith,
-      line_timed g.V.Vault s.clients e.clients c.in_ok-carry_before.ensures.clients s.stations e.stations c.args.client c.args.line.now c.args.next c.requires.step c.in_ok-carry_before.ensures.did f c.time_out.new.self.stations c.due.result c.due.ensures d,
+      line_timed g.V.Vault s.clients e.clients c.in_ok-carry_before.ensures.clients s.stations e.stations c.args.client c.args.line.now c.args.next c.requires.step c.in_ok-carry_before.ensures.did f c.time_out.new.self.stations c.due-due.result c.due-due.ensures d,
     ))
     c.time_out.ensures.ended
 
@@ -74,8 +74,8 @@ returns-in_default-clause-did g t c =
       times_out e.clients c.args.client c.args.next,
       omega arith,
       sym (append-nil c.args.items.now.items),
-      line_over g.V.Vault s.clients e.clients c.in_ok-carry_before.ensures.clients s.stations e.stations c.args.client c.args.line.now c.args.next c.requires.step c.in_ok-carry_before.ensures.did c.time_out.new.self.stations c.due.result
-          (sym c.in_ok-frame.ensures.frame ∙ c.in_default.is) c.due.ensures d,
+      line_over g.V.Vault s.clients e.clients c.in_ok-carry_before.ensures.clients s.stations e.stations c.args.client c.args.line.now c.args.next c.requires.step c.in_ok-carry_before.ensures.did c.time_out.new.self.stations c.due-due.result
+          (sym c.in_ok-frame.ensures.frame ∙ c.in_default.is) c.due-due.ensures d,
     ))
     c.time_out.ensures.did
 

@@ -17,9 +17,9 @@ carry_pair-requires-clause-apart g c = record { sender = c.requires.from; receiv
 pub returns-clause-did : goal.returns-clause-did
 returns-clause-did g c =
     IfOk-weaker c.carry_pair.result _ _
-    (λ some d. say_map g.V.Vault (ArePairCarried c.args.from c.args.to) (CarriesTo c.args.from c.args.to) some c.args.self.now c.carry_pair.new.self (other_word c.args.from c.args.to c.if-from-to.false) d) c.carry_pair.ensures.did
+    (λ some d. say_map g.V.Vault (ArePairCarried c.args.from c.args.to) (CarriesTo c.args.from c.args.to) some c.args.self.now c.carry_pair.new.self (other_word g.V.Vault c.args.from c.args.to c.if-from-to.false) d) c.carry_pair.ensures.did
 
 pub returns-clause-ended : goal.returns-clause-ended
 returns-clause-ended g c =
     end_map c.carry_pair.result _ _
-    (λ f d. some_map g.V.Vault (ArePairCarried c.args.from c.args.to) (CarriesTo c.args.from c.args.to) f c.args.self.now c.carry_pair.new.self (other_word c.args.from c.args.to c.if-from-to.false) d) c.carry_pair.ensures.ended
+    (λ f d. some_map g.V.Vault (ArePairCarried c.args.from c.args.to) (CarriesTo c.args.from c.args.to) f c.args.self.now c.carry_pair.new.self (other_word g.V.Vault c.args.from c.args.to c.if-from-to.false) d) c.carry_pair.ensures.ended

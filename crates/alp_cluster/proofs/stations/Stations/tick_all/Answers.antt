@@ -12,14 +12,14 @@ use Rattle.alp_cluster.proofs.stations.Stations.tick_all.Goals as goal
 pub loop-place-init : goal.loop-place-init
 loop-place-init g c = record { did = each_none g.V.Vault IsTicked c.args.self.now c.requires.on; gone = gone_none g.V.Vault (Unit {0}) c.args.self.now (tt {0}) }
 
-pub overflow_add-happen : goal.overflow_add-happen
-overflow_add-happen g c = next_small g.V.Vault c.args.self.now c.loop-place.place c.count.result c.requires.on c.count.ensures c.loop-place-test.true
+pub overflow_add-place : goal.overflow_add-place
+overflow_add-place g c = next_small g.V.Vault c.args.self.now c.loop-place.place c.count-place-end.result c.requires.on c.count-place-end.ensures c.loop-place-test.true
 
 pub happen-requires-clause-on : goal.happen-requires-clause-on
 happen-requires-clause-on g c = c.loop-place.invariant.did.goes.later.on
 
 pub happen-requires-clause-server : goal.happen-requires-clause-server
-happen-requires-clause-server g c = next_one g.V.Vault c.args.self.now c.loop-place.self c.loop-place.place c.count.result c.loop-place.invariant.did.goes.later c.count.ensures c.loop-place-test.true
+happen-requires-clause-server g c = next_one g.V.Vault c.args.self.now c.loop-place.self c.loop-place.place c.count-place-end.result c.loop-place.invariant.did.goes.later c.count-place-end.ensures c.loop-place-test.true
 
 pub happen-requires-clause-event : goal.happen-requires-clause-event
 happen-requires-clause-event g c = (ticked, refl)
@@ -33,7 +33,7 @@ pub returns-in_err-happen-clause-ended : goal.returns-in_err-happen-clause-ended
 returns-in_err-happen-clause-ended g c =
     let s = c.args.self.now in
     end_on c.in_err-happen.field-0.0 c.from_residual.result _ _ (handed_on c.in_err-happen.field-0.0 c.from_residual.result c.from_residual.ensures.0 c.from_residual.ensures.1)
-    (λ f d. each_some g.V.Vault IsTicked ticked_has f c.loop-place.place (length s.all.items) s c.loop-place.self c.happen.new.self (omega (arith, c.count.ensures, c.loop-place-test.true)) c.loop-place.invariant.did (d ticked refl)) c.in_err-happen.ensures.ended
+    (λ f d. each_some g.V.Vault IsTicked ticked_has f c.loop-place.place (length s.all.items) s c.loop-place.self c.happen.new.self (omega (arith, c.count-place-end.ensures, c.loop-place-test.true)) c.loop-place.invariant.did (d ticked refl)) c.in_err-happen.ensures.ended
 
 pub loop-place-preserved : goal.loop-place-preserved
 loop-place-preserved g c = record {
@@ -45,4 +45,4 @@ loop-place-preserved g c = record {
 pub returns-clause-did : goal.returns-clause-did
 returns-clause-did g c =
     did_count g.V.Vault (Each IsTicked) c.loop-place.place (length c.args.self.now.all.items) c.args.self.now c.loop-place.self
-    (all_done g.V.Vault c.args.self.now c.loop-place.place c.count.result c.count.ensures c.loop-place.auto.place-end c.loop-place-test.false) c.loop-place.invariant.did
+    (all_done g.V.Vault c.args.self.now c.loop-place.place c.count-place-end.result c.count-place-end.ensures c.loop-place.auto.place-end c.loop-place-test.false) c.loop-place.invariant.did

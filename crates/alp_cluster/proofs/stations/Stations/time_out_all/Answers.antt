@@ -11,19 +11,19 @@ use Rattle.alp_cluster.proofs.stations.Stations.time_out_all.Goals as goal
 pub loop-place-init : goal.loop-place-init
 loop-place-init g c = record { did = each_none g.V.Vault AreTimedOut c.args.self.now c.requires.on; gone = gone_none g.V.Vault (Unit {0}) c.args.self.now (tt {0}); up = c.requires.up }
 
-pub overflow_add-time_out_at : goal.overflow_add-time_out_at
-overflow_add-time_out_at g c = next_small g.V.Vault c.args.self.now c.loop-place.place c.count.result c.requires.on c.count.ensures c.loop-place-test.true
+pub overflow_add-place : goal.overflow_add-place
+overflow_add-place g c = next_small g.V.Vault c.args.self.now c.loop-place.place c.count-place-end.result c.requires.on c.count-place-end.ensures c.loop-place-test.true
 
 pub time_out_at-requires-clause-on : goal.time_out_at-requires-clause-on
 time_out_at-requires-clause-on g c = c.loop-place.invariant.did.goes.later.on
 
 pub time_out_at-requires-clause-server : goal.time_out_at-requires-clause-server
-time_out_at-requires-clause-server g c = next_one g.V.Vault c.args.self.now c.loop-place.self c.loop-place.place c.count.result c.loop-place.invariant.did.goes.later c.count.ensures c.loop-place-test.true
+time_out_at-requires-clause-server g c = next_one g.V.Vault c.args.self.now c.loop-place.self c.loop-place.place c.count-place-end.result c.loop-place.invariant.did.goes.later c.count-place-end.ensures c.loop-place-test.true
 
 pub time_out_at-requires-clause-up : goal.time_out_at-requires-clause-up
 time_out_at-requires-clause-up g c =
     c.loop-place.invariant.up (c.loop-place.place + 1)
-    (next_seat g.V.Vault c.loop-place.self c.loop-place.place (next_one g.V.Vault c.args.self.now c.loop-place.self c.loop-place.place c.count.result c.loop-place.invariant.did.goes.later c.count.ensures c.loop-place-test.true))
+    (next_seat g.V.Vault c.loop-place.self c.loop-place.place (next_one g.V.Vault c.args.self.now c.loop-place.self c.loop-place.place c.count-place-end.result c.loop-place.invariant.did.goes.later c.count-place-end.ensures c.loop-place-test.true))
 
 pub returns-in_err-time_out_at-clause-gone : goal.returns-in_err-time_out_at-clause-gone
 returns-in_err-time_out_at-clause-gone g c =
@@ -34,7 +34,7 @@ pub returns-in_err-time_out_at-clause-ended : goal.returns-in_err-time_out_at-cl
 returns-in_err-time_out_at-clause-ended g c =
     let s = c.args.self.now in
     end_on c.in_err-time_out_at.field-0.0 c.from_residual.result _ _ (handed_on c.in_err-time_out_at.field-0.0 c.from_residual.result c.from_residual.ensures.0 c.from_residual.ensures.1)
-    (λ f d. each_some g.V.Vault AreTimedOut timed_has f c.loop-place.place (length s.all.items) s c.loop-place.self c.time_out_at.new.self (omega (arith, c.count.ensures, c.loop-place-test.true)) c.loop-place.invariant.did d) c.in_err-time_out_at.ensures.ended
+    (λ f d. each_some g.V.Vault AreTimedOut timed_has f c.loop-place.place (length s.all.items) s c.loop-place.self c.time_out_at.new.self (omega (arith, c.count-place-end.ensures, c.loop-place-test.true)) c.loop-place.invariant.did d) c.in_err-time_out_at.ensures.ended
 
 pub loop-place-preserved : goal.loop-place-preserved
 loop-place-preserved g c = record {
@@ -47,4 +47,4 @@ loop-place-preserved g c = record {
 pub returns-clause-did : goal.returns-clause-did
 returns-clause-did g c =
     did_count g.V.Vault (Each AreTimedOut) c.loop-place.place (length c.args.self.now.all.items) c.args.self.now c.loop-place.self
-    (all_done g.V.Vault c.args.self.now c.loop-place.place c.count.result c.count.ensures c.loop-place.auto.place-end c.loop-place-test.false) c.loop-place.invariant.did
+    (all_done g.V.Vault c.args.self.now c.loop-place.place c.count-place-end.result c.count-place-end.ensures c.loop-place.auto.place-end c.loop-place-test.false) c.loop-place.invariant.did
