@@ -38,3 +38,4 @@ pub mod LoopLemmas
 pub mod OtherLemmas
 pub mod SendLemmas
 pub mod LeftLemmas
+pub mod RestLemmas

@@ -36,6 +36,7 @@ use Rattle.alp_cluster.specs.declared.fault.RunFault.{RunFault}
 use Rattle.alp_cluster.specs.declared.stations.Stations.{Stations}
 use Rattle.alp_cluster.proofs.DidLemmas.{passes_course}
 use Rattle.alp_cluster.proofs.LineLemmas.{said_goes}
+use Rattle.alp_cluster.proofs.RestLemmas.{rested_alone}
 
 -- ---- one line more
 
@@ -149,11 +150,15 @@ module _ {V : Type 0} (G : Ghosts V) (servers : ℕ) (ls : List NumberedLine) (c
       let many : length (list_map (seat_of G) s.all.items) ≡ servers = length-map s.all.items (seat_of G) ∙ h.count in
       lifting_up (course_of G s) (course_of G t) e.hs (subst (λ (n : ℕ). IsSettling n e.hs) (sym many) e.word) (passes_course G e.hs s t e.goes.passes)
 
+  did_alone : Did G (IsSettling servers) s t → servers ≡ 1 → Did G (IsSettling 1) s t
+  did_alone e one = subst (λ (n : ℕ). Did G (IsSettling n) s t) one e
+
   pub played_out : length ls < 2 ^ 29 → Did G (IsSettling servers) s t → HasPlayedOut G servers ls t lists text
   played_out low e = record {
     on = e.goes.later.on;
     count = count_more t e.hs e.goes;
     up = up_then e;
+    rests = λ one told. rested_alone G s t h.step.on (did_alone e one) (h.count ∙ one) told;
     turns = h.turns;
     hs = h.happened ++ e.hs;
     played = record { clients = c; by_lines = h.happened; behind = e.hs; are = refl; plays = h.plays; settles = e.word };

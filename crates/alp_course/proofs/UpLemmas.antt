@@ -50,7 +50,7 @@ pub timeout_up : (r after : Course) (n : ℕ) (t : TransId) → Occurs r (at n (
 timeout_up r after n t a up = subst IsUpIn (sym (seat_there r after n (seat_after (seat_at r n) 0 a.entries a.stand) a.here a.seats)) (stays_up (seat_at r n) 0 (event.Timeout t) a.entries a.stand up a.made)
 
 -- of what occurs behind the lifting
-abbrev IsCalm : Occurrence → Type 0
+abbrev pub IsCalm : Occurrence → Type 0
 IsCalm (at n (timed_out t)) = Unit {0}
 IsCalm (at n ticked) = Unit {0}
 IsCalm (at n (finds least)) = Unit {0}
@@ -145,6 +145,9 @@ calm_further A calm false ys t = calm_then (Just (rests false ∷ [])) A (λ zs 
 calm_rounds : (servers most : ℕ) → Calm (AreRounds servers most)
 calm_rounds servers zero xs h = calm_none xs h
 calm_rounds servers (suc k) xs (is_rest, h) = calm_then (IsRound servers) (Further is_rest (AreRounds servers k)) (calm_round servers) (calm_further (AreRounds servers k) (calm_rounds servers k) is_rest) xs h
+
+pub calm_rounds_all : (servers most : ℕ) (xs : List Occurrence) → AreRounds servers most xs → AllByRecursion IsCalm xs
+calm_rounds_all servers most = calm_rounds servers most
 
 -- ---- lifting
 

@@ -4,9 +4,10 @@ use Rattle.std.proofs.lemmas.Result.{on_ok_weaker}
 use Rattle.alp_journal.specs.declared.log.Item.{Item}
 use Rattle.alp_session.proofs.CallLemmas.{form_askable}
 use Rattle.alp_session.specs.Ahead.{ahead, IsOnItsWay}
+use Rattle.alp_session.specs.Crowd.{Crowd}
 use Rattle.alp_session.specs.Crowds.{client_at, times_out}
 use Rattle.alp_cluster.specs.Clients.{InStep}
-use Rattle.alp_cluster.specs.Steps.{IsOwnNext}
+use Rattle.alp_cluster.specs.Steps.{IsOwnNext, DidLine}
 use Rattle.alp_cluster.specs.declared.fault.RunFault.TheVariants as fault
 use Rattle.alp_cluster.proofs.DidLemmas.{gone_both, all_memory, all_handed, all_on}
 use Rattle.alp_cluster.proofs.GoneLemmas.{end_on, end_map, end_memory, handed_on}
@@ -74,8 +75,10 @@ returns-in_default-clause-did g t c =
       times_out e.clients c.args.client c.args.next,
       omega arith,
       sym (append-nil c.args.items.now.items),
-      line_over g.V.Vault s.clients e.clients c.in_ok-carry_before.ensures.clients s.stations e.stations c.args.client c.args.line.now c.args.next c.requires.step c.in_ok-carry_before.ensures.did c.time_out.new.self.stations c.due-due.result
-          (sym c.in_ok-frame.ensures.frame ∙ c.in_default.is) c.due-due.ensures d,
+      subst (λ (x : Crowd). DidLine g.V.Vault (length s.stations.all.items) s.clients x s.stations c.time_out.new.self.stations c.args.client c.args.line.now c.args.next [] (times_out e.clients c.args.client c.args.next))
+          (sym (c.time_out.ensures.clients ∙ c.in_ok-carry_before.ensures.clients))
+          (line_over g.V.Vault s.clients e.clients c.in_ok-carry_before.ensures.clients s.stations e.stations c.args.client c.args.line.now c.args.next c.requires.step c.in_ok-carry_before.ensures.did c.time_out.new.self.stations c.due-due.result
+          (sym c.in_ok-frame.ensures.frame ∙ c.in_default.is) c.due-due.ensures d),
     ))
     c.time_out.ensures.did
 

@@ -1,5 +1,5 @@
 use Rattle.std.specs.Prelude.{Bool, Ok}
-use Rattle.std.proofs.Common.{ℕ, ◌+◌, length, sym, subst, arith}
+use Rattle.std.proofs.Common.{◌<◌, ℕ, ◌+◌, length, sym, subst, arith}
 use Rattle.alp_course.specs.Carries.{CarriesFrom}
 use Rattle.alp_course.specs.Languages.{Each}
 use Rattle.alp_course.proofs.WordLemmas.{from_has}
@@ -15,7 +15,9 @@ pub loop-place-init : goal.loop-place-init
 loop-place-init g c = record { said = say_none g.V.Vault c.args.self.now c.requires.on; gone = gone_none g.V.Vault (Unit {0}) c.args.self.now (tt {0}) }
 
 pub overflow_add-place : goal.overflow_add-place
-overflow_add-place g c = next_small g.V.Vault c.args.self.now c.loop-place.place c.count-place-end.result c.requires.on c.count-place-end.ensures c.loop-place-test.true
+overflow_add-place g c =
+    let low : c.loop-place.place + 1 < 256 = next_small g.V.Vault c.args.self.now c.loop-place.place c.count-place-end.result c.requires.on c.count-place-end.ensures c.loop-place-test.true in
+    omega (arith, low)
 
 pub carry_from-requires-clause-on : goal.carry_from-requires-clause-on
 carry_from-requires-clause-on g c = c.loop-place.invariant.said.goes.later.on

@@ -1,5 +1,5 @@
 use Rattle.std.specs.Prelude.{Ok}
-use Rattle.std.proofs.Common.{length, arith, refl}
+use Rattle.std.proofs.Common.{◌+◌, ◌<◌, length, arith, refl}
 use Rattle.alp_course.specs.Happens.{ticked}
 use Rattle.alp_course.specs.Settles.{IsTicked}
 use Rattle.alp_course.specs.Languages.{Each}
@@ -13,7 +13,9 @@ pub loop-place-init : goal.loop-place-init
 loop-place-init g c = record { did = each_none g.V.Vault IsTicked c.args.self.now c.requires.on; gone = gone_none g.V.Vault (Unit {0}) c.args.self.now (tt {0}) }
 
 pub overflow_add-place : goal.overflow_add-place
-overflow_add-place g c = next_small g.V.Vault c.args.self.now c.loop-place.place c.count-place-end.result c.requires.on c.count-place-end.ensures c.loop-place-test.true
+overflow_add-place g c =
+    let low : c.loop-place.place + 1 < 256 = next_small g.V.Vault c.args.self.now c.loop-place.place c.count-place-end.result c.requires.on c.count-place-end.ensures c.loop-place-test.true in
+    omega (arith, low)
 
 pub happen-requires-clause-on : goal.happen-requires-clause-on
 happen-requires-clause-on g c = c.loop-place.invariant.did.goes.later.on

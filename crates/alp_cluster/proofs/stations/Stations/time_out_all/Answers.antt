@@ -1,5 +1,5 @@
 use Rattle.std.specs.Prelude.{Ok}
-use Rattle.std.proofs.Common.{◌+◌, length, arith}
+use Rattle.std.proofs.Common.{◌<◌, ◌+◌, length, arith}
 use Rattle.alp_course.specs.Settles.{AreTimedOut}
 use Rattle.alp_course.specs.Languages.{Each}
 use Rattle.alp_course.proofs.WordLemmas.{timed_has}
@@ -12,7 +12,9 @@ pub loop-place-init : goal.loop-place-init
 loop-place-init g c = record { did = each_none g.V.Vault AreTimedOut c.args.self.now c.requires.on; gone = gone_none g.V.Vault (Unit {0}) c.args.self.now (tt {0}); up = c.requires.up }
 
 pub overflow_add-place : goal.overflow_add-place
-overflow_add-place g c = next_small g.V.Vault c.args.self.now c.loop-place.place c.count-place-end.result c.requires.on c.count-place-end.ensures c.loop-place-test.true
+overflow_add-place g c =
+    let low : c.loop-place.place + 1 < 256 = next_small g.V.Vault c.args.self.now c.loop-place.place c.count-place-end.result c.requires.on c.count-place-end.ensures c.loop-place-test.true in
+    omega (arith, low)
 
 pub time_out_at-requires-clause-on : goal.time_out_at-requires-clause-on
 time_out_at-requires-clause-on g c = c.loop-place.invariant.did.goes.later.on
