@@ -87,6 +87,7 @@ pub mod LockKeptLemmas
 pub mod CollectLemmas
 pub mod CollectedLemmas
 pub mod CollectStepLemmas
+pub mod SoundLives
 pub mod NodeLemmas
 pub mod StopLemmas
 pub mod PastLemmas

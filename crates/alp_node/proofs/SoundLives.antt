@@ -74,8 +74,8 @@ opens_more V W more (o ∷ os) h = (more (Leader o.file) h.0, opens_more V W mor
 sized_map : (es : List Edit) (m : Cells) → AreSized (map.get m) → PutsSized es → AreSized (map.get (edits_map es m))
 sized_map es m s h = subst AreSized (sym (get-edits_map es m)) (sized-after es (map.get m) s h)
 
-same_map : (R : Key → Type 0) (es : List Edit) (m n : Cells) → DoShowSame R (map.get m) (map.get n) → DoShowSame R (map.get (edits_map es m)) (map.get (edits_map es n))
-same_map R es m n same k r = ap (λ (v : View). v k) (get-edits_map es m) ∙ ap (edits_at es k) (same k r) ∙ sym (ap (λ (v : View). v k) (get-edits_map es n))
+pub same_map_where : (R : Key → Type 0) (es : List Edit) (m n : Cells) → DoShowSame R (map.get m) (map.get n) → DoShowSame R (map.get (edits_map es m)) (map.get (edits_map es n))
+same_map_where R es m n same k r = ap (λ (v : View). v k) (get-edits_map es m) ∙ ap (edits_at es k) (same k r) ∙ sym (ap (λ (v : View). v k) (get-edits_map es n))
 
 -- ---- lists of transactions
 
@@ -83,18 +83,18 @@ not_true : (b : Bool) → not b ≡ true → b ≡ false
 not_true true e = sym e
 not_true false e = refl
 
-or_left : (a b : Bool) → (a || b) ≡ false → a ≡ false
+pub or_left : (a b : Bool) → (a || b) ≡ false → a ≡ false
 or_left true b e = e
 or_left false b e = refl
 
-or_right : (a b : Bool) → (a || b) ≡ false → b ≡ false
+pub or_right : (a b : Bool) → (a || b) ≡ false → b ≡ false
 or_right true b e = absurd (let wrong : true ≡ false = e in cc)
 or_right false b e = e
 
-head_apart : (t : TransId) (ts : List TransId) → are_trans_apart (t ∷ ts) ≡ true → has_trans t ts ≡ false
+pub head_apart : (t : TransId) (ts : List TransId) → are_trans_apart (t ∷ ts) ≡ true → has_trans t ts ≡ false
 head_apart t ts h = not_true (has_trans t ts) (and_left (not (has_trans t ts)) (are_trans_apart ts) h)
 
-rest_apart : (t : TransId) (ts : List TransId) → are_trans_apart (t ∷ ts) ≡ true → are_trans_apart ts ≡ true
+pub rest_apart : (t : TransId) (ts : List TransId) → are_trans_apart (t ∷ ts) ≡ true → are_trans_apart ts ≡ true
 rest_apart t ts h = and_right (not (has_trans t ts)) (are_trans_apart ts) h
 
 -- ---- lives that change
@@ -177,21 +177,21 @@ applied_any lives m t l is x idle h ts one =
 -- ---- one that does more
 
 -- what a part may write, and nothing of one that is not live
-abbrev writes_in : Option Life → Key → Type 0
+abbrev pub writes_in : Option Life → Key → Type 0
 writes_in None k = ⊥
 writes_in (Some l) k = Writes l.held k
 
 -- it changes nothing where R holds
-record IsAway (R : Key → Type 0) (x : Option Life) : Type 0 where
-  within : AreWithin (writes_in x) (edits_in x)
-  away : (k : Key) → writes_in x k → R k → ⊥
+pub record IsAway (R : Key → Type 0) (x : Option Life) : Type 0 where
+  pub within : AreWithin (writes_in x) (edits_in x)
+  pub away : (k : Key) → writes_in x k → R k → ⊥
 
 away_same : (R : Key → Type 0) (x : Option Life) → IsAway R x → (m : Cells) → DoShowSame R (map.get m) (map.get (edits_map (edits_in x) m))
 away_same R x h m = apart-same R (writes_in x) h.away (edits_in x) h.within m
 
 module _ (R : Key → Type 0) (lives : TransId → Option Life) (t : TransId) (others : (u : TransId) → same_trans u t ≡ false → IsAway R (lives u)) where
   -- what the others intend shows the same there
-  others_same : (ts : List TransId) → has_trans t ts ≡ false → (m : Cells) → DoShowSame R (map.get m) (map.get (edits_map (all_edits lives ts) m))
+  pub others_same : (ts : List TransId) → has_trans t ts ≡ false → (m : Cells) → DoShowSame R (map.get m) (map.get (edits_map (all_edits lives ts) m))
   others_same [] none m = λ k r. refl
   others_same (u ∷ us) none m =
       let first = away_same R (lives u) (others u (or_left (same_trans u t) (has_trans t us) none)) m in
@@ -199,7 +199,7 @@ module _ (R : Key → Type 0) (lives : TransId → Option Life) (t : TransId) (o
       λ k r. first k r ∙ next k r ∙ sym (ap (λ (x : Cells). map.get x k) (edits_map-append (edits_in (lives u)) (all_edits lives us) m))
 
   -- and goes with changes that stay within what R holds, in either order
-  others_commute : (W : Key → Type 0) → ((k : Key) → W k → R k) → (fs : List Edit) → AreWithin W fs → (ts : List TransId) → has_trans t ts ≡ false → (m : Cells)
+  pub others_commute : (W : Key → Type 0) → ((k : Key) → W k → R k) → (fs : List Edit) → AreWithin W fs → (ts : List TransId) → has_trans t ts ≡ false → (m : Cells)
       → edits_map (all_edits lives ts) (edits_map fs m) ≡ edits_map fs (edits_map (all_edits lives ts) m)
   others_commute W reads fs within [] none m = refl
   others_commute W reads fs within (u ∷ us) none m =
@@ -228,7 +228,7 @@ module _ (R : Key → Type 0) (lives : TransId → Option Life) (t : TransId) (o
           let tail = others_same us none (edits_map l.edits m) in
           λ k r. tail k r ∙ sym (ap (λ (x : Cells). map.get x k) (split ∙ ap (λ (es : List Edit). edits_map (all_edits lives us) (edits_map es m)) (here e)))
       go false e next =
-          let first = same_map R l.edits m (edits_map (edits_in (lives u)) m) (away_same R (lives u) (others u e) m) in
+          let first = same_map_where R l.edits m (edits_map (edits_in (lives u)) m) (away_same R (lives u) (others u e) m) in
           λ k r. first k r ∙ next e k r ∙ sym (ap (λ (x : Cells). map.get x k) split)
 
   -- And with more that it intends, that comes last.

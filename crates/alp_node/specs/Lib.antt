@@ -27,6 +27,7 @@ pub mod Steps
 pub mod Served
 pub mod Starts
 pub mod NodeStates
+pub mod SoundLives
 pub mod Nodes
 pub mod DownStates
 pub mod Downs
