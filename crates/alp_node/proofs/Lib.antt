@@ -88,6 +88,8 @@ pub mod CollectLemmas
 pub mod CollectedLemmas
 pub mod CollectStepLemmas
 pub mod SoundLives
+pub mod SoundNotes
+pub mod SoundNoted
 pub mod NodeLemmas
 pub mod StopLemmas
 pub mod PastLemmas
