@@ -8,6 +8,7 @@ use Rattle.alp_base.specs.Crashes.{Only}
 use Rattle.alp_base.specs.declared.allowance.Allowance.{Allowance}
 use Rattle.alp_base.specs.declared.memory.OutOfMemory.{OutOfMemory}
 use Rattle.std.specs.FinMap as map
+use Rattle.alp_calls.proofs.PartLaws.{same_change}
 use Rattle.alp_files.specs.Edits.{Edit, edits_map}
 use Rattle.alp_files.specs.Sound.{AreSound}
 use Rattle.alp_files.specs.declared.reply.Reply.{Reply}

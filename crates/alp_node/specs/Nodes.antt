@@ -28,6 +28,7 @@ use Rattle.alp_node.specs.Durable.{IsDurable}
 use Rattle.alp_node.specs.Halts.{HaveCauses, MaySay, IsUncounted, says_shut}
 use Rattle.alp_node.specs.Orders.{is_answered, is_fault_now}
 use Rattle.alp_node.specs.Sessions.{no_sessions}
+use Rattle.alp_node.specs.SoundLives.{AreSoundLives}
 use Rattle.alp_node.specs.Steps.{IsNoted}
 use Rattle.alp_node.specs.declared.sessions.CallOrder.{CallOrder}
 
