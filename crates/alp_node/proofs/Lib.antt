@@ -107,3 +107,4 @@ pub mod OutcomeLemmas
 pub mod JoinLemmas
 pub mod LogLemmas
 pub mod FinishedFates
+pub mod TickSays

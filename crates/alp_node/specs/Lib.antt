@@ -34,3 +34,5 @@ pub mod Downs
 pub mod Arrivals
 pub mod Says
 pub mod Writes
+pub mod Ticks
+pub mod Timeouts
