@@ -16,6 +16,7 @@ use Rattle.alp_journal.specs.declared.message.Envelope.{Envelope}
 use Rattle.alp_journal.specs.declared.event.Event.{Event}
 use Rattle.alp_journal.specs.declared.entry.Entry.{Entry}
 use Rattle.alp_journal.specs.Along.{state_after}
+use Rattle.alp_journal.specs.Holder.{lives_noted}
 use Rattle.alp_journal.specs.Opening.{Start, start_at}
 use Rattle.alp_journal.specs.State.{State, opened}
 use Rattle.alp_journal.specs.Moves.{next, is_stop}
