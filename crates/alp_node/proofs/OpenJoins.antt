@@ -106,8 +106,10 @@ quitted_as : (k : Joins) (xs : List LiveJoin) → quitted_all k xs ≡ record k 
 quitted_as k [] = λ i. record k { lives = sym (filter_all k.lives) i }
 quitted_as k (x ∷ xs) =
     quitted_as (with_quit k x.join) xs
-    ∙ (λ i. record k { lives = (filter_twice (λ (l : LiveJoin). not (list_any (λ (z : LiveJoin). is_at z.join l && is_open l.stage) xs)) (λ (l : LiveJoin). not (is_at x.join l && is_open l.stage)) k.lives
-    ∙ (λ d. filter (λ (l : LiveJoin). either_not (is_at x.join l && is_open l.stage) (list_any (λ (z : LiveJoin). is_at z.join l && is_open l.stage) xs) d) k.lives)) i })
+    ∙ (λ i. record k {
+      lives = (filter_twice (λ (l : LiveJoin). not (list_any (λ (z : LiveJoin). is_at z.join l && is_open l.stage) xs)) (λ (l : LiveJoin). not (is_at x.join l && is_open l.stage)) k.lives
+          ∙ (λ d. filter (λ (l : LiveJoin). either_not (is_at x.join l && is_open l.stage) (list_any (λ (z : LiveJoin). is_at z.join l && is_open l.stage) xs) d) k.lives)) i;
+    })
 
 module _ (t : TransId) where
   -- one that is there goes where it is of the transaction and did not vote
@@ -136,8 +138,10 @@ module _ (t : TransId) where
   pub joins_left_as : (k : Joins) → AreOnce k.lives → (xs : List LiveJoin) → xs ≡ open_of t k.lives → quitted_all k xs ≡ record k { lives = filter (λ (l : LiveJoin). not (is_open_of t l)) k.lives }
   joins_left_as k once xs are =
       ap (quitted_all k) are ∙ quitted_as k (open_of t k.lives)
-      ∙ (λ i. record k { lives = filter_same (λ (l : LiveJoin). not (list_any (λ (x : LiveJoin). is_at x.join l && is_open l.stage) (open_of t k.lives))) (λ (l : LiveJoin). not (is_open_of t l)) k.lives
-      (all_found (λ (l : LiveJoin). not (list_any (λ (x : LiveJoin). is_at x.join l && is_open l.stage) (open_of t k.lives)) ≡ not (is_open_of t l)) k.lives once (λ j l there. ap not (gone_is k.lives once j l there))) i })
+      ∙ (λ i. record k {
+        lives = filter_same (λ (l : LiveJoin). not (list_any (λ (x : LiveJoin). is_at x.join l && is_open l.stage) (open_of t k.lives))) (λ (l : LiveJoin). not (is_open_of t l)) k.lives
+            (all_found (λ (l : LiveJoin). not (list_any (λ (x : LiveJoin). is_at x.join l && is_open l.stage) (open_of t k.lives)) ≡ not (is_open_of t l)) k.lives once (λ j l there. ap not (gone_is k.lives once j l there))) i;
+      })
 
   -- ---- who is among them
 
