@@ -9,3 +9,4 @@ pub mod UpLemmas
 pub mod PlayLemmas
 pub mod TurnLemmas
 pub mod ClosedLemmas
+pub mod TakenLemmas
