@@ -14,7 +14,7 @@ use Rattle.alp_vault.specs.declared.vault.Vault.{Ghosts}
 use Rattle.alp_course.specs.Courses.{Course, Occurrence, seat_at, AreCourse}
 use Rattle.alp_course.specs.Links.{IsFirst}
 use Rattle.alp_course.specs.Plays.{Due, sent_of, IsCut, Plays, BeginsLine, ArePlayed}
-use Rattle.alp_course.specs.Settles.{IsSettling, AreUp}
+use Rattle.alp_course.specs.Settles.{IsSettling, AreUp, AreTaken}
 use Rattle.alp_course.specs.Turns.{Turn, lists_in, own_in, sent_in, turns_text}
 use Rattle.alp_cluster.specs.Clients.{InStep, HasSaid}
 use Rattle.alp_cluster.specs.Fills.{IsEndFor}
@@ -67,12 +67,13 @@ pub record HasPlayed {V : Type 0} (G : Ghosts V) (servers : ℕ) (lines : List N
 
 -- ---- all of it
 
--- All lines were played on servers that did nothing before, and then the run was settled: each server is up, and nobody stops its disk.
--- Where it is the only one, no transaction is live there.
+-- All lines were played on servers that did nothing before, and then the run was settled: each server is up, nobody stops its disk, and no message
+-- to another one is left. Where it is the only one, no transaction is live there.
 pub record HasPlayedOut {V : Type 0} (G : Ghosts V) (servers : ℕ) (lines : List NumberedLine) (last : Stations V) (vs : List (Vec Item Global)) (printed : List ℕ) : Type 0 where
   pub on : AreOn G last
   pub count : length last.all.items ≡ servers
   pub up : AreUp (course_of G last)
+  pub taken : AreTaken (course_of G last)
   pub rests : servers ≡ 1 → IsTrue (seat_at (course_of G last) 1).tells → (t : TransId) → (seat_at (course_of G last) 1).stand.state.holder.lives t ≡ None
   pub turns : List Turn
   pub hs : List Occurrence

@@ -45,8 +45,7 @@ impl<V: Vault> Stations<V> {
         ensures all { self.new.all ≡ self.old.all }
         ensures taken { IfOr (next_of (course_of V.Vault self.old) from to) (course_of V.Vault self.new ≡ course_of V.Vault self.old) (λ m. course_of V.Vault self.new ≡ taking_at (course_of V.Vault self.old) from to m rank) }
     {
-        self.posts
-            .take(self.all[from as usize - 1].node().journal(), from, to, rank);
+        self.posts.take(self.all[from as usize - 1].node().journal(), from, to, rank);
     }
 
     // Whether a message of one server waits for another one that is up.

@@ -286,7 +286,7 @@ settling_empties xs h =
     let own : IsEmptied (happenings_of timed.back) = timed_empties 1 timed.back timed.second in
     let front : IsEmptied (happenings_of h.second.front) = subst IsEmptied (sym (ap happenings_of timed.are ∙ happenings_append timed.front timed.back)) (empties_before (happenings_of timed.front) (happenings_of timed.back) own) in
     let behind : IsEmptied (happenings_of h.back) =
-        subst IsEmptied (sym (ap happenings_of h.second.are ∙ happenings_append h.second.front h.second.back)) (empties_behind (happenings_of h.second.front) (happenings_of h.second.back) front (calm_quiet h.second.back (calm_rounds_all 1 8 h.second.back h.second.second))) in
+    subst IsEmptied (sym (ap happenings_of h.second.are ∙ happenings_append h.second.front h.second.back)) (empties_behind (happenings_of h.second.front) (happenings_of h.second.back) front (calm_quiet h.second.back (calm_rounds_all 1 8 h.second.back h.second.second))) in
     subst IsEmptied (sym (ap happenings_of h.are ∙ happenings_append h.front h.back)) (empties_before (happenings_of h.front) (happenings_of h.back) behind)
 
 -- Behind a settling of the only server none of its transactions is open.
