@@ -10,3 +10,4 @@ pub mod PlayLemmas
 pub mod TurnLemmas
 pub mod ClosedLemmas
 pub mod TakenLemmas
+pub mod PlainLemmas
