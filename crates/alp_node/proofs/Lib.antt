@@ -103,3 +103,14 @@ pub mod EndingLemmas
 pub mod OutcomeLemmas
 pub mod JoinLemmas
 pub mod LogLemmas
+mod AbortReady
+mod LeftWrites
+mod LetGoWrites
+mod NoteWrites
+mod WriteSteps
+mod MadeAs
+mod ApplySteps
+mod ForgetSteps
+mod CountedLocks
+mod VoteForSteps
+mod VoteNotes

@@ -33,3 +33,4 @@ pub mod Downs
 pub mod Arrivals
 pub mod Says
 pub mod Writes
+pub mod Noting

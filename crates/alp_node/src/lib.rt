@@ -21,6 +21,7 @@ mod locking;
 mod messages;
 mod needs;
 mod node;
+mod noting;
 mod opened;
 mod outcomes;
 mod releases;
