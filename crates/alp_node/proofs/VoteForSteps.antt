@@ -3,7 +3,7 @@ use Rattle.std.specs.Prelude.{cond, Bool, true, false, ◌==◌, ◌&&◌, ◌||
 use Rattle.std.specs.List.{list_any, AllByRecursion}
 use Rattle.std.specs.Option.{option_map}
 use Rattle.std.specs.FinMap as map
-use Rattle.std.specs.FinMap.{find}
+use Rattle.std.specs.FinMap.{find, get-entries}
 use Rattle.std.proofs.lemmas.Bool.{and_parts, le-leb, leb-false, ltb-false, ltb-true}
 use Rattle.std.proofs.Common.{◌≡◌, ℕ, suc, ◌+◌, ◌*◌, ◌^◌, ◌<◌, ◌≤◌, List, [], ◌∷◌, ◌++◌, append-nil, length, refl, sym, ◌∙◌, ap, subst, arith, le_refl}
 use Rattle.alp_base.specs.Notes.{Notes, noted, notes_after}
@@ -112,8 +112,10 @@ pub may_vote : {V : Type 0} (k : ServerState V) (client : ℕ) (t : TransId) →
 may_vote k client t may =
     let n : ReadySum = ready_room k.lives k.joins.lives in
     let s : PartSize = size_in k.lives t in
+    let all =
     go (24 + n.weights + n.greatest) (24 + (weight s.cells s.locks + n.weights) + max (applying_of s) n.greatest) (has_waiting client t k.waits) refl (nat_le clock_end k.clock) refl
-    (nat_lt k.sizes.area (24 + (weight s.cells s.locks + n.weights) + max (applying_of s) n.greatest)) refl may
+    (nat_lt k.sizes.area (24 + (weight s.cells s.locks + n.weights) + max (applying_of s) n.greatest)) refl may in
+    record { idle = all.0; early = all.1; room = all.2 }
   where
     go : (before after : ℕ) (w : Bool) → has_waiting client t k.waits ≡ w → (b : Bool) → nat_le clock_end k.clock ≡ b → (d : Bool) → nat_lt k.sizes.area after ≡ d
         → first_why false w b (cond {A = Option Why} d (Some (why.LogFull (k.sizes.area - before) (after - before))) None) ≡ None → (has_waiting client t k.waits ≡ false) × (k.clock < 2 ^ 62) × (after ≤ k.sizes.area)
@@ -345,7 +347,7 @@ module _ {V : Type 0} (G : Ghosts V) (k : ServerState V) (from : ℕ) (j : JoinN
   abbrev g : Stage → Stage
   g = stage_after (step.Vote (k.clock + 1))
 
-  pub vote_part : (l : Live) × (map.get k.lives t ≡ Some l) × (l.join ≡ Some j)
+  abbrev pub vote_part : (l : Live) × (map.get k.lives t ≡ Some l) × (l.join ≡ Some j)
   vote_part = active_part ready.0 (G.serves k.vault) k ready.2 j t client who there allowed
 
   abbrev l : Live
@@ -421,7 +423,7 @@ module _ {V : Type 0} (G : Ghosts V) (k : ServerState V) (from : ℕ) (j : JoinN
       kept_of : (a : Account) (h : IsAs a (G.held k.vault) k) → IsKeptOf (IsActive.alive (is_active a h)).life n.kept
       kept_of a h =
           let y : IsActive a = is_active a h in
-          record { held = λ r. n.held r ∙ ap (find resource_cmp r) locks_are ∙ sym (y.alive.alike.held r); intents = n.intents ∙ y.alive.alike.intents }
+          record { held = λ r. n.held r ∙ ap (find resource_cmp r) locks_are ∙ sym (get-entries (held_of k.locks.held t) r) ∙ sym (y.alive.alike.held r); intents = n.intents ∙ y.alive.alike.intents }
 
       written_notes : (a : Account) → IsAs a (G.held k.vault) k → (d : Contents) → IsWritten p.intents changes (G.held k.vault) d → AreNotesOf (state_deed (state_of a) (Readies j t (k.clock + 1))) a.ids.epoch d.notes
       written_notes a h d w =
@@ -488,7 +490,7 @@ module _ {V : Type 0} (G : Ghosts V) (k : ServerState V) (from : ℕ) (j : JoinN
             (subst (λ (cs : List NoteChange). AreNoted k.server k.servers k.epoch k.lives (with_readied k.joins j (k.clock + 1)) k.coordinator (notes_after cs (G.held k.vault).notes)) (sym n.written) (noted_now (G.held k.vault).notes q))
 
         module _ (a : Account) (h : IsAs a (G.held k.vault) k) where
-          y : IsActive a
+          abbrev y : IsActive a
           y = is_active a h
 
           abbrev life : Life
