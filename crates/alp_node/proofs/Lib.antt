@@ -87,6 +87,9 @@ pub mod LockKeptLemmas
 pub mod CollectLemmas
 pub mod CollectedLemmas
 pub mod CollectStepLemmas
+pub mod SoundLives
+pub mod SoundNotes
+pub mod SoundNoted
 pub mod NodeLemmas
 pub mod StopLemmas
 pub mod PastLemmas
@@ -114,3 +117,5 @@ mod ForgetSteps
 mod CountedLocks
 mod VoteForSteps
 mod VoteNotes
+pub mod FinishedFates
+pub mod TickSays

@@ -27,6 +27,7 @@ pub mod Steps
 pub mod Served
 pub mod Starts
 pub mod NodeStates
+pub mod SoundLives
 pub mod Nodes
 pub mod DownStates
 pub mod Downs
@@ -34,3 +35,5 @@ pub mod Arrivals
 pub mod Says
 pub mod Writes
 pub mod Noting
+pub mod Ticks
+pub mod Timeouts
