@@ -32,6 +32,8 @@ mod shape;
 mod start;
 mod stored;
 mod stub;
+mod ticks;
+mod timeouts;
 mod totals;
 mod votes;
 mod waits;
