@@ -108,3 +108,7 @@ pub mod JoinLemmas
 pub mod LogLemmas
 pub mod FinishedFates
 pub mod TickSays
+pub mod OpenJoins
+pub mod LateTold
+pub mod LateReady
+pub mod LateSteps
