@@ -11,3 +11,9 @@ pub mod TurnLemmas
 pub mod ClosedLemmas
 pub mod TakenLemmas
 pub mod PlainLemmas
+pub mod CalmDeeds
+pub mod CalmRange
+pub mod CalmArrivals
+pub mod CalmRounds
+pub mod CalmCourse
+pub mod CalmStart

@@ -1,5 +1,5 @@
 //! What holds of each run, whatever happens in it.
-ghost use Rattle.alp_course.specs.Links.{Linking};
+ghost use Rattle.alp_course.specs.Links.{Linking, IsScratch};
 ghost use Rattle.alp_course.specs.Lone.{Alone, Closing, Plainness};
 ghost use Rattle.alp_course.specs.Settles.{Lifting, Emptying};
 
@@ -31,4 +31,9 @@ pub fn settled_servers_have_all_messages()
 /// No restart of the only server of a run finds a ready part or a decision with parts elsewhere.
 pub fn lone_restarts_are_plain()
     ensures { Plainness }
+{}
+
+/// Scratch.
+pub fn scratch()
+    ensures { IsScratch }
 {}
