@@ -17,3 +17,4 @@ pub mod CalmArrivals
 pub mod CalmRounds
 pub mod CalmCourse
 pub mod CalmStart
+pub mod CalmRest

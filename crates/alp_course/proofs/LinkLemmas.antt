@@ -141,7 +141,7 @@ none_as_sent r n most (e ∷ es) h = ((λ from m is. absurd (no_arrival e.event 
 
 -- ---- a server goes on
 
-all_at : {X : Type 0} (P : X → Type 0) (xs : List X) (i : ℕ) (x : X) → AllByRecursion P xs → slice_get xs i ≡ Some x → P x
+pub all_at : {X : Type 0} (P : X → Type 0) (xs : List X) (i : ℕ) (x : X) → AllByRecursion P xs → slice_get xs i ≡ Some x → P x
 all_at P [] i x h is = absurd cc
 all_at P (y ∷ xs) zero x h is = (let same : y ≡ x = cc in subst P same h.0)
 all_at P (y ∷ xs) (suc i) x h is = all_at P xs i x h.1 is

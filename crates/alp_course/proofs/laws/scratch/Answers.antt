@@ -5,6 +5,7 @@ use Rattle.alp_course.proofs.CalmArrivals.{done_came}
 use Rattle.alp_course.proofs.CalmRounds.{over_then}
 use Rattle.alp_course.proofs.CalmCourse.{sent_in_list}
 use Rattle.alp_course.proofs.CalmStart.{said_first}
+use Rattle.alp_course.proofs.CalmRest.{round_to_end}
 use Rattle.alp_course.proofs.laws.scratch.Goals as goal
 
 pub returns : goal.returns
