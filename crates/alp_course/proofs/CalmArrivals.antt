@@ -45,7 +45,7 @@ each_in : {A : Type 0} (xs ys : List A) → ((x : A) → IsIn x xs → IsIn x ys
 each_in [] ys h = tt
 each_in (x ∷ xs) ys h = (h x (inl refl), each_in xs ys (λ y i. h y (inr i)))
 
-permuted_in : {A : Type 0} (xs ys : List A) (x : A) → IsPermutation xs ys → IsIn x xs → IsIn x ys
+pub permuted_in : {A : Type 0} (xs ys : List A) (x : A) → IsPermutation xs ys → IsIn x xs → IsIn x ys
 permuted_in {A} xs ys x p i =
     all-in (λ (y : A). IsIn y ys) xs x
     (recursion_from_All (λ (y : A). IsIn y ys) xs (All-permutation (λ (y : A). IsIn y ys) ys xs (IsPermutation-sym xs ys p) (All-from_recursion (λ (y : A). IsIn y ys) ys (each_in ys ys (λ y j. j))))) i

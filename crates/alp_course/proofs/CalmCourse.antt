@@ -38,9 +38,10 @@ pub record IsGrown (s t : Seat) : Type 0 where
   pub is : t.journal ≡ s.journal ++ more
   pub mild : AllByRecursion IsMildEntry more
   pub opening : t.opening ≡ s.opening
+  pub tells : t.tells ≡ s.tells
 
 pub grown_same : (s : Seat) → IsGrown s s
-grown_same s = record { more = []; is = sym (append-nil s.journal); mild = tt; opening = refl }
+grown_same s = record { more = []; is = sym (append-nil s.journal); mild = tt; opening = refl; tells = refl }
 
 pub grown_then : (s t u : Seat) → IsGrown s t → IsGrown t u → IsGrown s u
 grown_then s t u a b = record {
@@ -48,6 +49,7 @@ grown_then s t u a b = record {
   is = b.is ∙ ap (λ (es : List Entry). es ++ b.more) a.is ∙ append_assoc s.journal a.more b.more;
   mild = all-append IsMildEntry a.more b.more a.mild b.mild;
   opening = b.opening ∙ a.opening;
+  tells = b.tells ∙ a.tells;
 }
 
 pub longer : (s t : Seat) → IsGrown s t → length s.journal ≤ length t.journal
@@ -137,6 +139,7 @@ grown_by s x es seen w mild o = record {
   is = refl;
   mild = subst (AllByRecursion IsMildEntry) (sym o.one) (record { mild = subst IsMild (sym o.event_is) mild; goes = o.goes }, tt);
   opening = refl;
+  tells = refl;
 }
 
 -- one of the seats goes on

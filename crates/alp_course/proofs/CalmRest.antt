@@ -1,7 +1,7 @@
 -- A settling up to its first round, and a round as journals have it.
 use Rattle.std.specs.Prelude.{◌==◌, ◌≢◌, Bool, true, false, IsTrue, cond, slice_get, take, Option, None, Some}
 use Rattle.std.specs.List.{AllByRecursion, Contains}
-use Rattle.std.proofs.Common.{◌≡◌, ◌⊎◌, ℕ, zero, suc, ◌+◌, ◌-◌, ◌<◌, ◌≤◌, List, [], ◌∷◌, ◌++◌, length, inl, inr, refl, sym, ◌∙◌, ap, subst, arith}
+use Rattle.std.proofs.Common.{◌≡◌, ◌⊎◌, ℕ, zero, suc, ◌+◌, ◌-◌, ◌<◌, ◌≤◌, List, [], ◌∷◌, ◌++◌, length, get_or, inl, inr, refl, sym, ◌∙◌, ap, subst, arith}
 use Rattle.std.proofs.lemmas.List.{append-nil, append_assoc, length-append}
 use Rattle.std.proofs.lemmas.Bool.{cases_eq}
 use Rattle.alp_base.specs.declared.ids.JoinNo.{JoinNo}
@@ -21,13 +21,13 @@ use Rattle.alp_history.specs.Log.{Log, ServerLog, IsIn, of, journal_of, opening_
 use Rattle.alp_history.specs.Theorems.{IsProper}
 use Rattle.alp_posts.specs.Messages.{messages_to}
 use Rattle.alp_posts.proofs.MessageLemmas.{messages_append}
-use Rattle.alp_course.specs.Courses.{Course, Seat, seat_at, seat_after, IsOneOf, IsSeat, IsAt, AreTwo, Occurrence, at as happens_at, looks, brings, rests, next_message, is_waiting, Occurs, AreCourse}
+use Rattle.alp_course.specs.Courses.{Course, Seat, no_seat, TellAll, seat_at, seat_after, IsOneOf, IsSeat, IsAt, AreTwo, Occurrence, at as happens_at, looks, brings, rests, next_message, is_waiting, Occurs, AreCourse}
 use Rattle.alp_course.specs.Carries.{ArePairCarried, none_waits, one_waits, OfOthers, CarriesTo, CarriesFrom, IsSweep, IsCarried, last_sweep, one_more}
 use Rattle.alp_course.specs.Happens.{Stand, timed_out, ticked, finds, ComesTo, Happens, stand_after, IsNone, IsEntryOf}
 use Rattle.alp_course.specs.Languages.{Language, Just, Then, Each}
 use Rattle.alp_course.specs.Links.{server_log, log_of, AreNumbered}
 use Rattle.alp_course.specs.Opens.{is_unasked, HasOpenPart, IsLeastOpen}
-use Rattle.alp_course.specs.Settles.{AreTimedOut, none_open, one_open, IsTicked, IsRound, IsUpIn, AreUp}
+use Rattle.alp_course.specs.Settles.{AreTimedOut, none_open, one_open, IsTicked, IsRound, Further, AreRounds, IsUpIn, AreUp}
 use Rattle.alp_course.proofs.CalmArrivals.{flat_in}
 use Rattle.alp_course.proofs.CalmCourse.{IsGrown, longer, stood, IsArrived, taken_of, sent_to, IsWithin, HasMoved, IsOneMore, one_more as makes_one, IsOfRound, course_moved, sent_in_list, seat_then, two_then}
 use Rattle.alp_course.proofs.CalmRange.{IsMildEntry}
@@ -202,6 +202,42 @@ round_carried servers xs (one_more ys zs word some rest) = round_append ys zs (r
 
 round_ticks : (servers : ℕ) → InRound (Each IsTicked servers)
 round_ticks servers = round_each IsTicked (λ n xs h. subst (AllByRecursion IsOfRound) (sym h) (tt, tt)) servers
+
+round_further : (A : Language) → InRound A → (b : Bool) → InRound (Further b A)
+round_further A of true ys is = subst (AllByRecursion IsOfRound) (sym is) (tt, tt)
+round_further A of false ys word = round_then (Just (rests false ∷ [])) A (λ zs is. subst (AllByRecursion IsOfRound) (sym is) (tt, tt)) of ys word
+
+round_rounds : (servers most : ℕ) → InRound (AreRounds servers most)
+round_rounds servers zero xs h = round_none xs h
+round_rounds servers (suc k) xs (is_rest, h) =
+    round_then (IsRound servers) (Further is_rest (AreRounds servers k)) (round_then (Each IsTicked servers) (IsCarried servers) (round_ticks servers) (round_carried servers)) (round_further (AreRounds servers k) (round_rounds servers k) is_rest) xs h
+
+pub rounds_moved : (servers most : ℕ) (b : Bool) (ys : List Occurrence) → Further b (AreRounds servers most) ys → AllByRecursion IsOfRound ys
+rounds_moved servers most b = round_further (AreRounds servers most) (round_rounds servers most) b
+
+-- ---- which tell
+
+tells_at : (ss : List Seat) (i : ℕ) → AllByRecursion (λ (s : Seat). IsTrue s.tells) ss → i < length ss → IsTrue (get_or ss i no_seat).tells
+tells_at [] i h less = absurd (omega (arith, less))
+tells_at (s ∷ ss) zero h less = h.0
+tells_at (s ∷ ss) (suc i) h less = tells_at ss i h.1 (omega (arith, less))
+
+pub each_tells : (r : Course) → TellAll r → TellsAt r
+each_tells r h n s = tells_at r.seats (n - 1) h (omega (arith, s.first, s.last))
+
+tells_from : (ss : List Seat) → ((i : ℕ) → i < length ss → IsTrue (get_or ss i no_seat).tells) → AllByRecursion (λ (s : Seat). IsTrue s.tells) ss
+tells_from [] h = tt
+tells_from (s ∷ ss) h = (h 0 (omega arith), tells_from ss (λ i less. h (suc i) (omega (arith, less))))
+
+pub all_tell : (r : Course) → TellsAt r → TellAll r
+all_tell r h = tells_from r.seats (λ i less. subst (λ (k : ℕ). IsTrue (get_or r.seats k no_seat).tells) (omega arith) (h (i + 1) (record { first = omega arith; last = omega (arith, less) })))
+
+pub tells_on : (r after : Course) → HasMoved r after → TellAll r → TellAll after
+tells_on r after moved tells =
+    all_tell after
+    (λ n s.
+    let here : IsSeat r n = record { first = s.first; last = (let many : length after.seats ≡ length r.seats = moved.seats in let last : n ≤ length after.seats = s.last in omega (arith, many, last)) } in
+    subst IsTrue (sym (moved.grown n here).tells) (each_tells r tells n here))
 
 -- ---- a round
 

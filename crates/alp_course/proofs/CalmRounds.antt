@@ -62,16 +62,16 @@ IsOverIn s = (t : TransId) → is_running (s.fates t) ≡ false
 abbrev pub AreGoneIn : State → Type 0
 AreGoneIn s = (j : JoinNo) → live_in (s.phases j) ≡ None
 
-shut_kept : IsKept IsShut
+pub shut_kept : IsKept IsShut
 shut_kept = record {
   keep = λ s d still h. record { fates = λ t. unasked_still d t (s.fates t) still (h.fates t); phases = λ j. open_still d j (s.phases j) still (h.phases j) };
   still = λ s desk down pending h. record { fates = h.fates; phases = h.phases };
 }
 
-over_kept : IsKept IsOverIn
+pub over_kept : IsKept IsOverIn
 over_kept = record { keep = λ s d still h t. over_still d t (s.fates t) still (h t); still = λ s desk down pending h. h }
 
-gone_kept : IsKept AreGoneIn
+pub gone_kept : IsKept AreGoneIn
 gone_kept = record { keep = λ s d still h j. live_still d j (s.phases j) still (h j); still = λ s desk down pending h. h }
 
 -- what is known of the names in a state of a server

@@ -18,3 +18,8 @@ pub mod CalmRounds
 pub mod CalmCourse
 pub mod CalmStart
 pub mod CalmRest
+pub mod CalmLogs
+pub mod CalmSettled
+pub mod NameLemmas
+pub mod NamesAlong
+pub mod NameWords
