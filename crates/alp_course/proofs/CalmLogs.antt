@@ -59,7 +59,7 @@ module _ (z : Course) (handed : Handed) (numbered : AreNumbered 1 z.seats) where
     -- ---- a course on the way
 
     module _ (r : Course) (later : HasMoved r z) where
-      seat_of : (n : ℕ) → IsOneOf servers n → IsSeat r n
+      pub seat_of : (n : ℕ) → IsOneOf servers n → IsSeat r n
       seat_of n one = record { first = one.first; last = (let last : n ≤ servers = one.last in omega (arith, last, later.seats)) }
 
       abbrev pub end_of : ℕ → ℕ
@@ -78,13 +78,13 @@ module _ (z : Course) (handed : Handed) (numbered : AreNumbered 1 z.seats) where
       pub state_is : (n : ℕ) → IsOneOf servers n → state_at log n (end_of n) ≡ said_by (seat_at r n)
       state_is n one = (λ i. state_after next (opened (opening_is n one i)) ((ap (take (end_of n)) (journal_is n one) ∙ take_first (seat_at r n).journal (later.grown n (seat_of n one)).more) i))
 
-      stands_in_log : (n : ℕ) → IsOneOf servers n → (i : ℕ) (e : Entry) → slice_get (seat_at r n).journal i ≡ Some e → slice_get (journal_of log n) i ≡ Some e
+      pub stands_in_log : (n : ℕ) → IsOneOf servers n → (i : ℕ) (e : Entry) → slice_get (seat_at r n).journal i ≡ Some e → slice_get (journal_of log n) i ≡ Some e
       stands_in_log n one i e h = ap (λ (es : List Entry). slice_get es i) (journal_is n one) ∙ get_left (seat_at r n).journal (later.grown n (seat_of n one)).more i (get_below (seat_at r n).journal i e h) ∙ h
 
-      in_journal : (n : ℕ) → IsOneOf servers n → (i : ℕ) (e : Entry) → i < end_of n → slice_get (journal_of log n) i ≡ Some e → slice_get (seat_at r n).journal i ≡ Some e
+      pub in_journal : (n : ℕ) → IsOneOf servers n → (i : ℕ) (e : Entry) → i < end_of n → slice_get (journal_of log n) i ≡ Some e → slice_get (seat_at r n).journal i ≡ Some e
       in_journal n one i e low h = sym (get_left (seat_at r n).journal (later.grown n (seat_of n one)).more i low) ∙ sym (ap (λ (es : List Entry). slice_get es i) (journal_is n one)) ∙ h
 
-      end_within : (n : ℕ) → IsOneOf servers n → end_of n ≤ length (journal_of log n)
+      pub end_within : (n : ℕ) → IsOneOf servers n → end_of n ≤ length (journal_of log n)
       end_within n one =
           (let all : length (journal_of log n) ≡ length (seat_at r n).journal + length (later.grown n (seat_of n one)).more = ap (λ (es : List Entry). length es) (journal_is n one) ∙ length-append (seat_at r n).journal (later.grown n (seat_of n one)).more in
           omega (arith, all))

@@ -268,8 +268,7 @@ round_to_end r after xs holds within up word course =
     record {
       moved = moved;
       ticks = λ n s. (
-          let t : HasTicked (seat_at r n) (seat_at via.mid n) = ticks.each n s.first s.last in
-          (
+          let t : HasTicked (seat_at r n) (seat_at via.mid n) = ticks.each n s.first s.last in (
             t.entry,
             stood (seat_at via.mid n) (seat_at after n) (carried.grown n (seat_then r via.mid n begun.seats s)) (length (seat_at r n).journal) t.entry
                 (ap (λ (es : List Entry). slice_get es (length (seat_at r n).journal)) t.one ∙ last_there (seat_at r n).journal t.entry),

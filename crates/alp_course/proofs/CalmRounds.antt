@@ -36,7 +36,7 @@ use Rattle.alp_course.proofs.CalmArrivals.{IsVote, IsEnd, IsDoneWord, HasIt, Has
 
 -- ---- lists of joins
 
-has_in : (j : JoinNo) (js : List JoinNo) → IsIn j js → has_join j js ≡ true
+pub has_in : (j : JoinNo) (js : List JoinNo) → IsIn j js → has_join j js ≡ true
 has_in j [] i = absurd i
 has_in j (k ∷ js) (inl is) = ap (λ (q : JoinNo). same_join q j || has_join j js) (sym is) ∙ ap (λ (b : Bool). b || has_join j js) (same_join-self j)
 has_in j (k ∷ js) (inr i) = go (same_join k j) (has_in j js i)

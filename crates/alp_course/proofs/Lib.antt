@@ -23,3 +23,5 @@ pub mod CalmSettled
 pub mod NameLemmas
 pub mod NamesAlong
 pub mod NameWords
+pub mod NamesKnown
+pub mod RestingLemmas

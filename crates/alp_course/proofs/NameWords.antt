@@ -300,7 +300,7 @@ asks_of s all [] within h = tt
 asks_of s all (d ∷ ds) within h = all-append (λ (a : Mail). AsksFor s all a.1) (asks_to_join d) (flat_map asks_to_join ds) (one d (within d (inl refl)) h.0) (asks_of s all ds (λ x i. within x (inr i)) h.1)
   where
     one : (d : Deed) → IsIn d all → DrawsNext s d → AllAsk s all (asks_to_join d)
-    one (Joins j t client who) i is = (inl (is, t, client, who, i), tt)
+    one (Joins j t client who) i is = (inl (is, (t, client, who, i)), tt)
     one d i is = tt
 
 call_asks : (s : State) (client : ℕ) (c : Call) (r : Reply) → AllAsk s (call_deeds s client c r) (on_call s client c r)

@@ -24,17 +24,8 @@ use Rattle.alp_history.proofs.Entries.{is_open}
 use Rattle.alp_history.proofs.Linked.{in-left, in-right}
 use Rattle.alp_history.proofs.Phases.{IsSeen, IsJoining}
 use Rattle.alp_history.proofs.Rights.{IsRightDeed}
+use Rattle.alp_course.specs.Resting.{IsPositive, AreSpelled}
 use Rattle.alp_course.proofs.NameLemmas.{IsKnown, IsBegun, known_before, HasCome, before, registers, decides, joins_before, Keeps, keeps_names}
-
--- the id is spelled
-abbrev pub IsPositive : JoinNo → Type 0
-IsPositive j = (0 < j.epoch) × (0 < j.counter)
-
--- what the notes name is spelled
-pub record AreSpelled (o : Start) : Type 0 where
-  pub epoch : 0 < o.epoch
-  pub ready : (r : ReadyNote) → IsIn r o.ready → IsPositive r.join × (0 < r.trans.epoch) × (0 < r.trans.counter)
-  pub decisions : (d : DecisionNote) → IsIn d o.decisions → (j : JoinNo) → IsIn j d.joins → IsPositive j
 
 -- ---- a phase
 

@@ -34,6 +34,3 @@ pub record IsFirst (r : Course) : Type 0 where
 -- before.
 abbrev pub Linking : Type 0
 Linking = (r after : Course) (xs : List Occurrence) (handed : Handed) → IsFirst r → AreCourse r xs after → IsLinked (log_of after handed)
-
-abbrev pub IsScratch : Type 0
-IsScratch = (n : ℕ) → n ≡ n

@@ -1,6 +1,7 @@
 //! What holds of each run, whatever happens in it.
-ghost use Rattle.alp_course.specs.Links.{Linking, IsScratch};
+ghost use Rattle.alp_course.specs.Links.{Linking};
 ghost use Rattle.alp_course.specs.Lone.{Alone, Closing, Plainness};
+ghost use Rattle.alp_course.specs.Resting.{Resting};
 ghost use Rattle.alp_course.specs.Settles.{Lifting, Emptying};
 
 /// The journals of a run are linked: ranks rise along each of them, and each message that arrives was sent before.
@@ -33,7 +34,7 @@ pub fn lone_restarts_are_plain()
     ensures { Plainness }
 {}
 
-/// Scratch.
-pub fn scratch()
-    ensures { IsScratch }
+/// Behind a settling no part lives, none is ready, and no decision stands, at any server of the run.
+pub fn settled_servers_are_at_rest()
+    ensures { Resting }
 {}
