@@ -1,5 +1,5 @@
 -- one ready part after the other becomes live
-use Rattle.std.specs.Prelude.{All, cond, Bool, true, false, ◌&&◌, ◌||◌, Option, None, Some, unwrap_or, nat_le, IsTrue, map as list_map}
+use Rattle.std.specs.Prelude.{All, cond, Bool, true, false, ◌&&◌, ◌||◌, Option, None, Some, is_some, unwrap_or, nat_le, IsTrue, map as list_map}
 use Rattle.std.specs.List.{list_all, list_any, AllByRecursion}
 use Rattle.std.specs.FinMap as map
 use Rattle.std.specs.FinMap.{get-empty, get-insert}
@@ -41,7 +41,7 @@ use Rattle.alp_journal.specs.Opening.{ReadyNote}
 use Rattle.alp_regain.specs.Named.{is_beside_intention, is_covered}
 use Rattle.alp_regain.specs.Lives.{is_plain, IsSoFar}
 use Rattle.alp_regain.specs.Together.{IsPartNote, AreTwo, AreApart, AreGoodLocks}
-use Rattle.alp_regain.specs.Regained.{PutsAreSized, IsPartOf, ArePartsOf, has_note_of, HoldsNoted, AreLocksOf}
+use Rattle.alp_regain.specs.Regained.{PutsAreSized, IsPartOf, ArePartsOf, has_note_of, HoldsNoted, IsKnownTo, AreLocksOf}
 use Rattle.alp_regain.specs.declared.part.RegainedPart.{RegainedPart}
 use Rattle.alp_regain.specs.declared.parts.Lives.{Lives}
 use Rattle.alp_regain.proofs.ListLemmas.{both, at_middle, pushed}
@@ -136,6 +136,24 @@ module _ (t : Table) (done : List ReadyNote) (n : ReadyNote) (locks : AreLocksOf
   others_hold (o ∷ os) new held =
       (λ r. other_holds o.trans r (turned o.trans n.trans ∙ (or_none new).0) ∙ held.0 r, others_hold os (or_none new).1 held.1)
 
+  -- whoever was known still is
+  known_still : (u : TransId) → is_some (map.get t.held u) ≡ true → is_some (map.get (with_regained t n.trans n.locks None).held u) ≡ true
+  known_still u known = ap (λ (o : Option Held). is_some o) (get-insert transactions_total t.held n.trans (joined (held_of t.held n.trans) n.locks) u) ∙ go (eq_by_cmp trans_cmp u n.trans)
+    where
+      go : (b : Bool) → is_some (cond b (Some (joined (held_of t.held n.trans) n.locks)) (map.get t.held u)) ≡ true
+      go true = refl
+      go false = known
+
+  others_known : (os : List ReadyNote) → AllByRecursion (IsKnownTo t) os → AllByRecursion (IsKnownTo (with_regained t n.trans n.locks None)) os
+  others_known [] known = tt
+  others_known (o ∷ os) known = (known_still o.trans known.0, others_known os known.1)
+
+  own_known : is_some (map.get (with_regained t n.trans n.locks None).held n.trans) ≡ true
+  own_known =
+      ap (λ (o : Option Held). is_some o)
+      (get-insert transactions_total t.held n.trans (joined (held_of t.held n.trans) n.locks) n.trans
+      ∙ ap (λ (b : Bool). cond b (Some (joined (held_of t.held n.trans) n.locks)) (map.get t.held n.trans)) (itself n.trans))
+
   module _ (new : has_note_of n.trans done ≡ false) where
     pub locks_pushed : IsSound (with_regained t n.trans n.locks None) → AreLocksOf (with_regained t n.trans n.locks None) (done ++ n ∷ [])
     locks_pushed sound = record {
@@ -143,6 +161,7 @@ module _ (t : Table) (done : List ReadyNote) (n : ReadyNote) (locks : AreLocksOf
       waiting = locks.waiting;
       woken = locks.woken;
       held = pushed (HoldsNoted (with_regained t n.trans n.locks None)) done n (others_hold done new locks.held) (own_holds t n.trans n.locks (locks.others n.trans new));
+      known = pushed (IsKnownTo (with_regained t n.trans n.locks None)) done n (others_known done locks.known) own_known;
       others = λ u none.
           let apart = or_none (sym (list_any-append (λ (o : ReadyNote). eq_by_cmp trans_cmp u o.trans) done (n ∷ [])) ∙ none) in
           get-insert transactions_total t.held n.trans (joined (held_of t.held n.trans) n.locks) u

@@ -1,5 +1,5 @@
 -- What a server regains from the notes of an earlier run.
-use Rattle.std.specs.Prelude.{◌≡◌, ℕ, Bool, false, IsTrue, List, [], ◌∷◌, length, None, map as list_map}
+use Rattle.std.specs.Prelude.{◌≡◌, ℕ, Bool, true, false, IsTrue, List, [], ◌∷◌, length, None, is_some, map as list_map}
 use Rattle.std.specs.List.{list_any, AllByRecursion}
 use Rattle.std.specs.FinMap as map
 use Rattle.std.specs.Ordering.{eq_by_cmp}
@@ -69,12 +69,17 @@ has_note_of t ns = list_any (λ (n : ReadyNote). eq_by_cmp trans_cmp t n.trans) 
 abbrev pub HoldsNoted : Table → ReadyNote → Type 0
 HoldsNoted t n = (r : Resource) → holding t.held n.trans r ≡ held_by n.locks r
 
--- The table has just the locks of the notes, which agree. Nobody waits.
+-- it knows the transaction, whatever that holds
+abbrev pub IsKnownTo : Table → ReadyNote → Type 0
+IsKnownTo t n = is_some (map.get t.held n.trans) ≡ true
+
+-- The table has just the locks of the notes, which agree, and knows their transactions. Nobody waits.
 pub record AreLocksOf (t : Table) (ns : List ReadyNote) : Type 0 where
   pub sound : IsSound t
   pub waiting : t.waiting ≡ []
   pub woken : t.woken ≡ []
   pub held : AllByRecursion (HoldsNoted t) ns
+  pub known : AllByRecursion (IsKnownTo t) ns
   pub others : (u : TransId) → has_note_of u ns ≡ false → map.get t.held u ≡ None
 
 -- ---- all of it

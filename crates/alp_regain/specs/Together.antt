@@ -22,7 +22,7 @@ use Rattle.alp_vault.specs.declared.limits.TheConstants.{FILES_PER_SERVER, OWNER
 use Rattle.alp_calls.specs.Parts.{AllFit}
 use Rattle.alp_journal.specs.Counts.{with_resources, ready_sum}
 use Rattle.alp_journal.specs.Opening.{ReadyNote, DecisionNote, ready_kept, decisions_kept}
-use Rattle.alp_regain.specs.Named.{is_drawn_by, is_own, is_own_resource, is_own_edit, is_mode_on, is_beside_intention, is_covered}
+use Rattle.alp_regain.specs.Named.{is_drawn_by, is_decided_by, is_own, is_own_resource, is_own_edit, is_mode_on, is_beside_intention, is_covered}
 use Rattle.alp_worker.specs.Rooms.{sum_of}
 use Rattle.alp_worker.specs.declared.room.PartSize.{PartSize}
 
@@ -69,12 +69,12 @@ size_of n = record { cells = changed n.edits; locks = length (with_resources n.l
 abbrev pub log_sum : List PartSize → ℕ
 log_sum ns = ready_sum (sum_of ns).weights (sum_of ns).greatest
 
--- Each note is in the format, and so is what it says of a part. Transactions that are decided were drawn in epochs up to that of the clock's note. The
--- parts keep apart. With the decisions they are no more than a server has live transactions, and the log has room for them.
+-- Each note is in the format, and so is what it says of a part. Transactions that are decided were drawn in epochs up to that of the clock's note, and
+-- none was decided later than its clock. The parts keep apart. With the decisions they are no more than a server has live transactions, and the log has room for them.
 pub record AreNotesTogether (server servers area : ℕ) (notes : Notes) : Type 0 where
   pub format : AreServerNotes server servers notes
   pub parts : AllByRecursion (IsPartNote server (clock_kept notes).epoch) (ready_kept notes)
-  pub decided : list_all (λ (d : DecisionNote). is_drawn_by (clock_kept notes).epoch d.stamp.trans.epoch d.stamp.trans.counter) (decisions_kept notes) ≡ true
+  pub decided : list_all (λ (d : DecisionNote). is_decided_by (clock_kept notes) d.stamp) (decisions_kept notes) ≡ true
   pub apart : AreApart (ready_kept notes)
   pub few : length (ready_kept notes) + length (decisions_kept notes) ≤ 64
   pub log : log_sum (list_map size_of (ready_kept notes)) ≤ area
@@ -105,8 +105,8 @@ pub record FitTogether (s : Sizes) (m : Cells) (server epoch : ℕ) (ns : List R
 
 -- ---- all of it
 
+-- The notes go together with one another and with the files. That the server made the files is said by itself.
 pub record AreTogether (server servers : ℕ) (s : Sizes) (m : Cells) (notes : Notes) : Type 0 where
   pub notes_alone : AreNotesTogether server servers s.area notes
-  pub own : AreOwnFiles server (clock_kept notes).epoch m
   pub room : HaveRoomTogether s m (ready_kept notes)
   pub sound : AreSoundTogether m (ready_kept notes)
