@@ -33,11 +33,16 @@ pub record AreGoodLocks (locks : List Need) (es : List Edit) : Type 0 where
   pub covered : list_all (is_covered (held_by locks)) es ≡ true
   pub few : length (with_resources locks []) ≤ 1024
 
+-- It names no resource and no cell twice, so that its bytes come to no more than what is counted of it.
+pub record IsNamedOnce (n : ReadyNote) : Type 0 where
+  pub locks : length n.locks ≡ length (with_resources n.locks [])
+  pub edits : length n.edits ≡ changed n.edits
+
 -- ---- one part that is ready
 
 -- Its locks are of such modes and good for what it changes. It names files that this server made, in epochs up to that one, and was
 -- drawn in one of them, for a client of the run. It changes no more than a part may, and each cell that it puts is within the limits
--- of a file.
+-- of a file. It names nothing twice.
 pub record IsPartNote (server epoch : ℕ) (n : ReadyNote) : Type 0 where
   pub modes : list_all (λ l. is_mode_on l.0 l.1) n.locks ≡ true
   pub locks : AreGoodLocks n.locks n.edits
@@ -46,6 +51,7 @@ pub record IsPartNote (server epoch : ℕ) (n : ReadyNote) : Type 0 where
   pub join : is_drawn_by epoch n.join.epoch n.join.counter ≡ true
   pub client : (1 ≤ n.client) × (n.client ≤ 16)
   pub cells : changed n.edits ≤ 256
+  pub once : IsNamedOnce n
   pub fit : AllFit (intents_of n.edits).puts
 
 -- ---- two of them

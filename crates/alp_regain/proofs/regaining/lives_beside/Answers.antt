@@ -42,10 +42,14 @@ stay_together-requires-clause-intend g c =
 -- ---- no part
 
 pub returns-then-len-eq0-clause-room : goal.returns-then-len-eq0-clause-room
-returns-then-len-eq0-clause-room g c = λ told. ?
+returns-then-len-eq0-clause-room g c = λ told.
+    none_room (g.V.Vault.volume c.args.vault.now) (g.V.Vault.held c.args.vault.now).cells (list_map part_note c.args.notes.now.parts.items) (no_notes c.args.notes.now.parts.items (sym c.args.notes.now.parts.ok.0 ∙ sym c.len.ensures ∙ c.if-len-eq0.true))
+    (c.knows.ensures.fitting (g.V.Vault.held c.args.vault.now) told (c.knows.ensures.as_held told c.requires.serving))
 
 pub returns-then-len-eq0-clause-sound : goal.returns-then-len-eq0-clause-sound
-returns-then-len-eq0-clause-sound g c = λ told. ?
+returns-then-len-eq0-clause-sound g c = λ told.
+    none_sound (g.V.Vault.volume c.args.vault.now) (g.V.Vault.held c.args.vault.now).cells (list_map part_note c.args.notes.now.parts.items) (no_notes c.args.notes.now.parts.items (sym c.args.notes.now.parts.ok.0 ∙ sym c.len.ensures ∙ c.if-len-eq0.true))
+    (c.knows.ensures.fitting (g.V.Vault.held c.args.vault.now) told (c.knows.ensures.as_held told c.requires.serving))
 
 -- ---- room
 
@@ -64,7 +68,7 @@ returns-then-not-volume_has_room-clause-bad g c = λ told bad fit sound.
     (subst (λ (ps : List RegainedPart). HaveRoomFor (g.V.Vault.volume c.args.vault.now) held ps) (sym c.as_slice.ensures.value) room)))
 
 pub returns-then-not-volume_has_room-clause-alone : goal.returns-then-not-volume_has_room-clause-alone
-returns-then-not-volume_has_room-clause-alone g c = λ bad none log. ?
+returns-then-not-volume_has_room-clause-alone g c = λ bad none log. c.if-len-eq0.false (c.len.ensures ∙ c.args.notes.now.parts.ok.0 ∙ some_notes c.args.notes.now.parts.items none)
 
 pub returns-clause-room : goal.returns-clause-room
 returns-clause-room g c = λ told.
@@ -90,7 +94,7 @@ returns-then-not-branch-clause-bad g c = λ told bad fit sound.
     (subst (λ (xs : List (JoinNo × ReadyPart)). AreSoundTogether held (list_map part_note xs)) (sym c.as_slice-2.ensures.value) sound)
 
 pub returns-then-not-branch-clause-alone : goal.returns-then-not-branch-clause-alone
-returns-then-not-branch-clause-alone g c = λ bad none log. ?
+returns-then-not-branch-clause-alone g c = λ bad none log. c.if-len-eq0.false (c.len.ensures ∙ c.args.notes.now.parts.ok.0 ∙ some_notes c.args.notes.now.parts.items none)
 
 pub returns-clause-sound : goal.returns-clause-sound
 returns-clause-sound g c = λ told.
