@@ -59,8 +59,12 @@ pub all_has : {A : Type 0} (P : A → Type 0) (xs : List A) → ((x : A) → Has
 all_has P [] f = tt
 all_has P (y ∷ ys) f = (f y (inl refl), all_has P ys (λ x h. f x (inr h)))
 
-abbrev one_more : {Y : Type 0} → Y → Option Y → List Y → Type 0
-one_more y o ys = Has y (cons_option o ys)
+-- what is nothing is not something
+pub differ : {A : Type 0} (o : Option A) (x : A) → o ≡ None → o ≡ Some x → ⊥
+differ o x none some = by (sym none ∙ some)
+  where
+    by : None ≡ Some x → ⊥
+    by wrong = cc
 
 more : {Y : Type 0} (y : Y) (o : Option Y) (ys : List Y) → Has y ys → Has y (cons_option o ys)
 more y None ys h = h
@@ -250,7 +254,7 @@ module _ {N K P : Type 0} (key : N → K) (same : K → K → Bool) (itself : (k
     where
       go : (b : Bool) → same (key n) k ≡ b → (looked ns k ≡ none) ⊎ IsLooked ns k (looked ns k) → (cond {A = P} b (value n) (looked ns k) ≡ none) ⊎ IsLooked (n ∷ ns) k (cond {A = P} b (value n) (looked ns k))
       go true e rest = inr (record { note = n; has = inl refl; of = is (key n) k e; says = refl })
-      go false e (inl no) = inl no
+      go false e (inl nothing) = inl nothing
       go false e (inr l) = inr (record { note = l.note; has = inr l.has; of = l.of; says = l.says })
 
   pub looked_some : (ns : List N) (n : N) → Has n ns → IsLooked ns (key n) (looked ns (key n))
@@ -283,7 +287,7 @@ pub record IsPhaseNoted (ns : List ReadyNote) (j : JoinNo) (p : Phase) : Type 0 
 
 pub phase_or : (ns : List ReadyNote) (j : JoinNo) → (phase_noted ns j ≡ Unseen) ⊎ IsPhaseNoted ns j (phase_noted ns j)
 phase_or ns j =
-    ⊎_elim (λ no. inl (phase_looked ns j ∙ no)) (λ l. inr (record { note = l.note; has = l.has; of = l.of; says = phase_looked ns j ∙ l.says }))
+    ⊎_elim (λ none. inl (phase_looked ns j ∙ none)) (λ l. inr (record { note = l.note; has = l.has; of = l.of; says = phase_looked ns j ∙ l.says }))
     (looked_or (λ (n : ReadyNote). n.join) same_join same_join-itself same_join-true (λ (n : ReadyNote). Ready n.trans n.client n.ts) Unseen ns j)
 
 pub record IsLifeNoted (ns : List ReadyNote) (t : TransId) (x : Option Life) : Type 0 where
@@ -294,7 +298,7 @@ pub record IsLifeNoted (ns : List ReadyNote) (t : TransId) (x : Option Life) : T
 
 pub life_or : (ns : List ReadyNote) (t : TransId) → (lives_noted ns t ≡ None) ⊎ IsLifeNoted ns t (lives_noted ns t)
 life_or ns t =
-    ⊎_elim (λ no. inl (life_looked ns t ∙ no)) (λ l. inr (record { note = l.note; has = l.has; of = l.of; says = life_looked ns t ∙ l.says }))
+    ⊎_elim (λ none. inl (life_looked ns t ∙ none)) (λ l. inr (record { note = l.note; has = l.has; of = l.of; says = life_looked ns t ∙ l.says }))
     (looked_or (λ (n : ReadyNote). n.trans) same_trans same_trans-itself same_trans-true (λ (n : ReadyNote). Some (early_life n)) None ns t)
 
 pub record IsFateNoted (ds : List DecisionNote) (t : TransId) (f : Fate) : Type 0 where
@@ -305,7 +309,7 @@ pub record IsFateNoted (ds : List DecisionNote) (t : TransId) (f : Fate) : Type 
 
 pub fate_or : (ds : List DecisionNote) (t : TransId) → (fate_noted ds t ≡ Undrawn) ⊎ IsFateNoted ds t (fate_noted ds t)
 fate_or ds t =
-    ⊎_elim (λ no. inl (fate_looked ds t ∙ no)) (λ l. inr (record { note = l.note; has = l.has; of = l.of; says = fate_looked ds t ∙ l.says }))
+    ⊎_elim (λ none. inl (fate_looked ds t ∙ none)) (λ l. inr (record { note = l.note; has = l.has; of = l.of; says = fate_looked ds t ∙ l.says }))
     (looked_or (λ (d : DecisionNote). d.stamp.trans) same_trans same_trans-itself same_trans-true (λ (d : DecisionNote). Committed d.stamp d.joins []) Undrawn ds t)
 
 -- two ready notes of one transaction are one, where all keep apart

@@ -103,3 +103,7 @@ pub mod EndingLemmas
 pub mod OutcomeLemmas
 pub mod JoinLemmas
 pub mod LogLemmas
+pub mod FoundNotes
+pub mod FoundLives
+pub mod FoundStart
+pub mod FoundReady

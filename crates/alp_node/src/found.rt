@@ -132,7 +132,7 @@ fn start_fault(fault: RegainFault) -> StartFault
 }
 
 /// What a server finds in its vault that begins this epoch.
-pub(super) fn found<V: Vault>(
+pub(super) fn find_all<V: Vault>(
     alloc: Global,
     vault: &mut V,
     of: (u8, u8),

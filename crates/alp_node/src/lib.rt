@@ -26,6 +26,7 @@ mod opened;
 mod outcomes;
 mod releases;
 mod room;
+mod scratch;
 mod served;
 mod server_state;
 mod sessions;

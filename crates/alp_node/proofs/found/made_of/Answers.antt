@@ -1,0 +1,4 @@
+use Rattle.alp_node.proofs.found.made_of.Goals as goal
+
+pub returns : goal.returns
+returns c = ?
