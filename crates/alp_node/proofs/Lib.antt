@@ -87,6 +87,9 @@ pub mod LockKeptLemmas
 pub mod CollectLemmas
 pub mod CollectedLemmas
 pub mod CollectStepLemmas
+pub mod SoundLives
+pub mod SoundNotes
+pub mod SoundNoted
 pub mod NodeLemmas
 pub mod StopLemmas
 pub mod PastLemmas
@@ -107,3 +110,5 @@ pub mod FoundNotes
 pub mod FoundLives
 pub mod FoundStart
 pub mod FoundReady
+pub mod FinishedFates
+pub mod TickSays

@@ -34,6 +34,8 @@ mod shape;
 mod start;
 mod stored;
 mod stub;
+mod ticks;
+mod timeouts;
 mod totals;
 mod votes;
 mod waits;
