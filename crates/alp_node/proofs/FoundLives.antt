@@ -1,11 +1,10 @@
 -- parts that were regained are live, each of a transaction of its own
-use Rattle.std.specs.Prelude.{cond, Bool, true, false, IsTrue, Option, None, Some, sum_by, map as list_map}
-use Rattle.std.specs.Option.{option_to_list}
+use Rattle.std.specs.Prelude.{cond, Bool, true, false, Option, None, Some, sum_by, map as list_map}
 use Rattle.std.specs.List.{AllByRecursion}
 use Rattle.std.specs.FinMap as map
 use Rattle.std.specs.FinMap.{get-empty, len-empty}
 use Rattle.std.specs.Ordering.{eq_by_cmp}
-use Rattle.std.proofs.Common.{◌≡◌, ◌⊎◌, inl, inr, ℕ, ◌+◌, ◌≤◌, List, [], ◌∷◌, ◌++◌, length, length-append, append_assoc, append-nil, refl, sym, ◌∙◌, ap, subst, arith}
+use Rattle.std.proofs.Common.{◌≡◌, ◌⊎◌, inl, inr, ℕ, ◌+◌, ◌<◌, ◌≤◌, List, [], ◌∷◌, ◌++◌, length, length-append, append_assoc, append-nil, refl, sym, ◌∙◌, ap, subst, arith}
 use Rattle.std.proofs.lemmas.List.Sums.{sum_by-cons}
 use Rattle.alp_base.specs.Orders.{trans_cmp}
 use Rattle.alp_base.specs.declared.faults.Sizes.{Sizes}
@@ -13,14 +12,23 @@ use Rattle.alp_base.specs.declared.ids.TransId.{TransId}
 use Rattle.alp_calls.specs.Parts.{IsPart}
 use Rattle.alp_files.specs.Cells.{Cells}
 use Rattle.alp_journal.specs.Ids.{same_trans}
-use Rattle.alp_journal.specs.Opening.{ReadyNote}
+use Rattle.alp_base.specs.Notes.{Notes}
+use Rattle.alp_base.specs.declared.ids.Stamp.{Stamp}
+use Rattle.alp_coord.specs.Coordinators.{Finds, noted}
+use Rattle.alp_coord.specs.declared.decision.Decision.{Decision}
+use Rattle.alp_fields.specs.ClockNote.{clock_kept}
+use Rattle.alp_locks.specs.Tables.{Table}
+use Rattle.alp_worker.specs.Regained.{part_noted, joins_regained}
+use Rattle.alp_worker.specs.declared.regain.ReadyPart.{ReadyPart}
+use Rattle.alp_journal.specs.Opening.{ReadyNote, DecisionNote, ready_kept}
 use Rattle.alp_journal.proofs.IdLemmas.{same_trans-true, same_trans-itself}
-use Rattle.alp_regain.specs.Regained.{IsPartOf, ArePartsOf}
-use Rattle.alp_regain.specs.Rooms.{HaveRoomFor, places_in, files_in, owners_in}
-use Rattle.alp_regain.specs.Together.{HaveRoomTogether, AreApart, AreTwo}
+use Rattle.alp_regain.specs.Regained.{IsPartOf, ArePartsOf, AreLocksOf, IsRegained}
+use Rattle.alp_regain.specs.declared.regaining.Regained.{Regained}
+use Rattle.alp_regain.specs.Rooms.{HaveRoomFor}
+use Rattle.alp_regain.specs.Together.{AreApart, AreTwo}
 use Rattle.alp_regain.specs.declared.part.RegainedPart.{RegainedPart}
-use Rattle.alp_regain.proofs.RoomLemmas.{room_meant, same_length}
-use Rattle.alp_node.specs.Found.{live_of, lives_of, AreLive}
+use Rattle.alp_node.specs.Found.{live_of, lives_of, AreLive, ready_of, join_of, stamp_of, joins_noted, stamps_noted, OpensWith, RestartsWith, IsMadeOf, FindsAll}
+use Rattle.alp_node.specs.declared.found.Found.{Found}
 use Rattle.alp_node.specs.Totals.{LiveMap, total, totals_of, AreFewTotals, HaveRoom}
 use Rattle.alp_node.specs.declared.lives.Live.{Live}
 use Rattle.alp_node.proofs.FoundNotes.{Has, one_trans, differ}
@@ -185,3 +193,45 @@ module _ (all left rest : List RegainedPart) (p : RegainedPart) (m : LiveMap) (l
 
 pub all_taken : (all : List RegainedPart) (m : LiveMap) → AreTaken all [] m → m ≡ lives_of all
 all_taken all m taken = taken.is ∙ ap lives_of taken.split
+
+pub emptied : {A : Type 0} (xs : List A) (n : ℕ) → n ≡ length xs → (0 < n → ⊥) → xs ≡ []
+emptied [] n is none = refl
+emptied (x ∷ xs) n is none = absurd (none (omega (arith, is)))
+
+-- ---- what was found
+
+module _ (tells : Bool) (m : Cells) (server epoch : ℕ) where
+  ready_listed : (ps : List RegainedPart) (ns : List ReadyNote) → ArePartsOf tells m server epoch ps ns → list_map ready_of ps ≡ list_map part_noted ns
+  ready_listed [] [] are = refl
+  ready_listed [] (n ∷ ns) are = absurd are
+  ready_listed (p ∷ ps) [] are = absurd are
+  ready_listed (p ∷ ps) (n ∷ ns) are = λ i. record { join = are.0.join i; trans = are.0.trans i; client = are.0.client i; ts = are.0.ts i } ∷ ready_listed ps ns are.1 i
+
+  joins_listed : (ps : List RegainedPart) (ns : List ReadyNote) → ArePartsOf tells m server epoch ps ns → list_map join_of ps ≡ joins_noted ns
+  joins_listed [] [] are = refl
+  joins_listed [] (n ∷ ns) are = absurd are
+  joins_listed (p ∷ ps) [] are = absurd are
+  joins_listed (p ∷ ps) (n ∷ ns) are = λ i. are.0.join i ∷ joins_listed ps ns are.1 i
+
+stamps_listed : (ds : List Decision) → list_map stamp_of ds ≡ stamps_noted (list_map noted ds)
+stamps_listed [] = refl
+stamps_listed (d ∷ ds) = ap (λ (xs : List Stamp). d.stamp ∷ xs) (stamps_listed ds)
+
+pub finds_all : (tells : Bool) (m : Cells) (server epoch : ℕ) (notes : Notes) (r : Regained) (f : Found) → IsRegained tells m server r notes → IsMadeOf server epoch r f → FindsAll tells m server epoch notes f
+finds_all tells m server epoch notes r f is made =
+    let ps : list_map ready_of r.parts.items ≡ list_map part_noted (ready_kept notes) = ready_listed tells m server (clock_kept notes).epoch r.parts.items (ready_kept notes) is.parts in
+    record {
+      found = record {
+        parts = r.parts.items;
+        of = is.parts;
+        lives = made.lives;
+        locks = subst (λ (t : Table). AreLocksOf t (ready_kept notes)) (sym made.locks) is.locks;
+        joins = made.joins ∙ ap (joins_regained server epoch) ps;
+        opens = subst (λ (xs : List ReadyPart). OpensWith server epoch xs f.joins) ps made.opens;
+        restarts = subst (λ (xs : List ReadyPart). RestartsWith server epoch xs f.joins) ps made.restarts;
+        run = made.run;
+        finds = subst (λ (ds : List DecisionNote). Finds ds f.coordinator) is.decisions made.finds;
+      };
+      ready = made.ready ∙ joins_listed tells m server (clock_kept notes).epoch r.parts.items (ready_kept notes) is.parts;
+      decided = made.decided ∙ stamps_listed r.decisions.items ∙ ap stamps_noted is.decisions;
+    }

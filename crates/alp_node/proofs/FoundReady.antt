@@ -5,7 +5,7 @@ use Rattle.std.specs.FinMap as map
 use Rattle.std.specs.FinMap.{get-empty}
 use Rattle.std.specs.Ordering.{eq_by_cmp}
 use Rattle.std.specs.Option.{option_or}
-use Rattle.std.proofs.Common.{◌≡◌, ◌⊎◌, inl, inr, ⊎_elim, ℕ, ◌+◌, ◌<◌, ◌≤◌, ◌^◌, List, [], ◌∷◌, ◌++◌, length, length-append, append_assoc, append-nil, refl, sym, ◌∙◌, ap, subst, arith}
+use Rattle.std.proofs.Common.{◌≡◌, ◌⊎◌, inl, inr, ℕ, suc, ◌+◌, ◌<◌, ◌≤◌, ◌^◌, List, [], ◌∷◌, ◌++◌, length, length-append, append_assoc, append-nil, refl, sym, ◌∙◌, ap, subst, arith}
 use Rattle.std.proofs.lemmas.Bool.{eqb-true, leb-true, and_parts, not-true, or_parts}
 use Rattle.std.proofs.lemmas.List.{length-map}
 use Rattle.std.proofs.lemmas.Map.Views.{tells_apart}
@@ -40,6 +40,7 @@ use Rattle.alp_files.specs.Needs.{changed, changed_by}
 use Rattle.alp_files.specs.declared.open.Open.{Open}
 use Rattle.alp_modes.specs.declared.Mode.{Mode}
 use Rattle.alp_queue.specs.Rises.{Held}
+use Rattle.alp_queue.specs.declared.waiter.Waiter.{Waiter}
 use Rattle.alp_locks.specs.Tables.{Table, holding}
 use Rattle.alp_vault.proofs.VolumeLemmas.{clock_length}
 use Rattle.alp_vault.specs.Volumes.{changed_cells, AreNoteChanges, record_pages, live_bytes, commit_bytes, noted_bytes}
@@ -91,13 +92,14 @@ use Rattle.alp_node.specs.ServerState.{AreJoinsHere, IsReady}
 use Rattle.alp_node.specs.Sessions.{no_sessions, session_at}
 use Rattle.alp_node.specs.Totals.{LiveMap}
 use Rattle.alp_node.specs.Transactions.{AreDecidedBy}
+use Rattle.alp_node.specs.Waits.{IsOfCalls}
 use Rattle.alp_node.specs.Writes.{clock_put}
 use Rattle.alp_node.specs.declared.lives.Live.{Live}
 use Rattle.alp_node.specs.declared.server_state.ServerState.{ServerState}
 use Rattle.alp_node.proofs.CommitNotes.{clock_changes}
 use Rattle.alp_node.proofs.FoundLives.{IsFoundLive, live_note, note_live, lives_or}
 use Rattle.alp_node.proofs.FoundNotes.{Has, each_has, IsReadyAt, ready_stands, ready_has, decision_has, IsPhaseNoted, phase_or, IsFateNoted, fate_or, phase_of, one_join}
-use Rattle.alp_node.proofs.FoundStart.{opening, part_of_note, decided_drawn, decided_time, drawn_epoch, join_drawn, trans_away, notes_agree, joins_noted_so, decided_said, vote_time, each_passes}
+use Rattle.alp_node.proofs.FoundStart.{opening, part_of_note, decided_drawn, decided_time, drawn_epoch, join_drawn, trans_away, notes_agree, joins_noted_so, decided_said, vote_time}
 use Rattle.alp_node.proofs.LogLemmas.{notes_few, small_room}
 use Rattle.alp_node.proofs.MapLemmas.{tied_same}
 use Rattle.alp_node.proofs.StartLemmas.{no_session}
@@ -120,7 +122,7 @@ filter_few : {A : Type 0} (p : A → Bool) (xs : List A) → length (filter p xs
 filter_few p [] = omega arith
 filter_few {A} p (x ∷ xs) = go (p x) (filter_few p xs)
   where
-    go : (b : Bool) → length (filter p xs) ≤ length xs → length (cond {A = List A} b (x ∷ filter p xs) (filter p xs)) ≤ 1 + length xs
+    go : (b : Bool) → length (filter p xs) ≤ length xs → length (cond {A = List A} b (x ∷ filter p xs) (filter p xs)) ≤ suc (length xs)
     go true few = omega (arith, few)
     go false few = omega (arith, few)
 
@@ -191,7 +193,7 @@ module _ (tells : Bool) (server servers area : ℕ) (sizes : Sizes) (epoch clock
   abbrev told : TransId → Fate
   told u = fate_noted (decisions_kept notes) u
 
-  known_is : (u : TransId) → fate_in c u ≡ cond {A = Fate} (u.epoch == epoch) Undrawn (remembered (told u))
+  pub known_is : (u : TransId) → fate_in c u ≡ cond {A = Fate} (u.epoch == epoch) Undrawn (remembered (told u))
   known_is u = f.finds u ∙ (λ i. cond {A = Fate} (u.epoch == f.run.epoch_same i) Undrawn (remembered (told u)))
 
   -- what was decided is of an older epoch
@@ -277,7 +279,7 @@ module _ (tells : Bool) (server servers area : ℕ) (sizes : Sizes) (epoch clock
   lives_are : (u : TransId) (x : Live) → map.get l u ≡ Some x → IsFoundLive tells cells server (clock_kept notes).epoch (ready_kept notes) u x
   lives_are u x is = live_note tells cells server (clock_kept notes).epoch f.parts (ready_kept notes) f.of u x (sym (ap (λ (m : LiveMap). map.get m u) f.lives) ∙ is)
 
-  part_live : (n : ReadyNote) → Has n (ready_kept notes) → (p : RegainedPart) × (map.get l n.trans ≡ Some (live_of p)) × IsPartOf tells cells server (clock_kept notes).epoch p n
+  pub part_live : (n : ReadyNote) → Has n (ready_kept notes) → (p : RegainedPart) × (map.get l n.trans ≡ Some (live_of p)) × IsPartOf tells cells server (clock_kept notes).epoch p n
   part_live n has =
       let q = note_live tells cells server (clock_kept notes).epoch f.parts (ready_kept notes) f.of h.apart n has in
       (q.0, ap (λ (m : LiveMap). map.get m n.trans) f.lives ∙ q.1, q.2)
@@ -475,7 +477,7 @@ module _ (tells : Bool) (server servers area : ℕ) (sizes : Sizes) (epoch clock
     halted = λ down. (let wrong : false ≡ true = down in cc);
     sound = f.locks.sound;
     taken = f.locks.woken;
-    waits = record { calls = tt; apart = tt; queued = subst (λ ws. AllByRecursion _ ws) (sym f.locks.waiting) tt };
+    waits = record { calls = tt; apart = tt; queued = subst (λ (ws : List Waiter). AllByRecursion (IsOfCalls server epoch 0 l []) ws) (sym f.locks.waiting) tt };
     known = known_live;
     seat = (f.run.server_same, f.run.epoch_same);
     joins = record {

@@ -214,7 +214,7 @@ module _ (server servers area : ℕ) (sizes : Sizes) (epoch clock : ℕ) (cells 
       go [] e few = absurd (omega (arith, few))
       go (j ∷ js) e few = refl
 
-  decided_said : (t : TransId) → decision_name.Fits t → (x : Option Decision) → decision_at notes t ≡ x → x ≡ decision_kept (fate_noted (decisions_kept notes) t)
+  pub decided_said : (t : TransId) → decision_name.Fits t → (x : Option Decision) → decision_at notes t ≡ x → x ≡ decision_kept (fate_noted (decisions_kept notes) t)
   decided_said t fits (Some d) is =
       let n : DecisionNote = record { stamp = record { ts = d.ts; trans = t }; joins = d.joins } in
       let has : Has n (decisions_kept notes) = decision_has notes t d fits is in

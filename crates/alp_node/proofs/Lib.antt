@@ -112,3 +112,7 @@ pub mod FoundStart
 pub mod FoundReady
 pub mod FinishedFates
 pub mod TickSays
+pub mod PastIds
+pub mod FoundAs
+pub mod FoundNew
+pub mod StartMade

@@ -1,5 +1,5 @@
 //! How a server starts on its vault.
-ghost use Rattle.std.specs.Prelude.{◌≡◌, ◌+◌, ◌∷◌, ◌≤◌, [], Ok, IfOk, IfErr, MatchResult, IsTrue};
+ghost use Rattle.std.specs.Prelude.{◌≡◌, ◌+◌, ◌^◌, ◌∷◌, ◌≤◌, [], Ok, IfOk, IfErr, MatchResult, IsTrue};
 ghost use Rattle.alp_base.specs.Allowances.{Spends};
 ghost use Rattle.alp_base.specs.declared.faults.VaultFault.TheVariants as vault_fault;
 ghost use Rattle.alp_node.specs.declared.stored.StoreFault.TheVariants as store_fault;
@@ -151,7 +151,7 @@ pub(super) fn put_clock<V: Vault>(
     clock: ClockNote,
 ) -> Result<(), StoreFault>
     requires serving { IsTrue (V.serves vault.old) }
-    requires fits { clock_form.Fits clock }
+    requires time { clock.clock ≤ 2 ^ 62 }
     requires noted { AreNoteChanges (V.server vault.old) (V.servers vault.old) (V.held vault.old).notes (clock_put clock ∷ []) }
     requires log { record_pages (live_bytes (V.held vault.old).notes) + record_pages (commit_bytes 0 (clock_put clock ∷ [])) ≤ (V.volume vault.old).area }
     ensures { PutsClock V.Vault vault.old vault.new clock result }
