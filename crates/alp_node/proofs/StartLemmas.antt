@@ -27,7 +27,10 @@ use Rattle.alp_files.specs.Changes.{edits_of}
 use Rattle.alp_files.specs.Edits.{edits_map}
 use Rattle.alp_files.specs.Locks.{page_limit}
 use Rattle.alp_files.specs.Needs.{no_intents}
-use Rattle.alp_calls.specs.Looks.{IsLeft}
+use Rattle.alp_calls.specs.Looks.{IsLeft, Looks}
+use Rattle.alp_calls.specs.declared.fault.CallFault.{CallFault}
+use Rattle.alp_calls.specs.declared.fault.CallFault.TheVariants as call_fault
+use Rattle.alp_base.specs.declared.faults.VaultFault.TheVariants as vault_fault
 use Rattle.alp_calls.proofs.PartLaws.{same_change}
 use Rattle.alp_trans.specs.Parts.{change_of}
 use Rattle.alp_trans.specs.declared.part.Part.{Part}
@@ -37,14 +40,20 @@ use Rattle.alp_vault.specs.Vault.{IsSameVault}
 use Rattle.alp_vault.specs.declared.vault.Vault.{Ghosts}
 use Rattle.alp_journal.specs.Desk.{Session}
 use Rattle.alp_node.specs.Durable.{Leaves, Besides, IsWritten}
-use Rattle.alp_node.specs.Halts.{Ends}
+use Rattle.alp_node.specs.Found.{WasNotFound, look_in}
+use Rattle.alp_node.specs.Halts.{Ends, IsUncounted}
+use Rattle.alp_node.specs.declared.found.Found.{Found}
 use Rattle.alp_node.specs.ServerState.{SeesNoneToCome}
 use Rattle.alp_node.specs.Sessions.{no_sessions, session_at}
-use Rattle.alp_node.specs.Starts.{HasStartCause, IsKeptOrRaised, PutsClock, after_clock, after_note, raised, with_clock}
+use Rattle.alp_node.specs.Starts.{HasStartCause, IsKeptOrRaised, IsNoteFault, PutsClock, after_clock, after_note, raised, with_clock}
 use Rattle.alp_node.specs.Writes.{clock_put}
 use Rattle.alp_node.specs.declared.start.StartFault.{StartFault}
 use Rattle.alp_node.specs.declared.start.StartFault.TheVariants as start_fault
 use Rattle.alp_node.specs.declared.stored.StoreFault.{StoreFault}
+use Rattle.alp_base.specs.Causes.{Rose}
+use Rattle.alp_base.specs.Faults.{HasFaultCause}
+use Rattle.alp_node.specs.declared.stored.StoreFault.TheVariants as store_fault
+use Rattle.alp_node.proofs.StoreLemmas.{ends_later}
 use Rattle.alp_node.proofs.ClockLaws.{clock_epoch, not_last}
 
 ok_same : {A E : Type 0} (x y : A) → ◌≡◌ {A = Result A E} (Ok x) (Ok y) → x ≡ y
@@ -232,3 +241,61 @@ start_cause tells server servers s held before a value r there is =
 
 pub vault_same : (f g : VaultFault) → start_fault.Vault f ≡ start_fault.Vault g → f ≡ g
 vault_same f g e = cc
+
+-- ---- a look that found nothing
+
+module _ {V : Type 0} (G : Ghosts V) (old new : V) where
+  pub looks_left : (o : Option CallFault) → Looks G old new o → IsLeft G old new
+  looks_left None h = h.0
+  looks_left (Some call_fault.Failed) h = h.0
+  looks_left (Some call_fault.Stopped) h = h.0
+  looks_left (Some call_fault.OutOfMemory) h = h.0
+
+  pub left_uncounted : IsLeft G old new → G.faults new ≡ G.faults old → IsUncounted G old new
+  left_uncounted h same = record { held = h.contents; faults = same; allowance = h.allowed }
+
+  pub left_spends : (now : Allowance) → IsLeft G old new → Spends (G.allowance new) now → Spends (G.allowance old) now
+  left_spends now h s = subst (λ (a : Allowance). Spends a now) h.allowed s
+
+  -- the notes go apart, or the vault did not answer
+  pub look_cause : (f : StartFault) → WasNotFound (G.tells old) (G.server old) (G.servers old) (G.volume old) (G.held old) f → Looks G old new (look_in {T = Found} (Err f))
+      → HasStartCause (G.tells old) (G.server old) (G.servers old) (G.volume old) (G.held old) (G.faults old) (G.faults new) (G.allowance new) f
+  look_cause (start_fault.Vault vault_fault.Failed) h l = (record { failed = λ e. l.2; stopped = λ e. cc }, tt, l.0.later)
+  look_cause (start_fault.Vault vault_fault.Stopped) h l = (record { failed = λ e. cc; stopped = λ e. l.2 }, tt, l.0.later)
+  look_cause (start_fault.Vault vault_fault.OutOfMemory) h l = (record { failed = λ e. cc; stopped = λ e. cc }, tt, l.0.later)
+  look_cause (start_fault.Vault (vault_fault.NotAVolume found)) h l = absurd h
+  look_cause (start_fault.Vault (vault_fault.Damaged place)) h l = absurd h
+  look_cause start_fault.BadNote h l = h
+  look_cause start_fault.EpochEnd h l = absurd h
+
+  -- where memory was wanting, and where the notes go apart, nothing is counted
+  pub look_memory : (f : StartFault) → f ≡ start_fault.Vault vault_fault.OutOfMemory → Looks G old new (look_in {T = Found} (Err f)) → IsUncounted G old new × IsTrue (G.serves new)
+  look_memory f is l = (let m : Looks G old new (Some call_fault.OutOfMemory) = subst (λ (x : StartFault). Looks G old new (look_in {T = Found} (Err x))) is l in (left_uncounted m.0 m.2, m.1))
+
+  pub look_noted : (f : StartFault) → IsNoteFault f → Looks G old new (look_in {T = Found} (Err f)) → IsUncounted G old new × IsTrue (G.serves new)
+  look_noted start_fault.BadNote n l = (left_uncounted l.0 l.2, l.1)
+  look_noted start_fault.EpochEnd n l = (left_uncounted l.0 l.2, l.1)
+  look_noted (start_fault.Vault f) n l = absurd n
+
+-- the causes are those of the server of that number
+pub found_of : (tells : Bool) (a b c d : ℕ) (s : Sizes) (held : Contents) (f : StartFault) → a ≡ c → b ≡ d → WasNotFound tells c d s held f → WasNotFound tells a b s held f
+found_of tells a b c d s held f one two h = subst (λ (n : ℕ). WasNotFound tells n b s held f) (sym one) (subst (λ (n : ℕ). WasNotFound tells c n s held f) (sym two) h)
+
+-- a write that did not go through, after a look
+module _ {V : Type 0} (G : Ghosts V) (old mid new : V) (left : IsLeft G old mid) (count : G.faults mid ≡ G.faults old) where
+  pub put_memory : (f : StoreFault) → f ≡ store_fault.OutOfMemory → Ends {T = Unit {0}} G mid new (Err f) → IsUncounted G old new × IsTrue (G.serves new)
+  put_memory f is ended =
+      let e = subst (λ (x : StoreFault). Ends {T = Unit {0}} G mid new (Err x)) is ended in
+      (record { held = e.1.held ∙ left.contents; faults = e.1.faults ∙ count; allowance = e.1.allowance ∙ left.allowed }, e.0)
+
+  pub put_cause : (f : StoreFault) (v : VaultFault) → (v ≡ vault_fault.Failed → f ≡ store_fault.Failed) → (v ≡ vault_fault.Stopped → f ≡ store_fault.Stopped) → Ends {T = Unit {0}} G mid new (Err f)
+      → HasFaultCause (G.faults old) (G.faults new) (G.allowance new) v × (G.faults old ≤ G.faults new)
+  put_cause f v failed stopped ended =
+      (record {
+        failed = λ e. subst (λ (n : ℕ). Rose n (G.faults new)) count (ended_as store_fault.Failed (failed e)).1;
+        stopped = λ e. (ended_as store_fault.Stopped (stopped e)).1;
+      },
+      subst (λ (n : ℕ). n ≤ G.faults new) count (ends_later G mid new f ended))
+    where
+      ended_as : (g : StoreFault) → f ≡ g → Ends {T = Unit {0}} G mid new (Err g)
+      ended_as g is = subst (λ (x : StoreFault). Ends {T = Unit {0}} G mid new (Err x)) is ended
