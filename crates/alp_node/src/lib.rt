@@ -26,7 +26,6 @@ mod opened;
 mod outcomes;
 mod releases;
 mod room;
-mod scratch;
 mod served;
 mod server_state;
 mod sessions;
