@@ -116,3 +116,18 @@ pub mod PastIds
 pub mod FoundAs
 pub mod FoundNew
 pub mod StartMade
+mod AbortReady
+mod LeftWrites
+mod LetGoWrites
+mod NoteWrites
+mod WriteSteps
+mod MadeAs
+mod ApplySteps
+mod ForgetSteps
+mod CountedLocks
+mod VoteForSteps
+mod VoteNotes
+pub mod OpenJoins
+pub mod LateTold
+pub mod LateReady
+pub mod LateSteps

@@ -3,6 +3,7 @@
 
 mod answer;
 mod answering;
+mod arriving;
 mod asks;
 mod begin;
 mod blocks;
@@ -22,6 +23,7 @@ mod locking;
 mod messages;
 mod needs;
 mod node;
+mod noting;
 mod opened;
 mod outcomes;
 mod releases;
@@ -32,7 +34,6 @@ mod sessions;
 mod shape;
 mod start;
 mod stored;
-mod stub;
 mod ticks;
 mod timeouts;
 mod totals;

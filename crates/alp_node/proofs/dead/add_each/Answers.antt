@@ -1,7 +1,6 @@
 use Rattle.std.specs.Prelude.{vec_capacity, suc}
-use Rattle.std.proofs.Common.{◌≡◌, ℕ, ◌+◌, ◌<◌, ◌++◌, List, [], ◌∷◌, append-nil, append_assoc, drop, drop-cons, drop_of_length-le, length, length-append, slice_index_or, refl, sym, ap, ◌∙◌, arith}
+use Rattle.std.proofs.Common.{◌≡◌, ℕ, ◌+◌, ◌<◌, ◌++◌, List, [], ◌∷◌, append-nil, append_assoc, drop, drop-cons, drop_of_length-le, length, length-append, refl, sym, ap, ◌∙◌, arith}
 use Rattle.alp_worker.specs.declared.live.LiveJoin.{LiveJoin}
-use Rattle.alp_worker.specs.declared.live.Stage.TheVariants as stage
 use Rattle.alp_node.specs.Timeouts.{deads_of}
 use Rattle.alp_node.specs.declared.dead.DeadPart.{DeadPart}
 use Rattle.alp_node.proofs.dead.add_each.Goals as goal
@@ -16,10 +15,9 @@ pub loop-live-preserved : goal.loop-live-preserved
 loop-live-preserved c =
     let ls : List LiveJoin = c.args.joins.now in
     let i : ℕ = c.loop-live.live-index in
-    let none : LiveJoin = record { join = record { server = 0; epoch = 0; counter = 0 }; trans = c.args.trans; client = 0; stage = stage.Ready 0 } in
-    let l : LiveJoin = slice_index_or ls i none in
+    let l : LiveJoin = c.live-item.result in
     let one : suc i ≡ i + 1 = omega arith in
-    let next : drop i ls ≡ l ∷ drop (i + 1) ls = drop-cons ls i none c.loop-live-test.true ∙ ap (λ (n : ℕ). l ∷ drop n ls) one in
+    let next : drop i ls ≡ l ∷ drop (i + 1) ls = drop-cons ls i l c.loop-live-test.true ∙ (λ d. sym c.live-item.is d ∷ drop (one d) ls) in
     let d : DeadPart = record { client = l.client; trans = c.args.trans; cause = c.args.cause } in
     let pushed : c.push_reserved.new.self.items ≡ c.loop-live.parts.items ++ d ∷ [] = c.push_reserved.ensures.items in (
       ap (λ (xs : List DeadPart). xs ++ deads_of c.args.trans c.args.cause (drop (i + 1) ls)) pushed
