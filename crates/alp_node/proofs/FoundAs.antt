@@ -47,7 +47,7 @@ use Rattle.alp_journal.specs.Account.{Account, state_of, IsPaired, IsPartAs, IsJ
 use Rattle.alp_journal.proofs.StandLemmas.{life_of, pair_of, join_part_is}
 use Rattle.alp_regain.specs.Notes.{part_note}
 use Rattle.alp_regain.specs.Regained.{IsPartOf}
-use Rattle.alp_regain.specs.Together.{AreNotesTogether, HaveRoomTogether}
+use Rattle.alp_regain.specs.Together.{clock_before, AreNotesTogether, HaveRoomTogether}
 use Rattle.alp_regain.proofs.ChangeLemmas.{same_counts}
 use Rattle.alp_regain.proofs.RoomLemmas.{room_meant}
 use Rattle.alp_node.specs.Covers.{AreHeld, AreSizedEdits}
@@ -109,7 +109,7 @@ none_unkept lives t client ts h = absurd h
 
 -- ---- a state of which the notes tell
 
-module _ (tells : Bool) (server servers area : ℕ) (sizes : Sizes) (epoch clock : ℕ) (cells : Cells) (notes : Notes) (h : AreNotesTogether server servers area notes) (later : (clock_kept notes).epoch < epoch)
+module _ (tells : Bool) (server servers area : ℕ) (sizes : Sizes) (epoch clock : ℕ) (cells : Cells) (notes : Notes) (h : AreNotesTogether server servers epoch area notes) (later : (clock_before epoch notes).epoch < epoch)
     (l : LiveMap) (t : Table) (k : Joins) (c : Coordinator) (f : IsFoundIn tells cells server epoch notes l t k c) where
   -- It is in the epoch that begins, at this clock, in which nothing was drawn. Nobody has a session or a call that waits, nothing runs,
   -- and each part that is live has voted.
@@ -167,7 +167,7 @@ module _ (tells : Bool) (server servers area : ℕ) (sizes : Sizes) (epoch clock
         go z of (inr y) = (let both = by z.client client y.0 ts (sym y.1 ∙ ready) in (both.0, of, y.2 ∙ ap (λ (n : ℕ). Some n) both.1))
 
     -- a life of a note's part
-    note_life : (told : IsTrue tells) (u : TransId) (x : Live) → IsFoundLive tells cells server (clock_kept notes).epoch (ready_kept notes) u x → (life : Life) × (m.holder.lives u ≡ Some life) × IsLife m.holder.cells t.held (m.locked u) u x life
+    note_life : (told : IsTrue tells) (u : TransId) (x : Live) → IsFoundLive tells cells server (clock_before epoch notes).epoch (ready_kept notes) u x → (life : Life) × (m.holder.lives u ≡ Some life) × IsLife m.holder.cells t.held (m.locked u) u x life
     note_life tell u x found =
         let n : ReadyNote = found.note in
         let s : IsReadyAt notes n = ready_stands notes n found.has in
@@ -222,9 +222,9 @@ module _ (tells : Bool) (server servers area : ℕ) (sizes : Sizes) (epoch clock
 
     -- just the live parts are kept
     lives_alike : IsTrue tells → (u : TransId) → IsAlike m.holder.cells t.held (m.locked u) u (map.get l u) (m.holder.lives u)
-    lives_alike tell u = go (lives_or tells cells server (clock_kept notes).epoch f.parts (ready_kept notes) f.of u)
+    lives_alike tell u = go (lives_or tells cells server (clock_before epoch notes).epoch f.parts (ready_kept notes) f.of u)
       where
-        go : ((map.get (lives_of f.parts) u ≡ None) × ((n : ReadyNote) → Has n (ready_kept notes) → n.trans ≡ u → ⊥)) ⊎ ((x : Live) × (map.get (lives_of f.parts) u ≡ Some x) × IsFoundLive tells cells server (clock_kept notes).epoch (ready_kept notes) u x)
+        go : ((map.get (lives_of f.parts) u ≡ None) × ((n : ReadyNote) → Has n (ready_kept notes) → n.trans ≡ u → ⊥)) ⊎ ((x : Live) × (map.get (lives_of f.parts) u ≡ Some x) × IsFoundLive tells cells server (clock_before epoch notes).epoch (ready_kept notes) u x)
             → IsAlike m.holder.cells t.held (m.locked u) u (map.get l u) (m.holder.lives u)
         go (inl none) =
             let gone : map.get l u ≡ None = ap (λ (x : LiveMap). map.get x u) f.lives ∙ none.0 in
@@ -322,7 +322,7 @@ module _ (tells : Bool) (server servers area : ℕ) (sizes : Sizes) (epoch clock
       lives = lives_alike tell;
       room = subst (λ (x : LiveMap). HaveRoom sizes m.holder.cells (totals_of x)) (sym f.lives)
           (subst (λ (x : Cells). HaveRoom sizes x (totals_of (lives_of f.parts))) (sym q.cells_is)
-          (lives_room sizes cells f.parts (are_live tells cells server (clock_kept notes).epoch f.parts (ready_kept notes) f.of h.apart) (room_meant tells cells server (clock_kept notes).epoch tell sizes f.parts (ready_kept notes) f.of room)));
+          (lives_room sizes cells f.parts (are_live tells cells server (clock_before epoch notes).epoch f.parts (ready_kept notes) f.of h.apart) (room_meant tells cells server (clock_before epoch notes).epoch tell sizes f.parts (ready_kept notes) f.of room)));
       unborn = q.unborn;
       coordinator = record {
         run = subst (λ (i : Ids). IsOf m.holder.server i.epoch i.transactions c) (sym q.ids_is) (subst (λ (n : ℕ). IsOf n epoch 0 c) (sym q.server_is) f.run);

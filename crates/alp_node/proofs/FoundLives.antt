@@ -16,7 +16,7 @@ use Rattle.alp_base.specs.Notes.{Notes}
 use Rattle.alp_base.specs.declared.ids.Stamp.{Stamp}
 use Rattle.alp_coord.specs.Coordinators.{Finds, noted}
 use Rattle.alp_coord.specs.declared.decision.Decision.{Decision}
-use Rattle.alp_fields.specs.ClockNote.{clock_kept}
+use Rattle.alp_regain.specs.Together.{clock_before}
 use Rattle.alp_locks.specs.Tables.{Table}
 use Rattle.alp_worker.specs.Regained.{part_noted, joins_regained}
 use Rattle.alp_worker.specs.declared.regain.ReadyPart.{ReadyPart}
@@ -217,9 +217,9 @@ stamps_listed : (ds : List Decision) → list_map stamp_of ds ≡ stamps_noted (
 stamps_listed [] = refl
 stamps_listed (d ∷ ds) = ap (λ (xs : List Stamp). d.stamp ∷ xs) (stamps_listed ds)
 
-pub finds_all : (tells : Bool) (m : Cells) (server epoch : ℕ) (notes : Notes) (r : Regained) (f : Found) → IsRegained tells m server r notes → IsMadeOf server epoch r f → FindsAll tells m server epoch notes f
+pub finds_all : (tells : Bool) (m : Cells) (server epoch : ℕ) (notes : Notes) (r : Regained) (f : Found) → IsRegained tells m server epoch r notes → IsMadeOf server epoch r f → FindsAll tells m server epoch notes f
 finds_all tells m server epoch notes r f is made =
-    let ps : list_map ready_of r.parts.items ≡ list_map part_noted (ready_kept notes) = ready_listed tells m server (clock_kept notes).epoch r.parts.items (ready_kept notes) is.parts in
+    let ps : list_map ready_of r.parts.items ≡ list_map part_noted (ready_kept notes) = ready_listed tells m server (clock_before epoch notes).epoch r.parts.items (ready_kept notes) is.parts in
     record {
       found = record {
         parts = r.parts.items;
@@ -232,6 +232,6 @@ finds_all tells m server epoch notes r f is made =
         run = made.run;
         finds = subst (λ (ds : List DecisionNote). Finds ds f.coordinator) is.decisions made.finds;
       };
-      ready = made.ready ∙ joins_listed tells m server (clock_kept notes).epoch r.parts.items (ready_kept notes) is.parts;
+      ready = made.ready ∙ joins_listed tells m server (clock_before epoch notes).epoch r.parts.items (ready_kept notes) is.parts;
       decided = made.decided ∙ stamps_listed r.decisions.items ∙ ap stamps_noted is.decisions;
     }

@@ -34,7 +34,7 @@ use Rattle.alp_journal.proofs.IdLemmas.{same_trans-true, same_trans-itself}
 use Rattle.alp_journal.proofs.OpenedLemmas.{opened_on}
 use Rattle.alp_regain.specs.Named.{is_own, is_own_key, is_own_edit, is_drawn_by}
 use Rattle.alp_regain.specs.Regained.{PutsAreSized}
-use Rattle.alp_regain.specs.Together.{IsPartNote, AreApart, AreNotesTogether, AreSoundTogether}
+use Rattle.alp_regain.specs.Together.{clock_before, IsPartNote, AreApart, AreNotesTogether, AreSoundTogether}
 use Rattle.alp_regain.proofs.LockLemmas.{are_intended, are_within}
 use Rattle.alp_regain.proofs.OwnerLemmas.{joins_apart, are_ready_here, are_decided_here}
 use Rattle.alp_node.specs.Covers.{AreSizedEdits}
@@ -103,9 +103,9 @@ locked_looked (m ∷ ns) t n apart has at = go (same_trans m.trans t) refl has (
 
 -- ---- the opening
 
-module _ (tells : Bool) (server servers area : ℕ) (sizes : Sizes) (epoch clock : ℕ) (cells : Cells) (notes : Notes) (h : AreNotesTogether server servers area notes) (later : (clock_kept notes).epoch < epoch)
+module _ (tells : Bool) (server servers area : ℕ) (sizes : Sizes) (epoch clock : ℕ) (cells : Cells) (notes : Notes) (h : AreNotesTogether server servers epoch area notes) (later : (clock_before epoch notes).epoch < epoch)
     (l : LiveMap) (t : Table) (k : Joins) (c : Coordinator) (f : IsFoundIn tells cells server epoch notes l t k c) (volume : IsVolumeOf sizes cells)
-    (own : (g : FileId) (x : Cell) → map.get cells (Leader g) ≡ Some x → (g.server ≡ server) × (g.epoch ≤ (clock_kept notes).epoch)) where
+    (own : (g : FileId) (x : Cell) → map.get cells (Leader g) ≡ Some x → (g.server ≡ server) × (g.epoch ≤ (clock_before epoch notes).epoch)) where
   abbrev o : Start
   o = opening server servers area sizes epoch clock cells notes h later
 
@@ -119,7 +119,7 @@ module _ (tells : Bool) (server servers area : ℕ) (sizes : Sizes) (epoch clock
       go (inl none) = absurd (differ (lives_noted (ready_kept notes) u) x none is)
       go (inr y) =
           let n : ReadyNote = y.note in
-          let p : IsPartNote server (clock_kept notes).epoch n = part_of_note server servers area sizes epoch clock cells notes h later n y.has in
+          let p : IsPartNote server (clock_before epoch notes).epoch n = part_of_note server servers area sizes epoch clock cells notes h later n y.has in
           subst (λ (z : Life). IsLeftLife z (locked_noted (ready_kept notes) u)) (same-some (early_life n) x (sym y.says ∙ is)) (record {
             vote = n.ts;
             voted = refl;
@@ -136,7 +136,7 @@ module _ (tells : Bool) (server servers area : ℕ) (sizes : Sizes) (epoch clock
       go (inl none) = absurd (differ (lives_noted (ready_kept notes) u) x none is)
       go (inr y) =
           ap (λ (z : Life). edits_at z.edits (Leader g) None) (sym (same-some (early_life y.note) x (sym y.says ∙ is)))
-          ∙ none_put server (clock_kept notes).epoch g (to_come_away server (clock_kept notes).epoch epoch 0 g later comes) y.note.edits (part_of_note server servers area sizes epoch clock cells notes h later y.note y.has).edited
+          ∙ none_put server (clock_before epoch notes).epoch g (to_come_away server (clock_before epoch notes).epoch epoch 0 g later comes) y.note.edits (part_of_note server servers area sizes epoch clock cells notes h later y.note y.has).edited
 
   undecided : (u : TransId) → u.epoch ≡ epoch → fate_noted (decisions_kept notes) u ≡ Undrawn
   undecided u now = go (fate_or (decisions_kept notes) u)
@@ -144,7 +144,7 @@ module _ (tells : Bool) (server servers area : ℕ) (sizes : Sizes) (epoch clock
       go : (fate_noted (decisions_kept notes) u ≡ Undrawn) ⊎ IsFateNoted (decisions_kept notes) u (fate_noted (decisions_kept notes) u) → fate_noted (decisions_kept notes) u ≡ Undrawn
       go (inl none) = none
       go (inr y) =
-          let low : y.note.stamp.trans.epoch ≤ (clock_kept notes).epoch = drawn_epoch (clock_kept notes).epoch y.note.stamp.trans.epoch y.note.stamp.trans.counter (decided_drawn server servers area sizes epoch clock cells notes h later y.note y.has) in
+          let low : y.note.stamp.trans.epoch ≤ (clock_before epoch notes).epoch = drawn_epoch (clock_before epoch notes).epoch y.note.stamp.trans.epoch y.note.stamp.trans.counter (decided_drawn server servers area sizes epoch clock cells notes h later y.note y.has) in
           let at : y.note.stamp.trans.epoch ≡ u.epoch = ap (λ (v : TransId). v.epoch) y.of in
           absurd (omega (arith, low, at, later, now))
 
@@ -176,7 +176,7 @@ module _ (tells : Bool) (server servers area : ℕ) (sizes : Sizes) (epoch clock
     applied = λ u stamp js now is. absurd (differ (decision_in (fate_noted (decisions_kept notes) u)) (stamp, js) (ap decision_in (undecided u now)) is);
     unborn = beyond;
     made = record { early = []; old = tt; all = refl };
-    born = none_born server epoch (clock_kept notes).epoch cells own later;
+    born = none_born server epoch (clock_before epoch notes).epoch cells own later;
     earlier = tt;
     quiet = quiet server servers area sizes epoch clock cells notes h later;
   }
@@ -188,15 +188,15 @@ module _ (tells : Bool) (server servers area : ℕ) (sizes : Sizes) (epoch clock
   pub new_sound : AreSoundTogether cells (ready_kept notes) → (clock_kept notes).clock ≤ clock → IsSoundStart o
   new_sound sound low = record {
     parts =
-        notes_sound cells server (clock_kept notes).epoch (ready_kept notes) volume.sound (volume_sized sizes cells volume) h.parts h.apart sound
+        notes_sound cells server (clock_before epoch notes).epoch (ready_kept notes) volume.sound (volume_sized sizes cells volume) h.parts h.apart sound
         (all_has (λ (n : ReadyNote). AreSizedEdits n.edits) (ready_kept notes) note_sized);
-    before = (clock_kept notes).epoch;
+    before = (clock_before epoch notes).epoch;
     earlier = later;
     ready = h.parts;
     here = are_ready_here server servers notes h.format;
     joins = joins_apart notes;
     apart = h.apart;
     decisions = are_decided_here server servers notes h.format;
-    drawn = passes_all (λ (d : DecisionNote). is_drawn_by (clock_kept notes).epoch d.stamp.trans.epoch d.stamp.trans.counter) (decisions_kept notes) (decided_drawn server servers area sizes epoch clock cells notes h later);
+    drawn = passes_all (λ (d : DecisionNote). is_drawn_by (clock_before epoch notes).epoch d.stamp.trans.epoch d.stamp.trans.counter) (decisions_kept notes) (decided_drawn server servers area sizes epoch clock cells notes h later);
     times = passes_all (λ (d : DecisionNote). nat_le d.stamp.ts clock) (decisions_kept notes) (λ d has. le-leb d.stamp.ts clock (let time : d.stamp.ts ≤ (clock_kept notes).clock = decided_time server servers area sizes epoch clock cells notes h later d has in omega (arith, time, low)));
   }

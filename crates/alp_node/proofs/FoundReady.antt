@@ -79,7 +79,7 @@ use Rattle.alp_regain.specs.Notes.{part_note}
 use Rattle.alp_regain.specs.Owners.{joins_of}
 use Rattle.alp_regain.specs.Regained.{IsPartOf, ArePartsOf, HoldsNoted, IsKnownTo, AreLocksOf, has_note_of}
 use Rattle.alp_regain.specs.Rooms.{FitsLogAlone}
-use Rattle.alp_regain.specs.Together.{IsPartNote, AreNotesTogether, size_of, log_sum}
+use Rattle.alp_regain.specs.Together.{clock_before, IsPartNote, AreNotesTogether, size_of, log_sum}
 use Rattle.alp_regain.specs.declared.part.RegainedPart.{RegainedPart}
 use Rattle.alp_regain.proofs.OwnerLemmas.{joins_apart}
 use Rattle.alp_regain.proofs.RoomLemmas.{each_fits}
@@ -185,7 +185,7 @@ client_remembered ds t = go (fate_or ds t)
     go (inl none) = ap (λ (f : Fate). client_of (remembered f)) none
     go (inr x) = ap (λ (f : Fate). client_of (remembered f)) x.says ∙ by x.note.stamp x.note.joins
 
-module _ (tells : Bool) (server servers area : ℕ) (sizes : Sizes) (epoch clock : ℕ) (cells : Cells) (notes : Notes) (h : AreNotesTogether server servers area notes) (later : (clock_kept notes).epoch < epoch)
+module _ (tells : Bool) (server servers area : ℕ) (sizes : Sizes) (epoch clock : ℕ) (cells : Cells) (notes : Notes) (h : AreNotesTogether server servers epoch area notes) (later : (clock_before epoch notes).epoch < epoch)
     (l : LiveMap) (t : Table) (k : Joins) (c : Coordinator) (f : IsFoundIn tells cells server epoch notes l t k c) where
   abbrev o : Start
   o = opening server servers area sizes epoch clock cells notes h later
@@ -199,7 +199,7 @@ module _ (tells : Bool) (server servers area : ℕ) (sizes : Sizes) (epoch clock
   -- what was decided is of an older epoch
   past : (u : TransId) → (u.epoch == epoch) ≡ true → IsFateNoted (decisions_kept notes) u (told u) → ⊥
   past u now x =
-      let low : x.note.stamp.trans.epoch ≤ (clock_kept notes).epoch = drawn_epoch (clock_kept notes).epoch x.note.stamp.trans.epoch x.note.stamp.trans.counter (decided_drawn server servers area sizes epoch clock cells notes h later x.note x.has) in
+      let low : x.note.stamp.trans.epoch ≤ (clock_before epoch notes).epoch = drawn_epoch (clock_before epoch notes).epoch x.note.stamp.trans.epoch x.note.stamp.trans.counter (decided_drawn server servers area sizes epoch clock cells notes h later x.note x.has) in
       let at : x.note.stamp.trans.epoch ≡ u.epoch = ap (λ (v : TransId). v.epoch) x.of in
       absurd (omega (arith, low, at, later, eqb-true u.epoch epoch now))
 
@@ -276,12 +276,12 @@ module _ (tells : Bool) (server servers area : ℕ) (sizes : Sizes) (epoch clock
   pub note_joined : (n : ReadyNote) → Has n (ready_kept notes) → join_at k.lives n.join ≡ Some (record { join = n.join; trans = n.trans; client = n.client; stage = stage.Ready n.ts })
   note_joined n has = joins_are.live n.join ∙ ap (live_at n.join) (phase_of notes n has)
 
-  lives_are : (u : TransId) (x : Live) → map.get l u ≡ Some x → IsFoundLive tells cells server (clock_kept notes).epoch (ready_kept notes) u x
-  lives_are u x is = live_note tells cells server (clock_kept notes).epoch f.parts (ready_kept notes) f.of u x (sym (ap (λ (m : LiveMap). map.get m u) f.lives) ∙ is)
+  lives_are : (u : TransId) (x : Live) → map.get l u ≡ Some x → IsFoundLive tells cells server (clock_before epoch notes).epoch (ready_kept notes) u x
+  lives_are u x is = live_note tells cells server (clock_before epoch notes).epoch f.parts (ready_kept notes) f.of u x (sym (ap (λ (m : LiveMap). map.get m u) f.lives) ∙ is)
 
-  pub part_live : (n : ReadyNote) → Has n (ready_kept notes) → (p : RegainedPart) × (map.get l n.trans ≡ Some (live_of p)) × IsPartOf tells cells server (clock_kept notes).epoch p n
+  pub part_live : (n : ReadyNote) → Has n (ready_kept notes) → (p : RegainedPart) × (map.get l n.trans ≡ Some (live_of p)) × IsPartOf tells cells server (clock_before epoch notes).epoch p n
   part_live n has =
-      let q = note_live tells cells server (clock_kept notes).epoch f.parts (ready_kept notes) f.of h.apart n has in
+      let q = note_live tells cells server (clock_before epoch notes).epoch f.parts (ready_kept notes) f.of h.apart n has in
       (q.0, ap (λ (m : LiveMap). map.get m n.trans) f.lives ∙ q.1, q.2)
 
   pub paired : ArePaired servers server c k l
@@ -300,7 +300,7 @@ module _ (tells : Bool) (server servers area : ℕ) (sizes : Sizes) (epoch clock
       part_of : (u : TransId) (x : Option Live) → map.get l u ≡ x → IsPairedWith k u (fate_in c u) x
       part_of u None is = no_client u
       part_of u (Some y) is =
-          let q : IsFoundLive tells cells server (clock_kept notes).epoch (ready_kept notes) u y = lives_are u y is in
+          let q : IsFoundLive tells cells server (clock_before epoch notes).epoch (ready_kept notes) u y = lives_are u y is in
           let joined_at : join_at k.lives q.part.join ≡ Some (record { join = q.note.join; trans = q.note.trans; client = q.note.client; stage = stage.Ready q.note.ts }) = ap (join_at k.lives) q.of.join ∙ note_joined q.note q.has in
           subst (λ (z : Live). IsPairedWith k u (fate_in c u) (Some z)) (sym q.is) (
             no_client u,
@@ -393,8 +393,8 @@ module _ (tells : Bool) (server servers area : ℕ) (sizes : Sizes) (epoch clock
 
   within_limits : (u : TransId) (x : Live) → map.get l u ≡ Some x → sizes.area ≡ area → IsWithin sizes x
   within_limits u x is its =
-      let q : IsFoundLive tells cells server (clock_kept notes).epoch (ready_kept notes) u x = lives_are u x is in
-      let n : IsPartNote server (clock_kept notes).epoch q.note = part_of_note server servers area sizes epoch clock cells notes h later q.note q.has in
+      let q : IsFoundLive tells cells server (clock_before epoch notes).epoch (ready_kept notes) u x = lives_are u x is in
+      let n : IsPartNote server (clock_before epoch notes).epoch q.note = part_of_note server servers area sizes epoch clock cells notes h later q.note q.has in
       let alone : log_need (changed q.note.edits) (length (with_resources q.note.locks [])) ≤ area = each_has (FitsLogAlone area) (ready_kept notes) q.note (each_fits (ready_kept notes) area h.log) q.has in
       subst (IsWithin sizes) (sym q.is) (record {
         part = q.of.part;
@@ -436,19 +436,19 @@ module _ (tells : Bool) (server servers area : ℕ) (sizes : Sizes) (epoch clock
       go : (x : Option Live) → map.get l u ≡ x → holding t.held u (Whole (record { server = server; epoch = epoch; counter = n })) ≡ None
       go None is = none_held u is (Whole (record { server = server; epoch = epoch; counter = n }))
       go (Some x) is =
-          let q : IsFoundLive tells cells server (clock_kept notes).epoch (ready_kept notes) u x = lives_are u x is in
+          let q : IsFoundLive tells cells server (clock_before epoch notes).epoch (ready_kept notes) u x = lives_are u x is in
           ap (λ (v : TransId). holding t.held v (Whole (record { server = server; epoch = epoch; counter = n }))) (sym q.trans)
           ∙ note_held q.note q.has (Whole (record { server = server; epoch = epoch; counter = n }))
-          ∙ none_locked_on server (clock_kept notes).epoch epoch n later q.note.locks (part_of_note server servers area sizes epoch clock cells notes h later q.note q.has).locked
+          ∙ none_locked_on server (clock_before epoch notes).epoch epoch n later q.note.locks (part_of_note server servers area sizes epoch clock cells notes h later q.note q.has).locked
 
   known_live : (u : TransId) (x : Live) → map.get l u ≡ Some x → is_some (map.get t.held u) ≡ true
   known_live u x is =
-      let q : IsFoundLive tells cells server (clock_kept notes).epoch (ready_kept notes) u x = lives_are u x is in
+      let q : IsFoundLive tells cells server (clock_before epoch notes).epoch (ready_kept notes) u x = lives_are u x is in
       ap (λ (v : TransId). is_some (map.get t.held v)) (sym q.trans) ∙ each_has (IsKnownTo t) (ready_kept notes) q.note f.locks.known q.has
 
   nothing_open : (u : TransId) (x : Live) → map.get l u ≡ Some x → own_of x.part ≡ no_opens
   nothing_open u x is =
-      let q : IsFoundLive tells cells server (clock_kept notes).epoch (ready_kept notes) u x = lives_are u x is in
+      let q : IsFoundLive tells cells server (clock_before epoch notes).epoch (ready_kept notes) u x = lives_are u x is in
       ap (λ (y : Live). own_of y.part) q.is ∙ q.of.own
 
   -- ---- it is ready

@@ -37,7 +37,7 @@ use Rattle.alp_journal.proofs.OpenedLemmas.{DoNotesAgree, IsReadyNote as IsReady
 use Rattle.alp_regain.specs.Named.{is_drawn_by, is_decided_by}
 use Rattle.alp_regain.specs.Notes.{part_note}
 use Rattle.alp_regain.specs.Owners.{joins_of, IsReadyHere, IsDecidedHere}
-use Rattle.alp_regain.specs.Together.{IsPartNote, AreTwo, AreApart, AreNotesTogether}
+use Rattle.alp_regain.specs.Together.{clock_before, IsPartNote, AreTwo, AreApart, AreNotesTogether}
 use Rattle.alp_regain.proofs.OwnerLemmas.{joins_apart, are_ready_here, are_decided_here}
 use Rattle.alp_worker.specs.Lives.{is_part, AreSingle}
 use Rattle.alp_worker.specs.Regained.{part_noted, live_noted, AreNoted}
@@ -139,7 +139,7 @@ part_joins (n ∷ ns) = ap (λ (js : List JoinNo). n.join ∷ js) (part_joins ns
 
 -- ---- the opening
 
-module _ (server servers area : ℕ) (sizes : Sizes) (epoch clock : ℕ) (cells : Cells) (notes : Notes) (h : AreNotesTogether server servers area notes) (later : (clock_kept notes).epoch < epoch) where
+module _ (server servers area : ℕ) (sizes : Sizes) (epoch clock : ℕ) (cells : Cells) (notes : Notes) (h : AreNotesTogether server servers epoch area notes) (later : (clock_before epoch notes).epoch < epoch) where
   abbrev pub opening : Start
   opening = record { server = server; servers = servers; sizes = sizes; epoch = epoch; clock = clock; cells = cells; ready = ready_kept notes; decisions = decisions_kept notes }
 
@@ -149,20 +149,20 @@ module _ (server servers area : ℕ) (sizes : Sizes) (epoch clock : ℕ) (cells 
   pub decided_of_server : (d : DecisionNote) → Has d (decisions_kept notes) → IsDecidedHere server servers d
   decided_of_server d has = each_has (IsDecidedHere server servers) (decisions_kept notes) d (are_decided_here server servers notes h.format) has
 
-  pub part_of_note : (n : ReadyNote) → Has n (ready_kept notes) → IsPartNote server (clock_kept notes).epoch n
-  part_of_note n has = each_has (IsPartNote server (clock_kept notes).epoch) (ready_kept notes) n h.parts has
+  pub part_of_note : (n : ReadyNote) → Has n (ready_kept notes) → IsPartNote server (clock_before epoch notes).epoch n
+  part_of_note n has = each_has (IsPartNote server (clock_before epoch notes).epoch) (ready_kept notes) n h.parts has
 
-  decided_by : (d : DecisionNote) → Has d (decisions_kept notes) → is_decided_by (clock_kept notes) d.stamp ≡ true
-  decided_by d has = each_has (λ (x : DecisionNote). is_decided_by (clock_kept notes) x.stamp ≡ true) (decisions_kept notes) d (each_passes (λ (x : DecisionNote). is_decided_by (clock_kept notes) x.stamp) (decisions_kept notes) h.decided) has
+  decided_by : (d : DecisionNote) → Has d (decisions_kept notes) → is_decided_by (clock_before epoch notes) d.stamp ≡ true
+  decided_by d has = each_has (λ (x : DecisionNote). is_decided_by (clock_before epoch notes) x.stamp ≡ true) (decisions_kept notes) d (each_passes (λ (x : DecisionNote). is_decided_by (clock_before epoch notes) x.stamp) (decisions_kept notes) h.decided) has
 
-  pub decided_drawn : (d : DecisionNote) → Has d (decisions_kept notes) → is_drawn_by (clock_kept notes).epoch d.stamp.trans.epoch d.stamp.trans.counter ≡ true
-  decided_drawn d has = (and_parts (is_drawn_by (clock_kept notes).epoch d.stamp.trans.epoch d.stamp.trans.counter) (nat_le d.stamp.ts (clock_kept notes).clock) (decided_by d has)).0
+  pub decided_drawn : (d : DecisionNote) → Has d (decisions_kept notes) → is_drawn_by (clock_before epoch notes).epoch d.stamp.trans.epoch d.stamp.trans.counter ≡ true
+  decided_drawn d has = (and_parts (is_drawn_by (clock_before epoch notes).epoch d.stamp.trans.epoch d.stamp.trans.counter) (nat_le d.stamp.ts (clock_kept notes).clock) (decided_by d has)).0
 
   pub decided_time : (d : DecisionNote) → Has d (decisions_kept notes) → d.stamp.ts ≤ (clock_kept notes).clock
-  decided_time d has = leb-true d.stamp.ts (clock_kept notes).clock (and_parts (is_drawn_by (clock_kept notes).epoch d.stamp.trans.epoch d.stamp.trans.counter) (nat_le d.stamp.ts (clock_kept notes).clock) (decided_by d has)).1
+  decided_time d has = leb-true d.stamp.ts (clock_kept notes).clock (and_parts (is_drawn_by (clock_before epoch notes).epoch d.stamp.trans.epoch d.stamp.trans.counter) (nat_le d.stamp.ts (clock_kept notes).clock) (decided_by d has)).1
 
   pub join_drawn : (n : ReadyNote) → Has n (ready_kept notes) → is_drawn server epoch 0 n.join.server n.join.epoch n.join.counter ≡ true
-  join_drawn n has = drawn_before server (clock_kept notes).epoch epoch n.join.server n.join.epoch n.join.counter (ready_of_server n has).here (part_of_note n has).join later
+  join_drawn n has = drawn_before server (clock_before epoch notes).epoch epoch n.join.server n.join.epoch n.join.counter (ready_of_server n has).here (part_of_note n has).join later
 
   pub trans_away : (n : ReadyNote) → Has n (ready_kept notes) → is_other servers server n.trans.server ≡ true
   trans_away n has = other_of server servers n.trans.server (ready_of_server n has).elsewhere
@@ -173,7 +173,7 @@ module _ (server servers area : ℕ) (sizes : Sizes) (epoch clock : ℕ) (cells 
     ready = all_has (IsReadyOf opening) (ready_kept notes) (λ n has. (join_drawn n has, trans_away n has));
     joins = joins_apart notes;
     trans = ready_apart (ready_kept notes) h.apart;
-    decisions = all_has (IsDecisionOf opening) (decisions_kept notes) (λ d has. drawn_before server (clock_kept notes).epoch epoch d.stamp.trans.server d.stamp.trans.epoch d.stamp.trans.counter (decided_of_server d has).here (decided_drawn d has) later);
+    decisions = all_has (IsDecisionOf opening) (decisions_kept notes) (λ d has. drawn_before server (clock_before epoch notes).epoch epoch d.stamp.trans.server d.stamp.trans.epoch d.stamp.trans.counter (decided_of_server d has).here (decided_drawn d has) later);
     decided = decided_apart notes;
   }
 

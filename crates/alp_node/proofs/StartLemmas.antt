@@ -1,5 +1,5 @@
 -- the epoch and the clock that a server starts with, and what a crash leaves of a start
-use Rattle.std.specs.Prelude.{slice_get, zero, suc, cond, Bool, true, false, ◌==◌, ◌&&◌, ◌||◌, nat_eq, Option, None, Some, is_some, unwrap_or, Result, Ok, Err, IfErr, OnOk, IsTrue, replicate}
+use Rattle.std.specs.Prelude.{slice_get, zero, suc, min, ◌-◌, cond, Bool, true, false, ◌==◌, ◌&&◌, ◌||◌, nat_eq, Option, None, Some, is_some, unwrap_or, Result, Ok, Err, IfErr, OnOk, IsTrue, replicate}
 use Rattle.std.specs.Option.{option_and_then}
 use Rattle.std.specs.Cmp.Lexicographic.{pointwise}
 use Rattle.std.specs.FinMap as map
@@ -45,7 +45,7 @@ use Rattle.alp_node.specs.Halts.{Ends, IsUncounted}
 use Rattle.alp_node.specs.declared.found.Found.{Found}
 use Rattle.alp_node.specs.ServerState.{SeesNoneToCome}
 use Rattle.alp_node.specs.Sessions.{no_sessions, session_at}
-use Rattle.alp_node.specs.Starts.{HasStartCause, IsKeptOrRaised, IsNoteFault, PutsClock, after_clock, after_note, raised, with_clock}
+use Rattle.alp_node.specs.Starts.{HasStartCause, IsKeptOrRaised, IsNoteFault, PutsClock, epoch_after, after_clock, after_note, raised, with_clock}
 use Rattle.alp_node.specs.Writes.{clock_put}
 use Rattle.alp_node.specs.declared.start.StartFault.{StartFault}
 use Rattle.alp_node.specs.declared.start.StartFault.TheVariants as start_fault
@@ -62,6 +62,7 @@ ok_same x y e = cc
 -- a later epoch, and a time
 record IsLater (value : Option (List ℕ)) (c : ClockNote) : Type 0 where
   later : (clock_in value).epoch < c.epoch
+  next : c.epoch ≡ (clock_in value).epoch + 1
   same : c.clock ≡ (clock_in value).clock
   within : c.clock ≤ 2 ^ 62
   last : c.epoch < 2 ^ 32
@@ -79,18 +80,29 @@ after_value value c (Some k) is e = go (k.epoch == 4294967295) refl e
         let clock : k.clock ≡ c.clock = ap (λ (x : ClockNote). x.clock) same in
         let low : k.epoch < 4294967296 = clock_epoch value k is in
         let more : k.epoch + 1 < 4294967296 = not_last k.epoch low at in
-        record { later = omega (arith, kept, epoch); same = sym clock ∙ sym (ap (λ (x : Option ClockNote). (unwrap_or x (record { epoch = 0; clock = 0 })).clock) is); within = omega (arith, clock, clock_within value k is); last = omega (arith, epoch, more) }
+        record { later = omega (arith, kept, epoch); next = omega (arith, kept, epoch); same = sym clock ∙ sym (ap (λ (x : Option ClockNote). (unwrap_or x (record { epoch = 0; clock = 0 })).clock) is); within = omega (arith, clock, clock_within value k is); last = omega (arith, epoch, more) }
 
 after_any : (value : Option (List ℕ)) (c : ClockNote) → after_note value ≡ Ok c → IsLater value c
 after_any None c e =
     let same : record { epoch = 1; clock = 0 } ≡ c = ok_same (record { epoch = 1; clock = 0 }) c e in
     let epoch : 1 ≡ c.epoch = ap (λ (x : ClockNote). x.epoch) same in
     let clock : 0 ≡ c.clock = ap (λ (x : ClockNote). x.clock) same in
-    record { later = omega (arith, epoch); same = sym clock; within = omega (arith, clock); last = omega (arith, epoch) }
+    record { later = omega (arith, epoch); next = omega (arith, epoch); same = sym clock; within = omega (arith, clock); last = omega (arith, epoch) }
 after_any (Some value) c e = after_value value c (whole clock_form value) refl e
 
 pub raised_later : (held : Contents) (c : ClockNote) → raised held ≡ Ok c → (clock_kept held.notes).epoch < c.epoch
 raised_later held c e = (after_any (map.get held.notes clock_name) c e).later
+
+-- what was drawn before an epoch was drawn in an older one
+pub before_less : (noted epoch : ℕ) → 0 < epoch → min noted (epoch - 1) < epoch
+before_less noted epoch some = omega (arith, some)
+
+-- before the epoch after that of the note, that is in those up to it
+pub before_same : (noted epoch : ℕ) → epoch ≡ noted + 1 → min noted (epoch - 1) ≡ noted
+before_same noted epoch is = omega (arith, is)
+
+pub raised_next : (held : Contents) (c : ClockNote) → raised held ≡ Ok c → c.epoch ≡ epoch_after held
+raised_next held c e = (after_any (map.get held.notes clock_name) c e).next
 
 pub raised_within : (held : Contents) (c : ClockNote) → raised held ≡ Ok c → c.clock ≤ 2 ^ 62
 raised_within held c e = (after_any (map.get held.notes clock_name) c e).within
@@ -258,7 +270,7 @@ module _ {V : Type 0} (G : Ghosts V) (old new : V) where
   left_spends now h s = subst (λ (a : Allowance). Spends a now) h.allowed s
 
   -- the notes go apart, or the vault did not answer
-  pub look_cause : (f : StartFault) → WasNotFound (G.tells old) (G.server old) (G.servers old) (G.volume old) (G.held old) f → Looks G old new (look_in {T = Found} (Err f))
+  pub look_cause : (f : StartFault) → WasNotFound (G.tells old) (G.server old) (G.servers old) (epoch_after (G.held old)) (G.volume old) (G.held old) f → Looks G old new (look_in {T = Found} (Err f))
       → HasStartCause (G.tells old) (G.server old) (G.servers old) (G.volume old) (G.held old) (G.faults old) (G.faults new) (G.allowance new) f
   look_cause (start_fault.Vault vault_fault.Failed) h l = (record { failed = λ e. l.2; stopped = λ e. cc }, tt, l.0.later)
   look_cause (start_fault.Vault vault_fault.Stopped) h l = (record { failed = λ e. cc; stopped = λ e. l.2 }, tt, l.0.later)
@@ -278,8 +290,9 @@ module _ {V : Type 0} (G : Ghosts V) (old new : V) where
   look_noted (start_fault.Vault f) n l = absurd n
 
 -- the causes are those of the server of that number
-pub found_of : (tells : Bool) (a b c d : ℕ) (s : Sizes) (held : Contents) (f : StartFault) → a ≡ c → b ≡ d → WasNotFound tells c d s held f → WasNotFound tells a b s held f
-found_of tells a b c d s held f one two h = subst (λ (n : ℕ). WasNotFound tells n b s held f) (sym one) (subst (λ (n : ℕ). WasNotFound tells c n s held f) (sym two) h)
+pub found_of : (tells : Bool) (a b c d epoch now : ℕ) (s : Sizes) (held : Contents) (f : StartFault) → a ≡ c → b ≡ d → epoch ≡ now → WasNotFound tells c d epoch s held f → WasNotFound tells a b now s held f
+found_of tells a b c d epoch now s held f one two same h =
+    subst (λ (n : ℕ). WasNotFound tells n b now s held f) (sym one) (subst (λ (n : ℕ). WasNotFound tells c n now s held f) (sym two) (subst (λ (n : ℕ). WasNotFound tells c d n s held f) same h))
 
 -- a write that did not go through, after a look
 module _ {V : Type 0} (G : Ghosts V) (old mid new : V) (left : IsLeft G old mid) (count : G.faults mid ≡ G.faults old) where

@@ -28,7 +28,7 @@ use Rattle.alp_journal.specs.Answered.{IsAnswered}
 use Rattle.alp_journal.specs.Account.{state_of as account_state}
 use Rattle.alp_journal.specs.declared.message.Envelope.{Envelope}
 use Rattle.alp_journal.proofs.OpenedLemmas.{opened_on, opened_is}
-use Rattle.alp_regain.specs.Together.{AreNotesTogether, AreTogether}
+use Rattle.alp_regain.specs.Together.{clock_before, AreNotesTogether, AreTogether}
 use Rattle.alp_node.specs.Found.{FindsAll, HasBegun, IsFoundIn, KeepsFound}
 use Rattle.alp_node.specs.Halts.{MaySay}
 use Rattle.alp_node.specs.NodeStates.{NodeState}
@@ -45,7 +45,7 @@ use Rattle.alp_node.proofs.FoundNotes.{clock_beside}
 use Rattle.alp_node.proofs.FoundReady.{found_kept, found_ready, raised_noted}
 use Rattle.alp_node.proofs.FoundStart.{opening}
 use Rattle.alp_node.proofs.NodeLemmas.{up_durable}
-use Rattle.alp_node.proofs.StartLemmas.{raised_later, raised_within, raised_clock, raised_last}
+use Rattle.alp_node.proofs.StartLemmas.{before_less, before_same, raised_next, raised_some, raised_within, raised_clock, raised_last}
 
 -- ---- a server that begins
 
@@ -54,7 +54,7 @@ pub put_back : (notes : Notes) (c : ClockNote) → clock_form.Fits c → clock_k
 put_back notes c fits = ap clock_in (get-insert nat_list_cmp_total notes clock_name (clock_form.spell c) clock_name) ∙ clock_back c fits
 
 module _ {V : Type 0} (G : Ghosts V) (server servers : ℕ) (before mid : V) (clock : ClockNote) (f : Found) (k : ServerState V) (left : IsLeft G before mid) (fits : clock_form.Fits clock)
-    (alone : AreNotesTogether server servers (G.volume before).area (G.held before).notes) (later : (clock_kept (G.held before).notes).epoch < clock.epoch) (finds : FindsAll (G.tells before) (G.held before).cells server clock.epoch (G.held before).notes f)
+    (alone : AreNotesTogether server servers clock.epoch (G.volume before).area (G.held before).notes) (later : (clock_before clock.epoch (G.held before).notes).epoch < clock.epoch) (finds : FindsAll (G.tells before) (G.held before).cells server clock.epoch (G.held before).notes f)
     (put : PutsClock G mid k.vault clock (Ok tt)) (begun : HasBegun (G.volume k.vault) server servers clock f k.vault k) where
   abbrev pub held_before : Contents
   held_before = G.held before
@@ -106,11 +106,17 @@ module _ {V : Type 0} (G : Ghosts V) (server servers : ℕ) (before mid : V) (cl
 -- ---- and one that starts
 
 module _ {V : Type 0} (G : Ghosts V) (server servers : ℕ) (before mid : V) (clock : ClockNote) (f : Found) (n : NodeState V) (left : IsLeft G before mid) (next : raised (G.held before) ≡ Ok clock)
-    (alone : AreNotesTogether server servers (G.volume before).area (G.held before).notes) (finds : FindsAll (G.tells before) (G.held before).cells server clock.epoch (G.held before).notes f)
+    (alone : AreNotesTogether server servers clock.epoch (G.volume before).area (G.held before).notes) (finds : FindsAll (G.tells before) (G.held before).cells server clock.epoch (G.held before).notes f)
     (put : PutsClock G mid n.kept.vault clock (Ok tt)) (begun : HasBegun (G.volume n.kept.vault) server servers clock f n.kept.vault n.kept) (opening_is : n.opening.vault.value ≡ n.kept.vault) (empty : n.journal ≡ [])
     (number : G.server before ≡ server) (of_all : G.servers before ≡ servers) where
-  later_than : (clock_kept (G.held before).notes).epoch < clock.epoch
-  later_than = raised_later (G.held before) clock next
+  later_than : (clock_before clock.epoch (G.held before).notes).epoch < clock.epoch
+  later_than = before_less (clock_kept (G.held before).notes).epoch clock.epoch (raised_some (G.held before) clock next)
+
+  given_before : AreOfServer server (G.held before) → (f : FileId) (c : Cell) → map.get (G.held before).cells (Leader f) ≡ Some c → (f.server ≡ server) × (f.epoch ≤ (clock_before clock.epoch (G.held before).notes).epoch)
+  given_before given f c there = (
+    (given f c there).0,
+    subst (λ (n : ℕ). f.epoch ≤ n) (sym (before_same (clock_kept (G.held before).notes).epoch clock.epoch (raised_next (G.held before) clock next))) (given f c there).1,
+  )
 
   fits_note : clock_form.Fits clock
   fits_note = time_fits clock (raised_last (G.held before) clock next) (raised_within (G.held before) clock next)
@@ -146,7 +152,7 @@ module _ {V : Type 0} (G : Ghosts V) (server servers : ℕ) (before mid : V) (cl
     decisions = (sym ((clock_beside (G.held before).notes (clock_form.spell clock)).1) ∙ ap decisions_kept (sym notes_now)) i;
   }) ∙ ap (λ (w : V). start_by G n.kept.server w) (sym opening_is)
 
-  module _ (area : 64 ≤ (G.volume before).area) (serving : IsTrue (G.serves n.kept.vault)) (together : IsTrue (G.tells before) → AreTogether server servers (G.volume before) (G.held before).cells (G.held before).notes)
+  module _ (area : 64 ≤ (G.volume before).area) (serving : IsTrue (G.serves n.kept.vault)) (together : IsTrue (G.tells before) → AreTogether server servers clock.epoch (G.volume before) (G.held before).cells (G.held before).notes)
       (volume : IsTrue (G.tells before) → IsVolumeOf (G.volume before) (G.held before).cells) (given : IsTrue (G.tells before) → AreOfServer server (G.held before)) (only : IsTrue (G.tells n.kept.vault) → Only (G.held n.kept.vault) (G.may_leave n.kept.vault)) where
     told_before : IsTrue (G.tells v) → IsTrue (G.tells before)
     told_before told = subst IsTrue (put.same.telling ∙ left.same.telling) told
@@ -157,14 +163,14 @@ module _ {V : Type 0} (G : Ghosts V) (server servers : ℕ) (before mid : V) (cl
         subst (λ (x : Start). IsRight x (G.held v) n) (start_is told) (record {
           opening =
               new_sound (G.tells before) server servers (G.volume before).area (G.volume before) clock.epoch clock.clock (G.held before).cells (G.held before).notes alone later_than f.lives f.locks f.joins f.coordinator finds.found (volume told)
-              (given told) (together told).sound low_clock;
+              (given_before (given told)) (together told).sound low_clock;
           lawful = subst (IsLawful o) (sym empty) tt;
           caused = subst (IsAnswered o) (sym empty) (tt, λ i e at. inr (let within : i < 0 = slice_get_within [] i e at in omega (arith, within)));
           state = opened_on o;
           says = ap (state_of o) empty;
           kept = subst (IsAs (opened_on o) (G.held v)) (sym (kept_is G server servers before mid clock f n.kept left fits_note alone later_than finds put begun))
               (found_as (G.tells before) server servers (G.volume before).area (G.volume before) clock.epoch clock.clock (G.held before).cells (G.held before).notes alone later_than f.lives f.locks f.joins f.coordinator finds.found (opened_on o)
-              (new_told (G.tells before) server servers (G.volume before).area (G.volume before) clock.epoch clock.clock (G.held before).cells (G.held before).notes alone later_than f.lives f.locks f.joins f.coordinator finds.found (volume told) (given told))
+              (new_told (G.tells before) server servers (G.volume before).area (G.volume before) clock.epoch clock.clock (G.held before).cells (G.held before).notes alone later_than f.lives f.locks f.joins f.coordinator finds.found (volume told) (given_before (given told)))
               n.kept (G.held v) told fits_note (cells_now told) notes_now (together told).room);
         })
 

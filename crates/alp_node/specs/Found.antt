@@ -7,7 +7,6 @@ use Rattle.alp_base.specs.declared.faults.Sizes.{Sizes}
 use Rattle.alp_base.specs.declared.faults.VaultFault.TheVariants as vault_fault
 use Rattle.alp_base.specs.declared.ids.JoinNo.{JoinNo}
 use Rattle.alp_base.specs.declared.ids.Stamp.{Stamp}
-use Rattle.alp_fields.specs.ClockNote.{clock_kept}
 use Rattle.alp_fields.specs.declared.clock_note.ClockNote.{ClockNote}
 use Rattle.alp_files.specs.Cells.{Cells}
 use Rattle.alp_calls.specs.Looks.{fault_as}
@@ -22,7 +21,7 @@ use Rattle.alp_journal.specs.Opening.{Start, ReadyNote, DecisionNote, ready_kept
 use Rattle.alp_journal.specs.State.{State, state_deed, opened}
 use Rattle.alp_locks.specs.Tables.{Table}
 use Rattle.alp_regain.specs.Regained.{ArePartsOf, AreLocksOf}
-use Rattle.alp_regain.specs.Together.{AreNotesTogether, AreTogether}
+use Rattle.alp_regain.specs.Together.{clock_before, AreNotesTogether, AreTogether}
 use Rattle.alp_regain.specs.declared.fault.RegainFault.{RegainFault}
 use Rattle.alp_regain.specs.declared.fault.RegainFault.TheVariants as regain_fault
 use Rattle.alp_regain.specs.declared.part.RegainedPart.{RegainedPart}
@@ -97,7 +96,7 @@ stamps_noted ds = list_map (λ (d : DecisionNote). d.stamp) ds
 -- in this epoch.
 pub record IsFoundIn (tells : Bool) (m : Cells) (server epoch : ℕ) (notes : Notes) (l : LiveMap) (t : Table) (k : Joins) (c : Coordinator) : Type 0 where
   pub parts : List RegainedPart
-  pub of : ArePartsOf tells m server (clock_kept notes).epoch parts (ready_kept notes)
+  pub of : ArePartsOf tells m server (clock_before epoch notes).epoch parts (ready_kept notes)
   pub lives : l ≡ lives_of parts
   pub locks : AreLocksOf t (ready_kept notes)
   pub joins : k ≡ joins_regained server epoch (list_map part_noted (ready_kept notes))
@@ -142,9 +141,9 @@ pub record HasBegun {V : Type 0} (sizes : Sizes) (server servers : ℕ) (clock :
 -- ---- where nothing is found
 
 -- Where the vault tells, the notes are not together. Whatever it tells, either they are not, each by itself, or there is a part that is ready.
-pub record GoApart (tells : Bool) (server servers : ℕ) (s : Sizes) (held : Contents) : Type 0 where
-  pub told : IsTrue tells → AreTogether server servers s held.cells held.notes → ⊥
-  pub alone : ready_kept held.notes ≡ [] → AreNotesTogether server servers s.area held.notes → ⊥
+pub record GoApart (tells : Bool) (server servers epoch : ℕ) (s : Sizes) (held : Contents) : Type 0 where
+  pub told : IsTrue tells → AreTogether server servers epoch s held.cells held.notes → ⊥
+  pub alone : ready_kept held.notes ≡ [] → AreNotesTogether server servers epoch s.area held.notes → ⊥
 
 -- the fault of a look into the vault, if it was one
 abbrev pub look_in : {T : Type 0} → Result T StartFault → Option CallFault
@@ -154,10 +153,10 @@ look_in (Err fault.BadNote) = None
 look_in (Err fault.EpochEnd) = None
 
 -- a fault of the vault, which is a volume in its format, or notes that are not together
-abbrev pub WasNotFound : (tells : Bool) (server servers : ℕ) → Sizes → Contents → StartFault → Type 0
-WasNotFound tells server servers s held (fault.Vault f) = IsOfVolume f
-WasNotFound tells server servers s held fault.BadNote = GoApart tells server servers s held
-WasNotFound tells server servers s held fault.EpochEnd = ⊥
+abbrev pub WasNotFound : (tells : Bool) (server servers epoch : ℕ) → Sizes → Contents → StartFault → Type 0
+WasNotFound tells server servers epoch s held (fault.Vault f) = IsOfVolume f
+WasNotFound tells server servers epoch s held fault.BadNote = GoApart tells server servers epoch s held
+WasNotFound tells server servers epoch s held fault.EpochEnd = ⊥
 
 -- a fault of regaining as a start tells it
 abbrev pub IsToldAs : RegainFault → StartFault → Type 0

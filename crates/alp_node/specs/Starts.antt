@@ -38,6 +38,10 @@ after_note (Some value) = after_clock (whole clock_form value)
 abbrev pub raised : Contents → Result ClockNote StartFault
 raised held = after_note (map.get held.notes clock_name)
 
+-- the epoch after that of the note
+abbrev pub epoch_after : Contents → ℕ
+epoch_after held = (clock_kept held.notes).epoch + 1
+
 -- with that clock in its note
 abbrev pub with_clock : Contents → ClockNote → Contents
 with_clock c clock = record c { notes = map.insert c.notes clock_name (clock_form.spell clock) }
@@ -55,8 +59,8 @@ pub record PutsClock {V : Type 0} (G : Ghosts V) (old new : V) (clock : ClockNot
 -- A server started on what its vault held: notes that go together, and with the files as far as the vault tells, and cells that stay. The
 -- epoch and the clock that it raised the note to stand in it.
 pub record HasRaised (tells : Bool) (server servers : ℕ) (s : Sizes) (before now : Contents) (clock : ClockNote) : Type 0 where
-  pub alone : AreNotesTogether server servers s.area before.notes
-  pub together : IsTrue tells → AreTogether server servers s before.cells before.notes
+  pub alone : AreNotesTogether server servers (epoch_after before) s.area before.notes
+  pub together : IsTrue tells → AreTogether server servers (epoch_after before) s before.cells before.notes
   pub next : raised before ≡ Ok clock
   pub cells : IsTrue tells → now.cells ≡ before.cells
   pub notes : now.notes ≡ map.insert before.notes clock_name (clock_form.spell clock)
@@ -75,5 +79,5 @@ IsNoteFault (fault.Vault f) = ⊥
 -- never falls. The notes of this server, one of so many, are to go together.
 abbrev pub HasStartCause : Bool → (server servers : ℕ) → Sizes → Contents → (before now : ℕ) → Allowance → StartFault → Type 0
 HasStartCause tells server servers s held before now allowance (fault.Vault f) = HasFaultCause before now allowance f × IsOfVolume f × (before ≤ now)
-HasStartCause tells server servers s held before now allowance fault.BadNote = GoApart tells server servers s held
+HasStartCause tells server servers s held before now allowance fault.BadNote = GoApart tells server servers (epoch_after held) s held
 HasStartCause tells server servers s held before now allowance fault.EpochEnd = raised held ≡ Err fault.EpochEnd

@@ -140,12 +140,12 @@ pub(super) fn find_all<V: Vault>(
 ) -> Result<Found, StartFault>
     requires serving { IsTrue (V.serves vault.old) }
     ensures found { IfOk result (FindsAll (V.tells vault.old) (V.held vault.old).cells of.0 epoch (V.held vault.old).notes) }
-    ensures notes { IfOk result (λ _. AreNotesTogether of.0 of.1 (V.volume vault.old).area (V.held vault.old).notes) }
-    ensures together { IsTrue (V.tells vault.old) → IfOk result (λ _. AreTogether of.0 of.1 (V.volume vault.old) (V.held vault.old).cells (V.held vault.old).notes) }
-    ensures cause { IfErr result (WasNotFound (V.tells vault.old) of.0 of.1 (V.volume vault.old) (V.held vault.old)) }
+    ensures notes { IfOk result (λ _. AreNotesTogether of.0 of.1 epoch (V.volume vault.old).area (V.held vault.old).notes) }
+    ensures together { IsTrue (V.tells vault.old) → IfOk result (λ _. AreTogether of.0 of.1 epoch (V.volume vault.old) (V.held vault.old).cells (V.held vault.old).notes) }
+    ensures cause { IfErr result (WasNotFound (V.tells vault.old) of.0 of.1 epoch (V.volume vault.old) (V.held vault.old)) }
     ensures looked { Looks V.Vault vault.old vault.new (look_in result) }
 {
-    let regained = match regain(alloc, vault, of.0, of.1) {
+    let regained = match regain(alloc, vault, of.0, of.1, epoch) {
         Ok(regained) => regained,
         Err(fault) => return Err(start_fault(fault)),
     };

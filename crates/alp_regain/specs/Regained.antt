@@ -8,7 +8,7 @@ use Rattle.alp_base.specs.Orders.{trans_cmp}
 use Rattle.alp_base.specs.declared.ids.TransId.{TransId}
 use Rattle.alp_base.specs.declared.key.Resource.{Resource}
 use Rattle.alp_coord.specs.Coordinators.{noted}
-use Rattle.alp_fields.specs.ClockNote.{clock_kept}
+use Rattle.alp_regain.specs.Together.{clock_before}
 use Rattle.alp_files.specs.Act.{no_opens}
 use Rattle.alp_files.specs.Apart.{IsSized, IsWithin}
 use Rattle.alp_files.specs.Cells.{Cells}
@@ -85,7 +85,7 @@ pub record AreLocksOf (t : Table) (ns : List ReadyNote) : Type 0 where
 -- ---- all of it
 
 -- The parts of all ready notes and all decisions are there, each in the order of the notes' names, with just the parts' locks.
-pub record IsRegained (tells : Bool) (m : Cells) (server : ℕ) (r : Regained) (notes : Notes) : Type 0 where
-  pub parts : ArePartsOf tells m server (clock_kept notes).epoch r.parts.items (ready_kept notes)
+pub record IsRegained (tells : Bool) (m : Cells) (server epoch : ℕ) (r : Regained) (notes : Notes) : Type 0 where
+  pub parts : ArePartsOf tells m server (clock_before epoch notes).epoch r.parts.items (ready_kept notes)
   pub decisions : list_map noted r.decisions.items ≡ decisions_kept notes
   pub locks : AreLocksOf r.locks (ready_kept notes)

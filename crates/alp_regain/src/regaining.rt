@@ -6,7 +6,7 @@ ghost use Rattle.alp_calls.specs.Looks.{Looks};
 ghost use Rattle.alp_journal.specs.Opening.{ready_kept};
 ghost use Rattle.alp_regain.specs.Named.{is_decided_by as is_decided_by_said};
 ghost use Rattle.alp_regain.specs.Notes.{part_note};
-ghost use Rattle.alp_regain.specs.Together.{AreNotesTogether, AreTogether, AreSoundTogether, HaveRoomTogether, FitTogether, IsPartNote, AreApart, log_sum, size_of};
+ghost use Rattle.alp_regain.specs.Together.{AreNotesTogether, clock_before, AreTogether, AreSoundTogether, HaveRoomTogether, FitTogether, IsPartNote, AreApart, log_sum, size_of};
 ghost use Rattle.alp_regain.specs.Lives.{IsSoFar};
 ghost use Rattle.alp_regain.specs.Faults.{fault_from, IsOfNoDevice};
 ghost use Rattle.alp_regain.specs.Regained.{IsRegained};
@@ -50,6 +50,20 @@ fn clock_noted<V: Vault>(alloc: Global, vault: &V) -> Result<ClockNote, RegainFa
         Some(clock) => Ok(clock),
         None => Ok(ClockNote { epoch: 0, clock: 0 }),
     }
+}
+
+// That clock, of an epoch before the one that begins.
+fn clock_of<V: Vault>(alloc: Global, vault: &V, epoch: u32) -> Result<ClockNote, RegainFault>
+    requires { IsTrue (V.serves vault.now) }
+    ensures clock { IfOk result (λ c. c ≡ clock_before epoch (V.held vault.now).notes) }
+    ensures fault { result ≡ Err BadNote → ⊥ }
+    ensures quiet { IfErr result IsOfNoDevice }
+{
+    let noted = clock_noted(alloc, vault)?;
+    Ok(ClockNote {
+        epoch: noted.epoch.min(epoch.saturating_sub(1)),
+        clock: noted.clock,
+    })
 }
 
 // Whether the decisions are of transactions that were drawn in epochs up to that one, and none is later than the clock.
@@ -135,24 +149,26 @@ fn lives_beside<V: Vault>(
 /// and, as far as the vault tells, with the files: there is room for them beside these, which stay well formed and charged with what
 /// each part changes and with what all of them change. The vault holds what it held, whatever comes of it.
 ///
-/// It is to run before the note of the clock is raised: behind that, ids of the epoch that begins would pass.
+/// It is for a server that begins this epoch, and is to run before the note of the clock is raised. What was drawn was drawn in epochs
+/// up to that of the note, and before the one that begins, which the note may have already, of a start that was stopped.
 pub fn regain<V: Vault>(
     alloc: Global,
     vault: &mut V,
     server: u8,
     servers: u8,
+    epoch: u32,
 ) -> Result<Regained, RegainFault>
     requires serving { IsTrue (V.serves vault.old) }
-    ensures regained { IfOk result (λ r. IsRegained (V.tells vault.old) (V.held vault.old).cells server r (V.held vault.old).notes) }
-    ensures notes { IfOk result (λ _. AreNotesTogether server servers (V.volume vault.old).area (V.held vault.old).notes) }
-    ensures together { IsTrue (V.tells vault.old) → IfOk result (λ _. AreTogether server servers (V.volume vault.old) (V.held vault.old).cells (V.held vault.old).notes) }
-    ensures bad { IsTrue (V.tells vault.old) → result ≡ Err BadNote → AreTogether server servers (V.volume vault.old) (V.held vault.old).cells (V.held vault.old).notes → ⊥ }
+    ensures regained { IfOk result (λ r. IsRegained (V.tells vault.old) (V.held vault.old).cells server epoch r (V.held vault.old).notes) }
+    ensures notes { IfOk result (λ _. AreNotesTogether server servers epoch (V.volume vault.old).area (V.held vault.old).notes) }
+    ensures together { IsTrue (V.tells vault.old) → IfOk result (λ _. AreTogether server servers epoch (V.volume vault.old) (V.held vault.old).cells (V.held vault.old).notes) }
+    ensures bad { IsTrue (V.tells vault.old) → result ≡ Err BadNote → AreTogether server servers epoch (V.volume vault.old) (V.held vault.old).cells (V.held vault.old).notes → ⊥ }
     // Of no part nothing is looked at, whatever the vault tells.
-    ensures alone { result ≡ Err BadNote → ready_kept (V.held vault.old).notes ≡ [] → AreNotesTogether server servers (V.volume vault.old).area (V.held vault.old).notes → ⊥ }
+    ensures alone { result ≡ Err BadNote → ready_kept (V.held vault.old).notes ≡ [] → AreNotesTogether server servers epoch (V.volume vault.old).area (V.held vault.old).notes → ⊥ }
     ensures looked { Looks V.Vault vault.old vault.new (fault_from result) }
 {
     let notes = notes_of(alloc, vault, server, servers)?;
-    let clock = clock_noted(alloc, vault)?;
+    let clock = clock_of(alloc, vault, epoch)?;
     if !are_few(&notes, clock) {
         return Err(RegainFault::BadNote);
     }

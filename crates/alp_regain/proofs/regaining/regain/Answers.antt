@@ -4,7 +4,6 @@ use Rattle.std.proofs.Common.{◌≡◌, ℕ, ◌≤◌, List, length, ap, sym, 
 use Rattle.std.proofs.lemmas.List.{length-map}
 use Rattle.alp_base.specs.Notes.{Notes}
 use Rattle.alp_base.specs.declared.faults.Sizes.{Sizes}
-use Rattle.alp_fields.specs.ClockNote.{clock_kept}
 use Rattle.alp_fields.specs.declared.clock_note.ClockNote.{ClockNote}
 use Rattle.alp_files.specs.Cells.{Cells}
 use Rattle.alp_coord.specs.Coordinators.{noted}
@@ -13,7 +12,7 @@ use Rattle.alp_journal.specs.Opening.{ReadyNote, DecisionNote, ready_kept}
 use Rattle.alp_regain.specs.Named.{is_decided_by}
 use Rattle.alp_regain.specs.Notes.{part_note}
 use Rattle.alp_regain.specs.Lives.{IsSoFar}
-use Rattle.alp_regain.specs.Together.{size_of, log_sum, AreSoundTogether, HaveRoomTogether, FitTogether}
+use Rattle.alp_regain.specs.Together.{clock_before, size_of, log_sum, AreSoundTogether, HaveRoomTogether, FitTogether}
 use Rattle.alp_regain.specs.declared.fault.RegainFault.TheVariants.{BadNote}
 use Rattle.alp_regain.proofs.RoomLemmas.{each_note, decided_by}
 use Rattle.alp_regain.proofs.regaining.regain.Goals as goal
@@ -57,12 +56,12 @@ returns-clause-notes g c =
     let tells : Bool = g.V.Vault.tells c.args.vault.now in
     let held : Cells = (g.V.Vault.held c.args.vault.now).cells in
     let few = c.are_few.ensures.yes c.if-not-are_few.false in
-    let live : IsSoFar tells held c.args.server (clock_kept notes).epoch c.in_ok-lives.lives (ready_kept notes) =
-    subst (λ (ns : List ReadyNote). IsSoFar tells held c.args.server (clock_kept notes).epoch c.in_ok-lives.lives ns) c.in_ok-notes.ensures.parts
+    let live : IsSoFar tells held c.args.server (clock_before c.args.epoch notes).epoch c.in_ok-lives.lives (ready_kept notes) =
+    subst (λ (ns : List ReadyNote). IsSoFar tells held c.args.server (clock_before c.args.epoch notes).epoch c.in_ok-lives.lives ns) c.in_ok-notes.ensures.parts
     (subst (λ (e : ℕ). IsSoFar tells held c.args.server e c.in_ok-lives.lives (list_map part_note c.in_ok-notes.notes.parts.items)) (ap (λ (k : ClockNote). k.epoch) c.in_ok-clock.ensures.clock) c.in_ok-lives.ensures.live) in
     record {
       format = c.in_ok-notes.ensures.format;
-      parts = each_note tells held c.args.server (clock_kept notes).epoch c.in_ok-lives.lives.parts.items (ready_kept notes) live.parts;
+      parts = each_note tells held c.args.server (clock_before c.args.epoch notes).epoch c.in_ok-lives.lives.parts.items (ready_kept notes) live.parts;
       decided =
           sym (λ i. list_all (λ (d : DecisionNote). is_decided_by (c.in_ok-clock.ensures.clock i) d.stamp) (c.in_ok-notes.ensures.decisions i))
           ∙ decided_by c.in_ok-clock.clock c.in_ok-notes.notes.decisions.items ∙ few.0;
@@ -96,7 +95,7 @@ returns-in_err-lives-clause-bad g c = λ told bad together.
     let held : Cells = (g.V.Vault.held c.args.vault.now).cells in
     let volume : Sizes = g.V.Vault.volume c.args.vault.now in
     let is : c.lives_beside.result ≡ Err BadNote = search rules in
-    let fit : FitTogether volume held c.args.server (clock_kept notes).epoch (ready_kept notes) =
+    let fit : FitTogether volume held c.args.server (clock_before c.args.epoch notes).epoch (ready_kept notes) =
     record { parts = together.notes_alone.parts; apart = together.notes_alone.apart; log = together.notes_alone.log; room = together.room } in
     c.lives_beside.ensures.bad told is
     (subst (λ (ns : List ReadyNote). FitTogether volume held c.args.server c.in_ok-clock.clock.epoch ns) (sym c.in_ok-notes.ensures.parts)

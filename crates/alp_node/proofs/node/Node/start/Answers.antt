@@ -14,11 +14,11 @@ use Rattle.alp_vault.specs.Volumes.{AreNoteChanges, record_pages, live_bytes, co
 use Rattle.alp_node.specs.Found.{HasBegun, look_in}
 use Rattle.alp_regain.specs.Together.{AreNotesTogether, AreTogether}
 use Rattle.alp_node.specs.Durable.{Leaves}
-use Rattle.alp_node.specs.Starts.{HasRaised, IsKeptOrRaised, PutsClock}
+use Rattle.alp_node.specs.Starts.{HasRaised, epoch_after, IsKeptOrRaised, PutsClock}
 use Rattle.alp_node.specs.Writes.{clock_put}
 use Rattle.alp_node.proofs.ClockLaws.{time_fits}
 use Rattle.alp_node.proofs.FoundReady.{raise_changes, raise_room}
-use Rattle.alp_node.proofs.StartLemmas.{raised_later, raised_within, raised_last, kept_leaves, looked_leaves, raised_leaves, looks_left, left_spends, look_cause, look_memory, look_noted, found_of, put_cause, put_memory}
+use Rattle.alp_node.proofs.StartLemmas.{before_less, raised_some, raised_next, raised_within, raised_last, kept_leaves, looked_leaves, raised_leaves, looks_left, left_spends, look_cause, look_memory, look_noted, found_of, put_cause, put_memory}
 use Rattle.alp_node.proofs.StartMade.{start_consistent, start_new}
 use Rattle.alp_node.proofs.node.Node.start.Goals as goal
 
@@ -39,7 +39,7 @@ put_clock-requires-clause-noted g c =
     let next = c.in-Ok.ensures.clock in
     let fits : clock_form.Fits k = time_fits k (raised_last held k next) (raised_within held k next) in
     let own : AreNoteChanges c.args.server c.args.servers held.notes (clock_put k ∷ []) =
-    raise_changes (G.tells old) c.args.server c.args.servers (G.volume old).area (G.volume old) k.epoch k.clock held.cells held.notes e.notes (raised_later held k next) c.in-Ok-find_all.found.lives c.in-Ok-find_all.found.locks
+    raise_changes (G.tells old) c.args.server c.args.servers (G.volume old).area (G.volume old) k.epoch k.clock held.cells held.notes e.notes (before_less (clock_kept held.notes).epoch k.epoch (raised_some held k next)) c.in-Ok-find_all.found.lives c.in-Ok-find_all.found.locks
     c.in-Ok-find_all.found.joins c.in-Ok-find_all.found.coordinator e.found.found fits in
     subst (λ (x : Contents). AreNoteChanges (G.server c.find_all.new.vault) (G.servers c.find_all.new.vault) x.notes (clock_put k ∷ [])) (sym left.contents)
     (subst (λ (n : ℕ). AreNoteChanges (G.server c.find_all.new.vault) n held.notes (clock_put k ∷ [])) (sym (left.same.of_all ∙ c.requires.server.1))
@@ -56,7 +56,7 @@ put_clock-requires-clause-log g c =
     let next = c.in-Ok.ensures.clock in
     subst (λ (x : Contents). record_pages (live_bytes x.notes) + record_pages (commit_bytes 0 (clock_put k ∷ [])) ≤ (G.volume c.find_all.new.vault).area) (sym left.contents)
     (subst (λ (s : Sizes). record_pages (live_bytes held.notes) + record_pages (commit_bytes 0 (clock_put k ∷ [])) ≤ s.area) (sym left.same.sizes)
-    (raise_room (G.tells old) c.args.server c.args.servers (G.volume old).area (G.volume old) k.epoch k.clock held.cells held.notes e.notes (raised_later held k next) c.in-Ok-find_all.found.lives c.in-Ok-find_all.found.locks
+    (raise_room (G.tells old) c.args.server c.args.servers (G.volume old).area (G.volume old) k.epoch k.clock held.cells held.notes e.notes (before_less (clock_kept held.notes).epoch k.epoch (raised_some held k next)) c.in-Ok-find_all.found.lives c.in-Ok-find_all.found.locks
     c.in-Ok-find_all.found.joins c.in-Ok-find_all.found.coordinator e.found.found))
 
 pub find_all-requires : goal.find_all-requires
@@ -88,12 +88,17 @@ returns-clause-raised g c =
     let k : ClockNote = c.in-Ok.clock in
     let left : IsLeft G old c.find_all.new.vault = e.looked.0 in
     let put : PutsClock G c.find_all.new.vault c.put_clock.new.vault k (Ok tt) = c.in_default.ensures in
+    let after : k.epoch ≡ epoch_after (G.held old) = raised_next (G.held old) k c.in-Ok.ensures.clock in
     let stands : k ≡ record { epoch = c.begun-kept.result.0.epoch; clock = c.begun-kept.result.0.clock } = (λ i. record { epoch = sym b.epoch i; clock = sym b.time i }) in
     subst (HasRaised (G.tells old) (G.server old) (G.servers old) (G.volume old) (G.held old) (G.held c.begun-kept.result.0.vault)) stands
     (subst (λ (x : g.row.V.Denot). HasRaised (G.tells old) (G.server old) (G.servers old) (G.volume old) (G.held old) (G.held x) k) (sym b.vault)
     (record {
-      alone = subst (λ (n : ℕ). AreNotesTogether n (G.servers old) (G.volume old).area (G.held old).notes) (sym c.requires.server.0) (subst (λ (n : ℕ). AreNotesTogether c.args.server n (G.volume old).area (G.held old).notes) (sym c.requires.server.1) e.notes);
-      together = λ told. subst (λ (n : ℕ). AreTogether n (G.servers old) (G.volume old) (G.held old).cells (G.held old).notes) (sym c.requires.server.0) (subst (λ (n : ℕ). AreTogether c.args.server n (G.volume old) (G.held old).cells (G.held old).notes) (sym c.requires.server.1) (e.together told));
+      alone = subst (λ (n : ℕ). AreNotesTogether n (G.servers old) (epoch_after (G.held old)) (G.volume old).area (G.held old).notes) (sym c.requires.server.0)
+          (subst (λ (n : ℕ). AreNotesTogether c.args.server n (epoch_after (G.held old)) (G.volume old).area (G.held old).notes) (sym c.requires.server.1)
+          (subst (λ (n : ℕ). AreNotesTogether c.args.server c.args.servers n (G.volume old).area (G.held old).notes) after e.notes));
+      together = λ told. subst (λ (n : ℕ). AreTogether n (G.servers old) (epoch_after (G.held old)) (G.volume old) (G.held old).cells (G.held old).notes) (sym c.requires.server.0)
+          (subst (λ (n : ℕ). AreTogether c.args.server n (epoch_after (G.held old)) (G.volume old) (G.held old).cells (G.held old).notes) (sym c.requires.server.1)
+          (subst (λ (n : ℕ). AreTogether c.args.server c.args.servers n (G.volume old) (G.held old).cells (G.held old).notes) after (e.together told)));
       next = c.in-Ok.ensures.clock;
       cells = λ told. put.cells (subst IsTrue (sym left.same.telling) told) ∙ ap (λ (x : Contents). x.cells) left.contents;
       notes = put.notes ∙ ap (λ (x : Contents). map.insert x.notes clock_name (clock_form.spell k)) left.contents;
@@ -162,7 +167,8 @@ returns-in-Err-find_all-clause-cause g c =
     let G = g.V.Vault in
     let old = c.args.vault in
     look_cause G old c.find_all.new.vault c.in-Err-find_all.fault
-    (found_of (G.tells old) (G.server old) (G.servers old) c.args.server c.args.servers (G.volume old) (G.held old) c.in-Err-find_all.fault c.requires.server.0 c.requires.server.1 c.in-Err-find_all.ensures.cause)
+    (found_of (G.tells old) (G.server old) (G.servers old) c.args.server c.args.servers c.in-Ok.clock.epoch (epoch_after (G.held old)) (G.volume old) (G.held old) c.in-Err-find_all.fault c.requires.server.0 c.requires.server.1 (raised_next (G.held old) c.in-Ok.clock c.in-Ok.ensures.clock)
+    c.in-Err-find_all.ensures.cause)
     c.in-Err-find_all.ensures.looked
 
 pub returns-in-Err-put_clock-clause-cause : goal.returns-in-Err-put_clock-clause-cause
