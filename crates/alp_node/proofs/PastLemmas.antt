@@ -1,5 +1,5 @@
 -- what stays of a server that fell, and what a restart finds made of what it went down in
-use Rattle.std.specs.Prelude.{cond, max, Bool, true, false, ◌||◌, Option, None, Some}
+use Rattle.std.specs.Prelude.{cond, max, Bool, true, false, ◌==◌, ◌||◌, Option, None, Some}
 use Rattle.std.specs.List.{list_any}
 use Rattle.std.specs.FinMap as map
 use Rattle.std.specs.FinMap.Entries.{put}
