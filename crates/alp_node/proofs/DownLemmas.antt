@@ -149,7 +149,7 @@ known_format a server servers epoch sizes past c k =
     (subst (λ (n : ℕ). AreServerNotes k.state.holder.server n c.notes) (k.it.last.among ∙ k.it.so.among ∙ past.among) k.stored.notes.format)
 
 module _ {V : Type 0} (G : Ghosts V) (d : DownState V) (n : NodeState V) (clock : ClockNote) (f : Found) (h : IsFallen G d) (b : HasBegunEpoch G d.server d.servers d.epoch d.vault n.kept.vault clock f) (s : HasBegun (G.volume n.kept.vault) d.server d.servers clock f n.kept.vault n.kept)
-    (low : d.epoch < 4294967295) (opening : n.opening ≡ d.opening) (journal : n.journal ≡ d.journal ++ entry_again clock f.ready f.decided ∷ []) where
+    (opening : n.opening ≡ d.opening) (journal : n.journal ≡ d.journal ++ entry_again clock f.ready f.decided ∷ []) where
   abbrev v : V
   v = n.kept.vault
 
@@ -172,7 +172,7 @@ module _ {V : Type 0} (G : Ghosts V) (d : DownState V) (n : NodeState V) (clock 
   later = before_less (clock_kept notes).epoch clock.epoch (omega (arith, epoch_next))
 
   last_epoch : clock.epoch < 2 ^ 32
-  last_epoch = omega (arith, epoch_next, low)
+  last_epoch = (let low : d.epoch < 4294967295 = b.low in omega (arith, epoch_next, low))
 
   fits : clock_form.Fits clock
   fits = time_fits clock last_epoch b.within
@@ -257,7 +257,7 @@ module _ {V : Type 0} (G : Ghosts V) (d : DownState V) (n : NodeState V) (clock 
 
   pub has_restarted : HasRestarted G d n
   has_restarted = record {
-    low = low;
+    low = b.low;
     opening = opening;
     server = s.number;
     servers = s.of_all;

@@ -237,6 +237,7 @@ module _ {V : Type 0} (G : Ghosts V) (server servers last : ℕ) (old mid new : 
   pub raised_whole : (f : Found) → FindsAll (G.tells old) (G.held old).cells server clock.epoch (G.held old).notes f → (IsTrue (G.tells old) → AreTogether server servers clock.epoch (G.volume old) (G.held old).cells (G.held old).notes) → PutsClock G mid new clock (Ok tt)
       → HasBegunEpoch G server servers last old new clock f
   raised_whole f finds together put = record {
+    low = low;
     found = G.held old;
     serving = put.ended.0;
     next = next.next;
@@ -289,6 +290,7 @@ module _ {V : Type 0} (G : Ghosts V) (server servers last : ℕ) (old mid new : 
 
 pub begun_whole : {V : Type 0} (G : Ghosts V) (server servers last : ℕ) (old mid new : V) (clock : ClockNote) (f : Found) → IsRecovered G old mid → HasBegunEpoch G server servers last mid new clock f → HasBegunEpoch G server servers last old new clock f
 begun_whole G server servers last old mid new clock f r h = record {
+  low = h.low;
   found = h.found;
   serving = h.serving;
   next = h.next;

@@ -1,13 +1,12 @@
-use Rattle.std.specs.Prelude.{Ok, Err}
+use Rattle.std.specs.Prelude.{Err}
 use Rattle.std.proofs.Common.{◌≡◌, ℕ, ◌+◌, ◌<◌, ◌≤◌, ◌^◌, [], ◌∷◌, arith, refl, ap, sym, ◌∙◌, subst}
 use Rattle.alp_base.specs.declared.faults.Sizes.{Sizes}
 use Rattle.alp_base.specs.declared.faults.VaultFault.TheVariants as vault_fault
 use Rattle.alp_calls.specs.Looks.{IsLeft}
-use Rattle.alp_fields.specs.ClockNote.{clock_form, clock_kept}
+use Rattle.alp_fields.specs.ClockNote.{clock_form}
 use Rattle.alp_fields.specs.declared.clock_note.ClockNote.{ClockNote}
 use Rattle.alp_vault.specs.Contents.{Contents}
 use Rattle.alp_vault.specs.Volumes.{AreNoteChanges, record_pages, live_bytes, commit_bytes}
-use Rattle.alp_node.specs.Halts.{Ends}
 use Rattle.alp_node.specs.Starts.{PutsClock}
 use Rattle.alp_node.specs.Writes.{clock_put}
 use Rattle.alp_node.specs.declared.stored.StoreFault.{StoreFault}
@@ -66,13 +65,41 @@ returns-in-Err-find_all g c =
     (λ told. c.knows.ensures.as_held told c.requires.serving) c.rested-in-Err-find_all.ensures c.in-Err-find_all.ensures.looked c.in-Err-find_all.ensures.cause
 
 pub returns-in-Err-OutOfMemory : goal.returns-in-Err-OutOfMemory
-returns-in-Err-OutOfMemory g c = ?
+returns-in-Err-OutOfMemory g c =
+    let G = g.V.Vault in
+    let old = c.args.vault in
+    let e = c.in-Ok-find_all.ensures in
+    let left : IsLeft G old c.find_all.new.vault = e.looked.0 in
+    not_written G c.args.of.0 c.args.of.1 c.args.last old c.find_all.new.vault c.put_clock.new.vault c.in-Ok.clock c.requires.low c.in-Ok.ensures (λ told. c.knows.ensures.as_held told c.requires.serving) left e.looked.2 c.requires.free e.notes
+    c.rested-in-Err-OutOfMemory.result c.in-Err-OutOfMemory.field-0 c.in-Err-OutOfMemory.field-0-is c.in-Err-OutOfMemory.ensures c.rested-in-Err-OutOfMemory.ensures
 
 pub returns-in-Err-Failed : goal.returns-in-Err-Failed
-returns-in-Err-Failed g c = ?
+returns-in-Err-Failed g c =
+    let G = g.V.Vault in
+    let old = c.args.vault in
+    let e = c.in-Ok-find_all.ensures in
+    let left : IsLeft G old c.find_all.new.vault = e.looked.0 in
+    let put : PutsClock G c.find_all.new.vault c.put_clock.new.vault c.in-Ok.clock (Err store_fault.Failed) =
+    subst (λ (f : StoreFault). PutsClock G c.find_all.new.vault c.put_clock.new.vault c.in-Ok.clock (Err f)) c.in-Err-Failed.field-0-is c.in-Err-Failed.ensures in
+    not_raised G c.args.of.0 c.args.of.1 c.args.last old c.find_all.new.vault c.put_clock.new.vault c.in-Ok.clock c.requires.low c.in-Ok.ensures (λ told. c.knows.ensures.as_held told c.requires.serving) left e.looked.2 c.requires.free e.notes
+    store_fault.Failed vault_fault.Failed put put.ended.0 (λ e. refl) (λ e. cc) (λ e. cc) tt
 
 pub returns : goal.returns
-returns g c = ?
+returns g c =
+    let G = g.V.Vault in
+    let old = c.args.vault in
+    let e = c.in-Ok-find_all.ensures in
+    let left : IsLeft G old c.find_all.new.vault = e.looked.0 in
+    let put : PutsClock G c.find_all.new.vault c.put_clock.new.vault c.in-Ok.clock (Err store_fault.Stopped) =
+    subst (λ (f : StoreFault). PutsClock G c.find_all.new.vault c.put_clock.new.vault c.in-Ok.clock (Err f)) c.in-Err-Stopped.field-0-is c.in-Err-Stopped.ensures in
+    not_raised G c.args.of.0 c.args.of.1 c.args.last old c.find_all.new.vault c.put_clock.new.vault c.in-Ok.clock c.requires.low c.in-Ok.ensures (λ told. c.knows.ensures.as_held told c.requires.serving) left e.looked.2 c.requires.free e.notes
+    store_fault.Stopped vault_fault.Stopped put put.ended.0 (λ e. cc) (λ e. refl) (λ e. cc) tt
 
 pub returns-in-Ok-put_clock : goal.returns-in-Ok-put_clock
-returns-in-Ok-put_clock g c = ?
+returns-in-Ok-put_clock g c =
+    let G = g.V.Vault in
+    let old = c.args.vault in
+    let e = c.in-Ok-find_all.ensures in
+    let left : IsLeft G old c.find_all.new.vault = e.looked.0 in
+    raised_whole G c.args.of.0 c.args.of.1 c.args.last old c.find_all.new.vault c.put_clock.new.vault c.in-Ok.clock c.requires.low c.in-Ok.ensures (λ told. c.knows.ensures.as_held told c.requires.serving) left e.looked.2 c.requires.free e.notes
+    c.in-Ok-find_all.found e.found e.together c.in-Ok-put_clock.ensures

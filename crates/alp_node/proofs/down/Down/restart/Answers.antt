@@ -19,7 +19,7 @@ invariant_of-result g c =
     let k = c.in-Ok.kept in
     let n : NodeState g.row.V.Denot = record { opening = c.self.inside.opening; kept = k; journal = c.enter_epoch.new.journal } in
     let e : HasEntered G d.server d.servers d.epoch d.vault d.journal n.journal k = c.in-Ok.ensures.epoch in
-    restarted_kept G d n e.clock e.all c.self.invariant e.begun e.state e.low refl e.journal c.knows-in-Ok.ensures.limits.area_least
+    restarted_kept G d n e.clock e.all c.self.invariant e.begun e.state refl e.journal c.knows-in-Ok.ensures.limits.area_least
     (λ told. c.knows-in-Ok.ensures.fitting (G.held k.vault) told (c.knows-in-Ok.ensures.as_held told e.begun.serving)) (λ told. c.knows-in-Ok.ensures.settled told e.begun.serving)
 
 pub returns-in-Ok : goal.returns-in-Ok
@@ -29,7 +29,7 @@ returns-in-Ok g c =
     let k = c.in-Ok.kept in
     let n : NodeState g.row.V.Denot = record { opening = c.self.inside.opening; kept = k; journal = c.enter_epoch.new.journal } in
     let e : HasEntered G d.server d.servers d.epoch d.vault d.journal n.journal k = c.in-Ok.ensures.epoch in
-    subst (λ (x : DownState g.row.V.Denot). HasRestarted G x n) c.self.view_is (has_restarted G d n e.clock e.all c.self.invariant e.begun e.state e.low refl e.journal)
+    subst (λ (x : DownState g.row.V.Denot). HasRestarted G x n) c.self.view_is (has_restarted G d n e.clock e.all c.self.invariant e.begun e.state refl e.journal)
 
 pub invariant_of-down : goal.invariant_of-down
 invariant_of-down g c =
