@@ -159,7 +159,7 @@ module _ {V : Type 0} (G : Ghosts V) (k : ServerState V) (from : ℕ) (t : Trans
   early : k.clock < 2 ^ 62
   early = own_early k t may
 
-  runs : client_of (fate_in k.coordinator t) ≡ Some client
+  pub runs : client_of (fate_in k.coordinator t) ≡ Some client
   runs = ap client_of last_of.is
 
   own : t.server ≡ k.server

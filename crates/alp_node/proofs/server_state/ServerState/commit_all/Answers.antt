@@ -1,6 +1,6 @@
 use Rattle.std.specs.Prelude.{false, None, Some, Ok, Err, List, length, max}
 use Rattle.std.specs.FinMap as map
-use Rattle.std.proofs.Common.{◌≡◌, ℕ, ◌+◌, ◌≤◌, ◌++◌, ◌∷◌, [], refl, sym, ap, ◌∙◌, subst, arith}
+use Rattle.std.proofs.Common.{◌≡◌, ℕ, ◌+◌, ◌≤◌, ◌++◌, ◌∷◌, [], refl, sym, ap, ◌∙◌, subst, arith, length-append}
 use Rattle.alp_base.specs.declared.bytes.NoteChange.{NoteChange}
 use Rattle.alp_base.specs.declared.ids.JoinNo.{JoinNo}
 use Rattle.alp_base.specs.declared.ids.Stamp.{Stamp}
@@ -138,19 +138,22 @@ decide-requires-clause-late g c =
     let hears : ComesLike (Hears t j c.args.ts) k.coordinator mid = hears_from k.coordinator c.keep.new.self.coordinator mid t j c.args.ts (k.clock + 1) c.args.latest (last_of G k 0 t j c.args.ts c.args.latest c.requires.last c.requires.time c.requires.up c.requires.ready c.requires.may) was c.hear.ensures.heard in
     heard_late k.coordinator mid t j c.args.ts (k.clock + 1) c.args.latest (last_of G k 0 t j c.args.ts c.args.latest c.requires.last c.requires.time c.requires.up c.requires.ready c.requires.may) hears
 
-pub tell_commits-requires-clause-room : goal.tell_commits-requires-clause-room
-tell_commits-requires-clause-room g c =
+pub tell_commits-requires : goal.tell_commits-requires
+tell_commits-requires g c =
     let k = c.args.self.now in
     let G = g.V.Vault in
     let p = c.in_ok-pending.pending in
     let h : HasKept G k c.keep.new.self p c.in-Made.acts.items = subst (λ (x : Decided). WasKept G k c.keep.new.self p x) c.in-Made.is c.in_ok-acts.ensures.made in
     let acts : List Act = c.in-Made.acts.items in
-    let said : length acts ≡ 2 + length (granted_behind k p.stamp.trans) = ap (λ (xs : List Act). length xs) (h.said ∙ ap (λ (xs : List Act). xs ++ grant_acts (granted_behind k p.stamp.trans)) c.in_ok-pending.ensures.acts) ∙ ap (λ (n : ℕ). 2 + n) (grants_length (granted_behind k p.stamp.trans)) in
+    let said : length acts ≡ length (p.acts.items ++ grant_acts (granted_behind k p.stamp.trans)) = ap (λ (xs : List Act). length xs) h.said in
+    let both : length (p.acts.items ++ grant_acts (granted_behind k p.stamp.trans)) ≡ length p.acts.items + length (grant_acts (granted_behind k p.stamp.trans)) = length-append p.acts.items (grant_acts (granted_behind k p.stamp.trans)) in
+    let two : length p.acts.items ≡ 2 = ap (λ (xs : List Act). length xs) c.in_ok-pending.ensures.acts in
+    let granted : length (grant_acts (granted_behind k p.stamp.trans)) ≡ length (granted_behind k p.stamp.trans) = grants_length (granted_behind k p.stamp.trans) in
     let few : length (granted_behind k p.stamp.trans) ≤ length k.locks.waiting = few_granted c.requires.ready.0 (G.serves k.vault) k p.stamp.trans c.requires.ready.2 in
     let keeps : KeepsPlaces p (decided.Made c.in-Made.acts) = subst (KeepsPlaces p) c.in-Made.is c.in_ok-acts.ensures.capacity in
     let places = c.in_ok-pending.ensures.room in
     let same : length c.as_slice-2.result.now ≡ length c.as_slice.result.now = ap (λ (xs : List JoinNo). length xs) (c.as_slice-2.ensures.value ∙ sym c.as_slice.ensures.value) in
-    omega (arith, said, few, keeps, places, same)
+    omega (arith, said, both, two, granted, few, keeps, places, same)
 
 pub returns-in-Halted : goal.returns-in-Halted
 returns-in-Halted g c from =

@@ -32,10 +32,17 @@ own_vote-requires-clause-live g c none =
     cc
 
 pub commit_all-requires-clause-may : goal.commit_all-requires-clause-may
-commit_all-requires-clause-may g c = ?
+commit_all-requires-clause-may g c = sym c.in_ok-why.ensures.same ∙ c.in-None.is
 
 pub commit_all-requires-clause-journal : goal.commit_all-requires-clause-journal
-commit_all-requires-clause-journal g c = ?
+commit_all-requires-clause-journal g c a held h = c.in_ok-why.ensures.journal a held h
 
-pub returns-in-Some : goal.returns-in-Some
-returns-in-Some g c from = ?
+pub returns-in-Some-2 : goal.returns-in-Some-2
+returns-in-Some-2 g c from =
+    let k = c.args.self.now in
+    let t = c.args.trans in
+    let w = c.in-Some-2.why in
+    let runs : client_of (fate_in k.coordinator t) ≡ Some c.in-Some.client = sym c.client.ensures ∙ c.in-Some.is in
+    let items : c.as_slice.result.now ≡ joins_of (fate_in k.coordinator t) = c.as_slice.ensures.value ∙ c.in_ok-joins.ensures in
+    against_lapsed g.V.Vault k from t c.args.join c.args.ts c.args.latest c.requires.last c.requires.up c.requires.ready w (λ a held h. c.in_ok-why.ensures.journal a held h ∙ sym c.in_ok-why.ensures.same ∙ c.in-Some-2.is)
+    c.lapse.new.self c.lapse.result c.in-Some.client c.as_slice.result.now runs items c.lapse.ensures.kept c.lapse.ensures.along c.lapse.ensures.ends c.lapse.ensures.said c.lapse.ensures.wanting
