@@ -19,7 +19,7 @@ use Rattle.alp_session.specs.Calls.{call_in, call_with, collect_of, outcome_of, 
 use Rattle.alp_history.specs.Handed.{HasSeenBy}
 use Rattle.alp_history.specs.Items.{Item}
 use Rattle.alp_node.specs.Turns.{is_greeting}
-use Rattle.alp_cluster.specs.Steps.{IsToldOf, AsksOfTold}
+use Rattle.alp_cluster.specs.Clients.{IsToldOf, AsksOfTold}
 
 -- ---- the call of a line
 

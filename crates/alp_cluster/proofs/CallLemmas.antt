@@ -28,7 +28,8 @@ use Rattle.alp_session.specs.declared.waiting.Next.TheVariants as next
 use Rattle.alp_session.specs.declared.waiting.Settings.{Settings}
 use Rattle.alp_session.proofs.FrameLemmas.{request_read}
 use Rattle.alp_node.specs.declared.server_state.ServerState.{ServerState}
-use Rattle.alp_cluster.specs.Steps.{session_of, IsPast, SpellsPast, KeepsPast, IsOwnNext, AsksOfTold, SpellsOfTold}
+use Rattle.alp_cluster.specs.Clients.{States, session_of, IsPast, SpellsPast, KeepsPast, AsksOfTold, SpellsOfTold}
+use Rattle.alp_cluster.specs.Steps.{IsOwnNext}
 use Rattle.alp_cluster.proofs.SaidLemmas.{KnowsOf}
 
 same_frame : (a b : Addressed) → ◌≡◌ {A = Option Addressed} (Some a) (Some b) → a ≡ b
@@ -57,20 +58,20 @@ asked_form k l next.Over form = form
 pub record IsOwn (words : WordMap) (s : Settings) (k : ℕ) (d : Client) (l : Line) (n : Next) (frame : Addressed) : Type 0 where
   pub call : Call
   pub is : call_by words d (asked_line k l n) ≡ Some call
-  pub spelled : whole request frame.bytes ≡ Some (request_in k d (asked_line k l n) (map.get d.sessions 1) call)
+  pub spelled : whole request frame.bytes ≡ Some (request_in k d (asked_line k l n) (map.get d.sessions frame.server) call)
   pub asked : IsRequestOf k frame.bytes
   pub mark : mark_of l ≡ mark.Own
-  pub hears : (r : Option Reply) → heard words s d l n frame r ≡ (keeps (heard_own words s d 1 (map.get d.sessions 1) l n r).0 frame, (heard_own words s d 1 (map.get d.sessions 1) l n r).1)
+  pub hears : (r : Option Reply) → heard words s d l n frame r ≡ (keeps (heard_own words s d frame.server (map.get d.sessions frame.server) l n r).0 frame, (heard_own words s d frame.server (map.get d.sessions frame.server) l n r).1)
 
 -- or it sends one again
-pub record IsAgain {V : Type 0} (server : ServerState V) (words : WordMap) (s : Settings) (k : ℕ) (d : Client) (l : Line) (n : Next) (frame : Addressed) : Type 0 where
+pub record IsAgain {V : Type 0} (states : States V) (words : WordMap) (s : Settings) (k : ℕ) (d : Client) (l : Line) (n : Next) (frame : Addressed) : Type 0 where
   pub again : Request
   pub client : again.client ≡ k
   pub spelled : whole request frame.bytes ≡ Some again
-  pub past : IsPast server k (session_of d) again
+  pub past : IsPast (states frame.server) k (session_of frame.server d) again
   pub known : (xs : List Item) → KnowsOf d xs → AsksOfTold xs again.call
   pub mark : mark_of l ≡ mark.Repeated
-  pub hears : (r : Option Reply) → heard words s d l n frame r ≡ (heard_again d 1 r, next.Over)
+  pub hears : (r : Option Reply) → heard words s d l n frame r ≡ (heard_again d frame.server r, next.Over)
 
 -- or these bytes as they are
 pub record IsAsIs (words : WordMap) (s : Settings) (d : Client) (l : Line) (n : Next) (frame : Addressed) : Type 0 where
@@ -82,16 +83,14 @@ own_asked k d l None x = refl
 own_asked k d l (Some g) x = refl
 
 -- one of the three
-pub data IsSent {V : Type 0} (server : ServerState V) (words : WordMap) (s : Settings) (k : ℕ) (d : Client) (l : Line) (n : Next) (frame : Addressed) : Type 0 where
-  own_frame : IsOwn words s k d l n frame → IsSent server words s k d l n frame
-  frame_again : IsAgain server words s k d l n frame → IsSent server words s k d l n frame
-  bytes_as_are : IsAsIs words s d l n frame → IsSent server words s k d l n frame
+pub data IsSent {V : Type 0} (states : States V) (words : WordMap) (s : Settings) (k : ℕ) (d : Client) (l : Line) (n : Next) (frame : Addressed) : Type 0 where
+  own_frame : IsOwn words s k d l n frame → IsSent states words s k d l n frame
+  frame_again : IsAgain states words s k d l n frame → IsSent states words s k d l n frame
+  bytes_as_are : IsAsIs words s d l n frame → IsSent states words s k d l n frame
 
-module _ {V : Type 0} (server : ServerState V) (words : WordMap) (s : Settings) (k : ℕ) (d : Client) (l : Line) (n : Next) (frame : Addressed) (here : frame.server ≡ 1) where
-  own_hears : (r : Option Reply) → mark_of l ≡ mark.Own → heard words s d l n frame r ≡ (keeps (heard_own words s d 1 (map.get d.sessions 1) l n r).0 frame, (heard_own words s d 1 (map.get d.sessions 1) l n r).1)
-  own_hears r m =
-      own_heard words s d l n frame r m
-      ∙ ap (λ (z : ℕ). (keeps (heard_own words s d z (map.get d.sessions z) l n r).0 frame, (heard_own words s d z (map.get d.sessions z) l n r).1)) here
+module _ {V : Type 0} (states : States V) (words : WordMap) (s : Settings) (k : ℕ) (d : Client) (l : Line) (n : Next) (frame : Addressed) where
+  own_hears : (r : Option Reply) → mark_of l ≡ mark.Own → heard words s d l n frame r ≡ (keeps (heard_own words s d frame.server (map.get d.sessions frame.server) l n r).0 frame, (heard_own words s d frame.server (map.get d.sessions frame.server) l n r).1)
+  own_hears r m = own_heard words s d l n frame r m
 
   as_own : (o : Option Call) → call_by words d (asked_line k l n) ≡ o
       → option_map (addressed (server_for words d (asked_line k l n))) (option_map (request_in k d (asked_line k l n) (map.get d.sessions (server_for words d (asked_line k l n)))) o) ≡ Some frame
@@ -103,7 +102,7 @@ module _ {V : Type 0} (server : ServerState V) (words : WordMap) (s : Settings) 
       let q : Request = request_in k d (asked_line k l n) (map.get d.sessions at) x in
       let same : addressed at q ≡ frame = same_frame (addressed at q) frame e in
       let spelled : request.spell q ≡ frame.bytes = ap (λ (f : Addressed). f.bytes) same in
-      let there : at ≡ 1 = ap (λ (f : Addressed). f.server) same ∙ here in
+      let there : at ≡ frame.server = ap (λ (f : Addressed). f.server) same in
       record {
         call = x;
         is = is;
@@ -113,13 +112,13 @@ module _ {V : Type 0} (server : ServerState V) (words : WordMap) (s : Settings) 
         hears = λ r. own_hears r m;
       }
 
-  as_again : (o : Option Addressed) → IfSome o (λ f. IsRequestOf k f.bytes) → IfSome o (λ f. SpellsPast server k (session_of d) f.bytes) → ((xs : List Item) → KnowsOf d xs → IfSome o (λ f. SpellsOfTold xs f.bytes)) → o ≡ Some frame → mark_of l ≡ mark.Repeated
-      → ((r : Option Reply) → heard words s d l n frame r ≡ (heard_again d frame.server r, next.Over)) → IsAgain server words s k d l n frame
+  as_again : (o : Option Addressed) → IfSome o (λ f. IsRequestOf k f.bytes) → IfSome o (λ f. SpellsPast (states f.server) k (session_of f.server d) f.bytes) → ((xs : List Item) → KnowsOf d xs → IfSome o (λ f. SpellsOfTold xs f.bytes)) → o ≡ Some frame → mark_of l ≡ mark.Repeated
+      → ((r : Option Reply) → heard words s d l n frame r ≡ (heard_again d frame.server r, next.Over)) → IsAgain states words s k d l n frame
   as_again None asked past known e m h = cc
   as_again (Some b) asked past known e m h =
       let same : b ≡ frame = same_frame b frame e in
       let of : IsRequestOf k frame.bytes = subst (λ (f : Addressed). IsRequestOf k f.bytes) same asked in
-      let spells : SpellsPast server k (session_of d) frame.bytes = subst (λ (f : Addressed). SpellsPast server k (session_of d) f.bytes) same past in
+      let spells : SpellsPast (states frame.server) k (session_of frame.server d) frame.bytes = subst (λ (f : Addressed). SpellsPast (states f.server) k (session_of f.server d) f.bytes) same past in
       let spelled : whole request frame.bytes ≡ Some of.asked = ap (λ (z : List ℕ). whole request z) of.spelled ∙ request_read of.asked of.fits in
       record {
         again = of.asked;
@@ -128,24 +127,24 @@ module _ {V : Type 0} (server : ServerState V) (words : WordMap) (s : Settings) 
         past = spells of.asked spelled;
         known = λ xs knows. (let told : SpellsOfTold xs frame.bytes = subst (λ (f : Addressed). SpellsOfTold xs f.bytes) same (known xs knows) in told of.asked spelled);
         mark = m;
-        hears = λ r. h r ∙ ap (λ (z : ℕ). (heard_again d z r, next.Over)) here;
+        hears = h;
       }
 
 -- what a client's frame is: that of its line
-call_as : {V : Type 0} (server : ServerState V) (words : WordMap) (s : Settings) (k : ℕ) (d : Client) (l : Line) (frame : Addressed) → frame.server ≡ 1 → KeepsRequests k d → KeepsPast server k d → frame_of words k d l ≡ Some frame → IfSome (request_of words k d l) request.Fits
-    → IsSent server words s k d l next.Call frame
-call_as server words s k d (line.Repeat c) frame here kept past e fits =
-    frame_again (as_again server words s k d (line.Repeat c) next.Call frame here d.frames.last kept.last past.last (λ xs knows. knows.last) e refl (λ r. refl))
-call_as server words s k d (line.Old c) frame here kept past e fits =
-    frame_again (as_again server words s k d (line.Old c) next.Call frame here d.frames.before kept.before past.before (λ xs knows. knows.before) e refl (λ r. refl))
-call_as server words s k d (line.Raw c at bytes) frame here kept past e fits = bytes_as_are (record { mark = refl; hears = λ r. refl })
-call_as server words s k d l frame here kept past e fits = own_frame (as_own server words s k d l next.Call frame here (call_by words d l) refl e fits refl)
+call_as : {V : Type 0} (states : States V) (words : WordMap) (s : Settings) (k : ℕ) (d : Client) (l : Line) (frame : Addressed) → KeepsRequests k d → KeepsPast states k d → frame_of words k d l ≡ Some frame → IfSome (request_of words k d l) request.Fits
+    → IsSent states words s k d l next.Call frame
+call_as states words s k d (line.Repeat c) frame kept past e fits =
+    frame_again (as_again states words s k d (line.Repeat c) next.Call frame d.frames.last kept.last past.last (λ xs knows. knows.last) e refl (λ r. refl))
+call_as states words s k d (line.Old c) frame kept past e fits =
+    frame_again (as_again states words s k d (line.Old c) next.Call frame d.frames.before kept.before past.before (λ xs knows. knows.before) e refl (λ r. refl))
+call_as states words s k d (line.Raw c at bytes) frame kept past e fits = bytes_as_are (record { mark = refl; hears = λ r. refl })
+call_as states words s k d l frame kept past e fits = own_frame (as_own states words s k d l next.Call frame (call_by words d l) refl e fits refl)
 
 -- or of the collect that its line has come to
-pub sent_here : {V : Type 0} (server : ServerState V) (c : Crowd) (k : ℕ) (l : Line) (now : Next) (frame : Addressed) → frame.server ≡ 1 → KeepsRequests k (client_at c k) → KeepsPast server k (client_at c k) → asks c k l now ≡ Some frame → IfSome (request_next c k l now) request.Fits
-    → IsOwnNext l now → IsSent server c.words c.settings k (client_at c k) l now frame
-sent_here server c k l next.Call frame here kept past e fits own = call_as server c.words c.settings k (client_at c k) l frame here kept past e fits
-sent_here server c k l next.Collect frame here kept past e fits own =
-    own_frame (as_own server c.words c.settings k (client_at c k) l next.Collect frame here (call_by c.words (client_at c k) (line.Collect k)) refl e fits own)
-sent_here server c k l next.TimeOut frame here kept past e fits own = cc
-sent_here server c k l next.Over frame here kept past e fits own = cc
+pub sent_here : {V : Type 0} (states : States V) (c : Crowd) (k : ℕ) (l : Line) (now : Next) (frame : Addressed) → KeepsRequests k (client_at c k) → KeepsPast states k (client_at c k) → asks c k l now ≡ Some frame → IfSome (request_next c k l now) request.Fits
+    → IsOwnNext l now → IsSent states c.words c.settings k (client_at c k) l now frame
+sent_here states c k l next.Call frame kept past e fits own = call_as states c.words c.settings k (client_at c k) l frame kept past e fits
+sent_here states c k l next.Collect frame kept past e fits own =
+    own_frame (as_own states c.words c.settings k (client_at c k) l next.Collect frame (call_by c.words (client_at c k) (line.Collect k)) refl e fits own)
+sent_here states c k l next.TimeOut frame kept past e fits own = cc
+sent_here states c k l next.Over frame kept past e fits own = cc

@@ -10,7 +10,7 @@ use Rattle.alp_session.specs.Frames.{number_after}
 use Rattle.alp_session.proofs.FrameLemmas.{number_next}
 use Rattle.alp_node.specs.Turns.{is_greeting}
 use Rattle.alp_cluster.specs.Come.{Come, IsUpTo, IsBelow, is_up_to, further}
-use Rattle.alp_cluster.specs.Steps.{come_in, come_by, IsOwnTurn, IsAgainTurn}
+use Rattle.alp_cluster.specs.Clients.{come_in, come_by, IsOwnTurn, IsAgainTurn}
 
 -- what holds of both holds of the later one
 pub further_has : (P : Come → Type 0) (a b : Come) → P a → P b → P (further a b)

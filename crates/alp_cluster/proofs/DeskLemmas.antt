@@ -7,7 +7,7 @@ use Rattle.alp_files.specs.declared.call.Call.TheVariants as call
 use Rattle.alp_files.specs.declared.reply.Reply.{Reply}
 use Rattle.alp_files.specs.declared.reply.Reply.TheVariants as reply
 use Rattle.alp_files.specs.declared.reply.Ended.TheVariants as ended
-use Rattle.alp_journal.specs.Answered.{is_fault_reply}
+use Rattle.alp_journal.specs.Answered.{is_read_fault}
 use Rattle.alp_journal.specs.Desk.{Session}
 use Rattle.alp_journal.specs.declared.event.Event.{Event}
 use Rattle.alp_journal.specs.declared.event.Event.TheVariants as event
@@ -84,7 +84,7 @@ change old new (event.Call client epoch number c) r served low turned = change_b
 change old new (event.Timeout t) r served low turned = still turned.sessions
 change old new event.Tick r served low turned = still turned.sessions
 change old new event.Force r served low turned = still turned.sessions
-change old new (event.Arrive from message) r served low turned = absurd served
+change old new (event.Arrive from message) r served low turned = still turned.sessions
 change old new event.Restart r served low turned = absurd served
 
 -- ---- the session of one client
@@ -113,27 +113,27 @@ module _ {V : Type 0} (old new : ServerState V) (places : length old.sessions.pl
 
   -- ---- what is kept is right
 
-  module _ (here epoch : ℕ) (before : (j : ℕ) (w : Session) → session_at old.sessions j ≡ Some w → IsKeptReply here epoch w) where
-    kept_some : (j : ℕ) (o : Option Session) → session_at old.sessions j ≡ o → IfSome o (IsKeptReply here epoch)
+  module _ (epoch : ℕ) (before : (j : ℕ) (w : Session) → session_at old.sessions j ≡ Some w → IsKeptReply epoch w) where
+    kept_some : (j : ℕ) (o : Option Session) → session_at old.sessions j ≡ o → IfSome o (IsKeptReply epoch)
     kept_some j None is = tt
     kept_some j (Some w) is = before j w is
 
-    kept_each : (j : ℕ) (r : Option Reply) → old.epoch ≡ epoch → IfSome r (λ y. is_fault_reply here (Some y) ≡ false) → Change old new r → IfSome (session_at new.sessions j) (IsKeptReply here epoch)
-    kept_each j r same calm (still now) = subst (λ (s : Sessions). IfSome (session_at s j) (IsKeptReply here epoch)) (sym now) (kept_some j (session_at old.sessions j) refl)
+    kept_each : (j : ℕ) (r : Option Reply) → old.epoch ≡ epoch → IfSome r (λ y. is_read_fault (Some y) ≡ false) → Change old new r → IfSome (session_at new.sessions j) (IsKeptReply epoch)
+    kept_each j r same calm (still now) = subst (λ (s : Sessions). IfSome (session_at s j) (IsKeptReply epoch)) (sym now) (kept_some j (session_at old.sessions j) refl)
     kept_each j r same calm (greets client name small none told now) =
-        session_cases (λ o. IfSome o (IsKeptReply here epoch)) client (record { who = name; last = 1; reply = reply.Welcome old.epoch }) j small now
+        session_cases (λ o. IfSome o (IsKeptReply epoch)) client (record { who = name; last = 1; reply = reply.Welcome old.epoch }) j small now
         (λ mine. record { sendable = tt; calm = refl; counted = omega arith; greeting = λ one. ap reply.Welcome same }) (kept_some j (session_at old.sessions j) refl)
     kept_each j r same calm (counts client v y small stood told right inside now) =
-        session_cases (λ o. IfSome o (IsKeptReply here epoch)) client (record v { last = v.last + 1; reply = y }) j small now
+        session_cases (λ o. IfSome o (IsKeptReply epoch)) client (record v { last = v.last + 1; reply = y }) j small now
         (λ mine. record {
           sendable = right;
-          calm = subst (λ (q : Option Reply). IfSome q (λ z. is_fault_reply here (Some z) ≡ false)) told calm;
+          calm = subst (λ (q : Option Reply). IfSome q (λ z. is_read_fault (Some z) ≡ false)) told calm;
           counted = omega arith;
           greeting = λ one. (let low : 1 ≤ v.last = (before client v stood).counted in absurd (omega (arith, one, low)));
         }) (kept_some j (session_at old.sessions j) refl)
 
-    pub kept_all : (r : Option Reply) → old.epoch ≡ epoch → IfSome r (λ y. is_fault_reply here (Some y) ≡ false) → Change old new r → (j : ℕ) (w : Session) → session_at new.sessions j ≡ Some w → IsKeptReply here epoch w
-    kept_all r same calm went j w is = subst (λ (o : Option Session). IfSome o (IsKeptReply here epoch)) is (kept_each j r same calm went)
+    pub kept_all : (r : Option Reply) → old.epoch ≡ epoch → IfSome r (λ y. is_read_fault (Some y) ≡ false) → Change old new r → (j : ℕ) (w : Session) → session_at new.sessions j ≡ Some w → IsKeptReply epoch w
+    kept_all r same calm went j w is = subst (λ (o : Option Session). IfSome o (IsKeptReply epoch)) is (kept_each j r same calm went)
 
 -- what has come has come still, where the server goes down or answers on
 pub reached_on : {V : Type 0} (old new : ServerState V) (r : Option Reply) → length old.sessions.places ≡ 17 → new.epoch ≡ old.epoch → old.is_down ≡ false → (new.is_down ≡ false → Change old new r) → (k : ℕ) (a : Come) → IsReached old k a → IsReached new k a

@@ -1,121 +1,94 @@
--- a run that ends before its script does
-use Rattle.std.specs.Prelude.{true, Bool, Option, None, Some, IsSome, map as list_map}
-use Rattle.std.proofs.Common.{inl, inr, ◌≡◌, ℕ, suc, ◌+◌, ◌<◌, ◌≤◌, ◌^◌, List, [], ◌∷◌, ◌++◌, length, take, drop, refl, sym, ◌∙◌, ap, subst, arith, append_assoc, append-nil, length-append}
-use Rattle.std.proofs.lemmas.List.{take-append-drop}
-use Rattle.alp_fields.specs.Forms.{whole}
-use Rattle.alp_base.specs.declared.ids.TransId.{TransId}
-use Rattle.alp_journal.specs.declared.log.Item.{Item}
-use Rattle.alp_history.specs.Items as items
-use Rattle.alp_history.specs.RunLogs.{item_of}
-use Rattle.alp_lines.specs.Named.{client_named}
-use Rattle.alp_script.specs.declared.numbered.NumberedLine.{NumberedLine}
-use Rattle.alp_rpc.specs.Frames.{request}
-use Rattle.alp_session.specs.Crowd.{Crowd}
-use Rattle.alp_session.specs.Crowds.{client_at, asks, at_line, times_out}
-use Rattle.alp_session.specs.declared.frames.Addressed.{Addressed}
-use Rattle.alp_session.specs.declared.waiting.Next.{Next}
-use Rattle.alp_session.specs.declared.waiting.Next.TheVariants as next
+-- What could not come: a journal is full, or the epochs of a server are used up.
+use Rattle.std.specs.Prelude.{false, map as list_map, slice_get, slice_set, Option, Some, Result, Ok, Err}
+use Rattle.std.proofs.Common.{◌≡◌, ℕ, ◌+◌, ◌-◌, ◌<◌, ◌≤◌, List, [], ◌∷◌, length, refl, sym, ◌∙◌, ap, subst}
+use Rattle.std.proofs.lemmas.List.{map-set, set-get_or, get_or-map}
+use Rattle.alp_journal.specs.Answered.{entries_limit}
 use Rattle.alp_node.specs.NodeStates.{NodeState}
+use Rattle.alp_node.specs.declared.start.StartFault.TheVariants as start_fault
 use Rattle.alp_vault.specs.declared.vault.Vault.{Ghosts}
-use Rattle.alp_cluster.specs.Fills.{IsStepDue}
-use Rattle.alp_cluster.specs.Goes.{Goes, GoesSome}
-use Rattle.alp_cluster.specs.Happens.{sent_it, timed_out}
-use Rattle.alp_cluster.specs.Plays.{Due, to_send, to_come, trans_of, happened, SendsMore, BeginsLine}
-use Rattle.alp_cluster.specs.Servers.{IsOn, IsFree, HasNoRoom}
-use Rattle.alp_cluster.specs.Steps.{InStep, HasSaid, Exchanged, DidSome, AddsSomeEvents, AddsSome}
+use Rattle.alp_course.specs.Courses.{Seat, Occurrence, at, seat_at}
+use Rattle.alp_course.specs.Happens.{Happening, restarted}
+use Rattle.alp_course.specs.Languages.{Just}
+use Rattle.alp_course.specs.Plays.{Due, to_come}
+use Rattle.alp_course.proofs.LanguageLemmas.{cut_just}
+use Rattle.alp_course.proofs.RankLemmas.{get_below}
+use Rattle.alp_cluster.specs.Fills.{OnEnd, OnEndBy, MakesEntry, IsFullFor, HasNoEpochFor}
+use Rattle.alp_cluster.specs.Servers.{HasNoRoom, OnFull}
+use Rattle.alp_cluster.specs.Station.{standing, seat_for, seat_of, IsStill, EndsHere}
+use Rattle.alp_cluster.specs.Stations.{AreOn, IsOneOf, IsUnchanged, EndsAt, DidSome, unshown, course_of, servers_of}
 use Rattle.alp_cluster.specs.declared.fault.RunFault.{RunFault}
 use Rattle.alp_cluster.specs.declared.fault.RunFault.TheVariants as fault
-use Rattle.alp_cluster.proofs.GoLemmas.{goes_some_then, later_same}
-use Rattle.alp_cluster.proofs.LineLemmas.{others_stay, said_at_line, said_declared, said_goes, said_turn, few_turn, turn_at}
+use Rattle.alp_cluster.specs.declared.server.Server.{Server}
+use Rattle.alp_cluster.specs.declared.station.Station.{Station}
+use Rattle.alp_cluster.specs.declared.stations.Stations.{Stations}
+use Rattle.alp_cluster.proofs.DidLemmas.{go_none}
+use Rattle.alp_cluster.proofs.GoneLemmas.{end_map}
+use Rattle.alp_cluster.proofs.StationsLemmas.{read_or, seat_stands}
 
--- ---- a journal without room
+-- where the journal is full the run ends
+pub full_end : {T : Type 0} (r : Result T RunFault) (X : Type 0) (Q : RunFault → Type 0) → (X → Q fault.JournalFull) → OnFull r X → OnEnd r Q
+full_end r X Q make h = end_map r (λ g. (g ≡ fault.JournalFull) × X) Q (λ g at. subst Q (sym at.0) (make at.1)) h
 
--- nothing happened, and this was to come
-pub full_some : {V : Type 0} (G : Ghosts V) (n m : NodeState V) (f : Bool) (due : Due) → IsOn G n → HasNoRoom n m → IsStepDue due → GoesSome G fault.JournalFull f [] due n m
-full_some G n m f due on room step = subst (λ (z : NodeState _). GoesSome G fault.JournalFull f [] due n z) (sym room.same) (record {
-  later = later_same G n on;
-  after_fused = f;
-  entries = [];
-  journal = sym (append-nil n.journal);
-  recorded = (refl, refl);
-  ends = record { step = step; up = room.up; full = room.full };
-})
+module _ {V : Type 0} (G : Ghosts V) (s after : Stations V) (on : AreOn G s) (server : ℕ) (here : IsOneOf s server) (x y : Station V) (there : slice_get s.all.items (server - 1) ≡ Some x) (items : after.all.items ≡ slice_set s.all.items (server - 1) y) where
+  below : server - 1 < length s.all.items
+  below = get_below s.all.items (server - 1) x there
 
--- ---- a line that is not over
+  seats_same : IsStill x y → list_map (seat_of G) after.all.items ≡ list_map (seat_of G) s.all.items
+  seats_same still =
+      ap (list_map (seat_of G)) items ∙ map-set (seat_of G) s.all.items (server - 1) y
+      ∙ ap (slice_set (list_map (seat_of G) s.all.items) (server - 1))
+      ((λ i. seat_for G (still.fused i) (still.ranks i) (still.server i)) ∙ sym (get_or-map (seat_of G) s.all.items (server - 1) x (seat_of G x) below ∙ ap (seat_of G) (read_or s.all.items (server - 1) x x there)))
+      ∙ set-get_or (list_map (seat_of G) s.all.items) (server - 1) (seat_of G x)
 
--- what it has to do next has no room: a frame to send, or a transaction that is to time out
-none_some : {V : Type 0} (G : Ghosts V) (c : Crowd) (n m : NodeState V) (k : ℕ) (l : NumberedLine) (now : Next) (due : Due) → InStep G c n → HasNoRoom n m → IsStepDue due → SendsMore c k l.line now [] due c → DidSome G fault.JournalFull c c n m k l now []
-none_some G c n m k l now due step room of more = record {
-  due = due;
-  goes = λ f free. full_some G n m f due step.on room of;
-  number = tt;
-  sends = more;
-  said = λ front short said. subst (HasSaid m.kept k (client_at c k)) (sym (append-nil front)) (said_goes G n m c (full_some G n m true due step.on room of).later k front said);
-  others = λ j away. refl;
-}
+  -- nothing changed
+  pub unchanged : after.posts ≡ s.posts → IsStill x y → IsUnchanged G s after
+  unchanged posts still =
+      let f = λ (z : Station V). z.server in
+      record {
+        servers =
+            ap (list_map f) items ∙ map-set f s.all.items (server - 1) y
+            ∙ ap (slice_set (list_map f s.all.items) (server - 1)) (still.server ∙ sym (get_or-map f s.all.items (server - 1) x x.server below ∙ ap f (read_or s.all.items (server - 1) x x there)))
+            ∙ set-get_or (list_map f s.all.items) (server - 1) x.server;
+        course = λ i. record { seats = seats_same still i; posts = list_map unshown (posts i) };
+      }
 
-pub frame_some : {V : Type 0} (G : Ghosts V) (c : Crowd) (n m : NodeState V) (k : ℕ) (l : NumberedLine) (now : Next) (frame : Addressed) → InStep G c n → (frame.server ≡ 1) × IsSome (whole request frame.bytes) × HasNoRoom n m → asks c k l.line now ≡ Some frame
-    → DidSome G fault.JournalFull c c n m k l now []
-frame_some G c n m k l now frame step room asked = none_some G c n m k l now (to_send k frame) step room.2 (room.0, room.1) (inl (frame, asked, refl), refl)
+  pub up_there : (n : NodeState V) → x.server ≡ standing n → HasNoRoom n n → (seat_at (course_of G s) server).stand.is_down ≡ false
+  up_there n stood room = ap (λ (z : Seat). z.stand.is_down) (seat_stands G s on server here x there n stood) ∙ room.up
 
-the_some : {A : Type 0} (o : Option A) → IsSome o → (x : A) × (o ≡ Some x)
-the_some None h = cc
-the_some (Some x) h = (x, refl)
+  pub full_there : (n : NodeState V) → x.server ≡ standing n → HasNoRoom n n → entries_limit ≤ (seat_at (course_of G s) server).stand.place
+  full_there n stood room = subst (λ (z : Seat). entries_limit ≤ z.stand.place) (sym (seat_stands G s on server here x there n stood)) room.full
 
-pub some_due : (o : Option (ℕ × TransId)) → IsSome (trans_of o) → IsSome o
-some_due None h = cc
-some_due (Some x) h = refl
+  -- the journal of the server has no room for what was to happen
+  pub no_room : (h : Happening) → MakesEntry h → (n : NodeState V) → x.server ≡ standing n → HasNoRoom n n → after.posts ≡ s.posts → IsStill x y → DidSome G (Just (at server h ∷ [])) fault.JournalFull s after
+  no_room h makes n stood room posts still = record {
+    at_end = s;
+    hs = [];
+    due = to_come (at server h);
+    cut = cut_just (at server h);
+    goes = go_none G s on;
+    ends = record { step = makes; up = up_there n stood room; full = full_there n stood room };
+    left = unchanged posts still;
+  }
 
-pub timeout_some : {V : Type 0} (G : Ghosts V) (c : Crowd) (n m : NodeState V) (k : ℕ) (l : NumberedLine) (now : Next) → InStep G c n → IsSome (times_out c k now) × HasNoRoom n m → DidSome G fault.JournalFull c c n m k l now []
-timeout_some G c n m k l now step room =
-    let (t, is) = the_some (times_out c k now) room.0 in
-    none_some G c n m k l now (to_come (timed_out t.1)) step room.1 tt (inr (t, is, refl), refl)
-
--- a frame had room, and not all that came behind it
-pub more_some : {V : Type 0} (G : Ghosts V) (f : RunFault) (c d e : Crowd) (n m z : NodeState V) (k : ℕ) (l : NumberedLine) (now : Next) (frame : Addressed) (behind : Next) (x : Item) (xs : List Item) → asks c k l.line now ≡ Some frame
-    → Exchanged G c d n m k l now frame behind x → DidSome G f d e m z k l behind xs → DidSome G f c e n z k l now (x ∷ xs)
-more_some G f c d e n m z k l now frame behind x xs asked h rest = record {
-  due = rest.due;
-  goes = λ b free. (let one : Goes G b (sent_it k x ∷ []) b n m = h.goes b free in goes_some_then G n m z f b b (sent_it k x ∷ []) (happened k xs None) rest.due one (rest.goes b one.free));
-  number = (h.number, rest.number);
-  sends = (frame, asked, h.sent, subst (λ (q : Crowd × Next). SendsMore q.0 k l.line q.1 xs rest.due e) (sym h.heard) rest.sends);
-  said = λ front short said. subst (HasSaid z.kept k (client_at e k)) (append_assoc front (item_of x ∷ []) (list_map item_of xs))
-      (rest.said (front ++ item_of x ∷ []) (longer front (length xs) short) (h.said front (omega (arith, short)) said));
-  others = λ j away. rest.others j away ∙ others_stay c d k l.line now frame x.reply behind h.heard j away;
-}
-  where
-    longer : (front : List items.Item) (n : ℕ) → length front + suc n + 4 < 2 ^ 32 → length (front ++ item_of x ∷ []) + n + 4 < 2 ^ 32
-    longer front n short = (let one : length (front ++ item_of x ∷ []) ≡ length front + 1 = length-append front (item_of x ∷ []) in omega (arith, short, one))
-
-pub adds_some : {V : Type 0} (G : Ghosts V) (f : RunFault) (b : Bool) (c d : Crowd) (n m : NodeState V) (l : NumberedLine) (k : ℕ) (xs : List Item) → client_named l.line ≡ Some k → k ≤ 16 → length c.places ≡ 17 → IsFree G b n → length xs ≤ 5
-    → DidSome G f (at_line c k l.line) d n m k l next.Call xs → AddsSome G f b c d n m l
-adds_some G f b c d n m l k xs named small places free few did =
-    let goes : GoesSome G f b (happened k xs None) did.due n m = did.goes b free in
-    record {
-      turns = turn_at l k xs ∷ [];
-      happened_now = happened k xs None;
-      due = did.due;
-      goes = goes;
-      begins = subst (λ (o : Option ℕ). BeginsLine c l o (turn_at l k xs ∷ []) (happened k xs None) did.due d) (sym named) (xs, refl, refl, did.number, did.sends);
-      few = few_turn l k xs few;
-      said = λ j front short said. said_turn G n m (at_line c k l.line) d l k xs goes.later few did.said did.others j front short (said_at_line n.kept c k l.line places small j front said);
-    }
-
--- a line that is no client's
-pub other_some : {V : Type 0} (G : Ghosts V) (f : RunFault) (b : Bool) (c d : Crowd) (n m : NodeState V) (l : NumberedLine) → client_named l.line ≡ None → AddsSomeEvents G f b c d n m l.line → AddsSome G f b c d n m l
-other_some G f b c d n m l named h = record {
-  turns = [];
-  happened_now = h.happened_now;
-  due = h.due;
-  goes = h.goes;
-  begins = subst (λ (o : Option ℕ). BeginsLine c l o [] h.happened_now h.due d) (sym named) (refl, h.begins, h.declared);
-  few = λ k. omega arith;
-  said = λ k front short said. subst (HasSaid m.kept k (client_at d k)) (sym (append-nil front))
-      (subst (λ (z : Crowd). HasSaid m.kept k (client_at z k) front) (sym h.declared) (said_declared m.kept c l.line k front (said_goes G n m c h.goes.later k front said)));
-}
-
--- ---- among the lines
-
--- a list is what is before a place, what stands there, and the rest
-pub split_at : {A : Type 0} (xs : List A) (i : ℕ) (x : A) → take (i + 1) xs ≡ take i xs ++ x ∷ [] → xs ≡ take i xs ++ x ∷ drop (i + 1) xs
-split_at {A = A} xs i x is = sym (take-append-drop (i + 1) xs) ∙ ap (λ (ys : List A). ys ++ drop (i + 1) xs) is ∙ append_assoc (take i xs) (x ∷ []) (drop (i + 1) xs)
+  -- its epochs are used up
+  pub no_epoch : (pick : ℕ) (n : NodeState V) → x.server ≡ standing n → n.kept.server ≡ server → (f : RunFault) → EndsHere G pick f n y.server → OnEndBy f (λ g. DidSome G (Just (at server (restarted pick) ∷ [])) g s after)
+  no_epoch pick n stood number (fault.DiskFault m) h = tt
+  no_epoch pick n stood number fault.OutOfMemory h = tt
+  no_epoch pick n stood number fault.JournalFull h = absurd h
+  no_epoch pick n stood number (fault.Start m (start_fault.Vault f)) h = tt
+  no_epoch pick n stood number (fault.Start m start_fault.BadNote) h = tt
+  no_epoch pick n stood number (fault.Start m start_fault.EpochEnd) h =
+      let (d, left, named, stays) = h in
+      record {
+        at_end = s;
+        hs = [];
+        due = to_come (at server (restarted pick));
+        cut = cut_just (at server (restarted pick));
+        goes = go_none G s on;
+        ends = record {
+          restart = tt;
+          there = sym number ∙ sym named;
+          last = ap (λ (k : ℕ). (seat_at (course_of G s) k).stand.epoch) (named ∙ number) ∙ ap (λ (z : Seat). z.stand.epoch) (seat_stands G s on server here x there n stood) ∙ sym stays.falls.epoch ∙ stays.stays.cause.0;
+        };
+        left = record { number = server; pick = pick; station = x; left = y; node = n; there = there; stood = stood; others = items; ends = h };
+      }

@@ -12,7 +12,7 @@ use Rattle.alp_base.specs.declared.allowance.Allowance.TheVariants.{Free, Left, 
 use Rattle.alp_node.specs.declared.start.StartFault.TheVariants as start_fault
 use Rattle.alp_vault.specs.declared.vault.Vault.{Ghosts}
 use Rattle.alp_cluster.specs.Fills.{OnEnd, OnEndBy}
-use Rattle.alp_cluster.specs.Servers.{HasGone, IsFailure, IsToldFault, AreCountedIn, OnFull}
+use Rattle.alp_cluster.specs.Servers.{HasGoneBy, HasGone, IsFailure, IsToldFault, AreCountedIn, OnFull}
 use Rattle.alp_cluster.specs.declared.fault.RunFault.{RunFault}
 use Rattle.alp_cluster.specs.declared.fault.RunFault.TheVariants as fault
 
@@ -38,72 +38,101 @@ handed_on f (Err e) is same = ap Err same
 rose_since : (a b c : ℕ) → a ≤ b → Rose b c → Rose a c
 rose_since a b c up rose = (let wide : min (a + 1) (2 ^ 64 - 1) ≤ min (b + 1) (2 ^ 64 - 1) = omega (arith, up) in omega (arith, wide, rose))
 
-failure_since : {T : Type 0} (a b c : ℕ) (r : Result T RunFault) → a ≤ b → IsFailure r b c → IsFailure r a c
-failure_since a b c (Ok x) up h = tt
-failure_since a b c (Err (fault.DiskFault server)) up h = (h.0, rose_since a b c up h.1)
-failure_since a b c (Err fault.OutOfMemory) up h = tt
-failure_since a b c (Err fault.JournalFull) up h = tt
-failure_since a b c (Err (fault.Start server (start_fault.Vault vault_fault.Failed))) up h = (h.0, rose_since a b c up h.1)
-failure_since a b c (Err (fault.Start server (start_fault.Vault vault_fault.Stopped))) up h = h
-failure_since a b c (Err (fault.Start server (start_fault.Vault vault_fault.OutOfMemory))) up h = h
-failure_since a b c (Err (fault.Start server (start_fault.Vault (vault_fault.NotAVolume found)))) up h = h
-failure_since a b c (Err (fault.Start server (start_fault.Vault (vault_fault.Damaged place)))) up h = h
-failure_since a b c (Err (fault.Start server start_fault.BadNote)) up h = h
-failure_since a b c (Err (fault.Start server start_fault.EpochEnd)) up h = h
+failure_since : {T : Type 0} (N : ℕ → Type 0) (here : ℕ) (a b c : ℕ) (r : Result T RunFault) → a ≤ b → IsFailure N here r b c → IsFailure N here r a c
+failure_since N here a b c (Ok x) up h = tt
+failure_since N here a b c (Err (fault.DiskFault server)) up h = (h.0, λ is. rose_since a b c up (h.1 is))
+failure_since N here a b c (Err fault.OutOfMemory) up h = tt
+failure_since N here a b c (Err fault.JournalFull) up h = tt
+failure_since N here a b c (Err (fault.Start server (start_fault.Vault vault_fault.Failed))) up h = (h.0, λ is. rose_since a b c up (h.1 is))
+failure_since N here a b c (Err (fault.Start server (start_fault.Vault vault_fault.Stopped))) up h = h
+failure_since N here a b c (Err (fault.Start server (start_fault.Vault vault_fault.OutOfMemory))) up h = h
+failure_since N here a b c (Err (fault.Start server (start_fault.Vault (vault_fault.NotAVolume found)))) up h = h
+failure_since N here a b c (Err (fault.Start server (start_fault.Vault (vault_fault.Damaged place)))) up h = h
+failure_since N here a b c (Err (fault.Start server start_fault.BadNote)) up h = h
+failure_since N here a b c (Err (fault.Start server start_fault.EpochEnd)) up h = h
 
-failure_of : (T U : Type 0) (a b : ℕ) (f : RunFault) → IsFailure {T = T} (Err f) a b → IsFailure {T = U} (Err f) a b
-failure_of T U a b (fault.DiskFault server) h = h
-failure_of T U a b fault.OutOfMemory h = tt
-failure_of T U a b fault.JournalFull h = tt
-failure_of T U a b (fault.Start server f) h = h
+failure_of : (T U : Type 0) (N : ℕ → Type 0) (here a b : ℕ) (f : RunFault) → IsFailure {T = T} N here (Err f) a b → IsFailure {T = U} N here (Err f) a b
+failure_of T U N here a b (fault.DiskFault server) h = h
+failure_of T U N here a b fault.OutOfMemory h = tt
+failure_of T U N here a b fault.JournalFull h = tt
+failure_of T U N here a b (fault.Start server f) h = h
 
-told_of : (T U : Type 0) (f : RunFault) → IsToldFault {T = T} (Err f) → IsToldFault {T = U} (Err f)
-told_of T U (fault.DiskFault server) h = tt
-told_of T U fault.OutOfMemory h = tt
-told_of T U fault.JournalFull h = tt
-told_of T U (fault.Start server f) h = h
+-- one that may be named may be named among more
+failure_among : {T : Type 0} (N M : ℕ → Type 0) (here a b : ℕ) (r : Result T RunFault) → ((n : ℕ) → N n → M n) → IsFailure N here r a b → IsFailure M here r a b
+failure_among N M here a b (Ok x) make h = tt
+failure_among N M here a b (Err (fault.DiskFault server)) make h = (make server h.0, h.1)
+failure_among N M here a b (Err fault.OutOfMemory) make h = tt
+failure_among N M here a b (Err fault.JournalFull) make h = tt
+failure_among N M here a b (Err (fault.Start server f)) make h = (make server h.0, h.1)
 
-module _ {V : Type 0} (G : Ghosts V) where
+told_of : (T U : Type 0) (here : ℕ) (f : RunFault) → IsToldFault {T = T} here (Err f) → IsToldFault {T = U} here (Err f)
+told_of T U here (fault.DiskFault server) h = tt
+told_of T U here fault.OutOfMemory h = tt
+told_of T U here fault.JournalFull h = tt
+told_of T U here (fault.Start server f) h = h
+
+module _ {V : Type 0} (G : Ghosts V) (N : ℕ → Type 0) where
   -- nothing was done
-  pub gone_nothing : {T : Type 0} (P : Type 0) (v : V) (r : Result T RunFault) → IsFailure r (G.faults v) (G.faults v) → IsToldFault r → AreCountedIn r (G.faults v) (G.faults v) → HasGone G P v v r
+  pub gone_nothing : {T : Type 0} (P : Type 0) (v : V) (r : Result T RunFault) → IsFailure N (G.server v) r (G.faults v) (G.faults v) → IsToldFault (G.server v) r → AreCountedIn (G.server v) r (G.faults v) (G.faults v) → HasGoneBy G N P v v r
   gone_nothing P v r failed told counted = record { same = record { telling = refl; sizes = refl; number = refl; of_all = refl }; later = omega arith; failed = failed; told = λ e. told; free = λ p e. e; counted = λ p e. counted }
 
   -- one call went well, and then the next came to this
-  pub gone_then : {T U : Type 0} (P Q R : Type 0) (u v w : V) (x : T) (r : Result U RunFault) → (R → P) → (R → Q) → HasGone {T = T} G P u v (Ok x) → HasGone G Q v w r → HasGone G R u w r
+  pub gone_then : {T U : Type 0} (P Q R : Type 0) (u v w : V) (x : T) (r : Result U RunFault) → (R → P) → (R → Q) → HasGoneBy {T = T} G N P u v (Ok x) → HasGoneBy G N Q v w r → HasGoneBy G N R u w r
   gone_then {T = T} {U = U} P Q R u v w x r first second h k = record {
     same = record { telling = k.same.telling ∙ h.same.telling; sizes = k.same.sizes ∙ h.same.sizes; number = k.same.number ∙ h.same.number; of_all = k.same.of_all ∙ h.same.of_all };
     later = omega (arith, h.later, k.later);
-    failed = failure_since (G.faults u) (G.faults v) (G.faults w) r h.later k.failed;
-    told = λ e. k.told (subst IsTrue (sym h.same.telling) e);
+    failed = failure_since N (G.server u) (G.faults u) (G.faults v) (G.faults w) r h.later (subst (λ (n : ℕ). IsFailure N n r (G.faults v) (G.faults w)) h.same.number k.failed);
+    told = λ e. subst (λ (n : ℕ). IsToldFault n r) h.same.number (k.told (subst IsTrue (sym h.same.telling) e));
     free = λ p e. k.free (second p) (h.free (first p) e);
-    counted = λ p e. subst (λ (n : ℕ). AreCountedIn r n (G.faults w)) (h.counted (first p) e) (k.counted (second p) (h.free (first p) e));
+    counted = λ p e. subst (λ (n : ℕ). AreCountedIn (G.server u) r n (G.faults w)) (h.counted (first p) e) (subst (λ (n : ℕ). AreCountedIn n r (G.faults v) (G.faults w)) h.same.number (k.counted (second p) (h.free (first p) e)));
   }
 
-  pub gone_both : {T U : Type 0} (P : Type 0) (u v w : V) (x : T) (r : Result U RunFault) → HasGone {T = T} G P u v (Ok x) → HasGone G P v w r → HasGone G P u w r
+  pub gone_both : {T U : Type 0} (P : Type 0) (u v w : V) (x : T) (r : Result U RunFault) → HasGoneBy {T = T} G N P u v (Ok x) → HasGoneBy G N P v w r → HasGoneBy G N P u w r
   gone_both P u v w x r h k = gone_then P P P u v w x r (λ p. p) (λ p. p) h k
 
   -- a call came to this, and what is made of it is no other fault
-  pub gone_err : {T U : Type 0} (P : Type 0) (u v : V) (f : RunFault) → HasGone {T = T} G P u v (Err f) → HasGone {T = U} G P u v (Err f)
-  gone_err {T = T} {U = U} P u v f h = record { same = h.same; later = h.later; failed = failure_of T U (G.faults u) (G.faults v) f h.failed; told = λ e. told_of T U f (h.told e); free = h.free; counted = h.counted }
+  pub gone_err : {T U : Type 0} (P : Type 0) (u v : V) (f : RunFault) → HasGoneBy {T = T} G N P u v (Err f) → HasGoneBy {T = U} G N P u v (Err f)
+  gone_err {T = T} {U = U} P u v f h = record { same = h.same; later = h.later; failed = failure_of T U N (G.server u) (G.faults u) (G.faults v) f h.failed; told = λ e. told_of T U (G.server u) f (h.told e); free = h.free; counted = h.counted }
 
-  pub gone_ok : {T U : Type 0} (P : Type 0) (u v : V) (x : T) (y : U) → HasGone {T = T} G P u v (Ok x) → HasGone {T = U} G P u v (Ok y)
+  pub gone_ok : {T U : Type 0} (P : Type 0) (u v : V) (x : T) (y : U) → HasGoneBy {T = T} G N P u v (Ok x) → HasGoneBy {T = U} G N P u v (Ok y)
   gone_ok P u v x y h = record { same = h.same; later = h.later; failed = tt; told = λ e. tt; free = h.free; counted = h.counted }
 
   -- it went well, and then memory was wanting
-  pub gone_memory : {T U : Type 0} (P : Type 0) (u v : V) (x : T) → HasGone {T = T} G P u v (Ok x) → HasGone {T = U} G P u v (Err fault.OutOfMemory)
+  pub gone_memory : {T U : Type 0} (P : Type 0) (u v : V) (x : T) → HasGoneBy {T = T} G N P u v (Ok x) → HasGoneBy {T = U} G N P u v (Err fault.OutOfMemory)
   gone_memory P u v x h = record { same = h.same; later = h.later; failed = tt; told = λ e. tt; free = h.free; counted = h.counted }
 
   -- what holds where more is given holds where that is
-  pub gone_where : {T : Type 0} (P Q : Type 0) (u v : V) (r : Result T RunFault) → (Q → P) → HasGone G P u v r → HasGone G Q u v r
+  pub gone_where : {T : Type 0} (P Q : Type 0) (u v : V) (r : Result T RunFault) → (Q → P) → HasGoneBy G N P u v r → HasGoneBy G N Q u v r
   gone_where P Q u v r make h = record { same = h.same; later = h.later; failed = h.failed; told = h.told; free = λ p e. h.free (make p) e; counted = λ p e. h.counted (make p) e }
 
   -- the fault of a call is handed on
-  pub gone_handed : {T U : Type 0} (P : Type 0) (u v : V) (f : RunFault) (r : Result U RunFault) → HasGone {T = T} G P u v (Err f) → r ≡ Err f → HasGone {T = U} G P u v r
-  gone_handed {U = U} P u v f r h is = subst (λ (q : Result U RunFault). HasGone {T = U} G P u v q) (sym is) (gone_err P u v f h)
+  pub gone_handed : {T U : Type 0} (P : Type 0) (u v : V) (f : RunFault) (r : Result U RunFault) → HasGoneBy {T = T} G N P u v (Err f) → r ≡ Err f → HasGoneBy {T = U} G N P u v r
+  gone_handed {U = U} P u v f r h is = subst (λ (q : Result U RunFault). HasGoneBy {T = U} G N P u v q) (sym is) (gone_err P u v f h)
 
   -- one call went well, and the fault of the next is handed on
-  pub gone_on : {T U W : Type 0} (P : Type 0) (u v w : V) (x : T) (f : RunFault) (r : Result W RunFault) → HasGone {T = T} G P u v (Ok x) → HasGone {T = U} G P v w (Err f) → r ≡ Err f → HasGone {T = W} G P u w r
-  gone_on {W = W} P u v w x f r h k is = subst (λ (q : Result W RunFault). HasGone {T = W} G P u w q) (sym is) (gone_both P u v w x (Err f) h (gone_err P v w f k))
+  pub gone_on : {T U W : Type 0} (P : Type 0) (u v w : V) (x : T) (f : RunFault) (r : Result W RunFault) → HasGoneBy {T = T} G N P u v (Ok x) → HasGoneBy {T = U} G N P v w (Err f) → r ≡ Err f → HasGoneBy {T = W} G N P u w r
+  gone_on {W = W} P u v w x f r h k is = subst (λ (q : Result W RunFault). HasGoneBy {T = W} G N P u w q) (sym is) (gone_both P u v w x (Err f) h (gone_err P v w f k))
+
+pub gone_among : {V T : Type 0} (G : Ghosts V) (N M : ℕ → Type 0) (P : Type 0) (u v : V) (r : Result T RunFault) → ((n : ℕ) → N n → M n) → HasGoneBy G N P u v r → HasGoneBy G M P u v r
+gone_among G N M P u v r make h = record { same = h.same; later = h.later; failed = failure_among N M (G.server u) (G.faults u) (G.faults v) r make h.failed; told = h.told; free = h.free; counted = h.counted }
+
+-- ---- of one server alone
+
+module _ {V : Type 0} (G : Ghosts V) where
+  pub one_nothing : {T : Type 0} (P : Type 0) (v : V) (r : Result T RunFault) → IsFailure (λ m. m ≡ G.server v) (G.server v) r (G.faults v) (G.faults v) → IsToldFault (G.server v) r → AreCountedIn (G.server v) r (G.faults v) (G.faults v) → HasGone G P v v r
+  one_nothing P v r failed told counted = gone_nothing G (λ m. m ≡ G.server v) P v r failed told counted
+
+  pub one_ok : {T U : Type 0} (P : Type 0) (u v : V) (x : T) (y : U) → HasGone {T = T} G P u v (Ok x) → HasGone {T = U} G P u v (Ok y)
+  one_ok P u v x y h = gone_ok G (λ m. m ≡ G.server u) P u v x y h
+
+  pub one_memory : {T U : Type 0} (P : Type 0) (u v : V) (x : T) → HasGone {T = T} G P u v (Ok x) → HasGone {T = U} G P u v (Err fault.OutOfMemory)
+  one_memory {T} {U} P u v x h = gone_memory G (λ m. m ≡ G.server u) {T = T} {U = U} P u v x h
+
+  pub one_err : {T U : Type 0} (P : Type 0) (u v : V) (f : RunFault) → HasGone {T = T} G P u v (Err f) → HasGone {T = U} G P u v (Err f)
+  one_err {T} {U} P u v f h = gone_err G (λ m. m ≡ G.server u) P u v f h
+
+  pub one_handed : {T U : Type 0} (P : Type 0) (u v : V) (f : RunFault) (r : Result U RunFault) → HasGone {T = T} G P u v (Err f) → r ≡ Err f → HasGone {T = U} G P u v r
+  one_handed {T} {U} P u v f r h is = gone_handed G (λ m. m ≡ G.server u) P u v f r h is
 
 -- ---- where a script ended a call
 
@@ -132,3 +161,15 @@ full_map P Q r make h = end_map r (λ g. (g ≡ fault.JournalFull) × P) (λ g. 
 -- memory was wanting, which no script brings about
 pub end_memory : {T : Type 0} (r : Result T RunFault) (P : RunFault → Type 0) → r ≡ Err fault.OutOfMemory → OnEnd r P
 end_memory {T = T} r P is = subst (λ (q : Result T RunFault). OnEnd q P) (sym is) tt
+
+-- what holds of any fault holds of one of those
+end_by_any : (e : RunFault) (P : RunFault → Type 0) → P e → OnEndBy e P
+end_by_any (fault.DiskFault server) P h = tt
+end_by_any fault.OutOfMemory P h = tt
+end_by_any fault.JournalFull P h = h
+end_by_any (fault.Start server (start_fault.Vault f)) P h = tt
+end_by_any (fault.Start server start_fault.BadNote) P h = tt
+end_by_any (fault.Start server start_fault.EpochEnd) P h = h
+
+pub end_any : {T : Type 0} (e : RunFault) (r : Result T RunFault) (P : RunFault → Type 0) → r ≡ Err e → P e → OnEnd r P
+end_any {T = T} e r P is h = subst (λ (q : Result T RunFault). OnEnd q P) (sym is) (end_by_any e P h)

@@ -27,7 +27,7 @@ use Rattle.alp_vault.specs.declared.vault.Vault.{Ghosts}
 use Rattle.alp_cluster.specs.Come.{Come, IsUpTo, IsReached, IsReachedIn}
 use Rattle.alp_cluster.specs.Exchanges.{event_of}
 use Rattle.alp_cluster.specs.Servers.{IsOn, AreKept, Steps}
-use Rattle.alp_cluster.specs.Steps.{come_in}
+use Rattle.alp_cluster.specs.Clients.{come_in}
 use Rattle.alp_cluster.proofs.ComeLemmas.{after_most}
 use Rattle.alp_cluster.proofs.DeskLemmas.{change, reached_on}
 

@@ -1,4 +1,4 @@
--- whole lines, and what they leave of clients, lists and journal
+-- whole lines, and what they leave of clients, lists and servers
 use Rattle.std.specs.Prelude.{◌==◌, nat_le, true, false, Bool, cond, Option, None, Some, IsSome, map as list_map, slice_set, slice_index_or, Vec}
 use Rattle.std.specs.Global.{Global}
 use Rattle.std.proofs.Common.{inl, inr, ◌⊎◌, ◌<◌, ◌≡◌, ◌≢◌, ℕ, zero, suc, ◌≤◌, ◌+◌, ◌-◌, ◌^◌, List, [], ◌∷◌, ◌++◌, length, take, drop, refl, sym, ◌∙◌, ap, subst, arith, append_assoc, append-nil, length-append}
@@ -26,20 +26,24 @@ use Rattle.alp_session.specs.declared.waiting.Next.{Next}
 use Rattle.alp_session.specs.declared.waiting.Next.TheVariants as next
 use Rattle.alp_session.specs.declared.waiting.Settings.{Settings}
 use Rattle.alp_session.specs.Crowd.{Crowd}
-use Rattle.alp_session.specs.Crowds.{client_at, with_client, asks, hears, at_line, declares, times_out, Sends}
+use Rattle.alp_session.specs.Crowds.{client_at, with_client, asks, hears, at_line, declares, times_out}
 use Rattle.alp_session.proofs.AheadLemmas.{first_few, hears_fewer}
 use Rattle.alp_session.proofs.CrowdLemmas.{at_same, at_other, as_many}
 use Rattle.alp_vault.specs.declared.vault.Vault.{Ghosts}
-use Rattle.alp_node.specs.NodeStates.{NodeState}
-use Rattle.alp_node.specs.declared.server_state.ServerState.{ServerState}
-use Rattle.alp_cluster.specs.Goes.{IsLater, Goes}
-use Rattle.alp_cluster.specs.Happens.{sent_it}
-use Rattle.alp_cluster.specs.Plays.{happened, timeouts_in, trans_of, PlaysLine}
-use Rattle.alp_cluster.specs.Servers.{IsOn, IsFree, HasTimed}
-use Rattle.alp_cluster.specs.Steps.{IsInStep, InStep, HasSaid, IsOwnNext, Exchanged, Did, StartsBy, AddsEvents, Adds}
-use Rattle.alp_cluster.specs.Turns.{Turn, lists_in, own_in, turns_text}
+use Rattle.alp_course.specs.Courses.{Occurrence, at}
+use Rattle.alp_course.specs.Happens.{sent_it, timed_out}
+use Rattle.alp_course.specs.Languages.{Just, Then}
+use Rattle.alp_course.specs.Carries.{CarriesIf}
+use Rattle.alp_course.specs.Plays.{Due, to_send, to_come, IsCut, CarriesAt, Sends, SendsMore, timeouts_due, PlaysOwn, PlaysLine, BeginsOwn}
+use Rattle.alp_course.specs.Turns.{Turn, lists_in, own_in, turns_text}
+use Rattle.alp_course.proofs.LanguageLemmas.{then_word}
+use Rattle.alp_cluster.specs.Clients.{States, IsInStep, InStep, HasSaid}
+use Rattle.alp_cluster.specs.Stations.{AreLater, Go, Did, DidSome, state_at}
+use Rattle.alp_cluster.specs.Steps.{IsOwnNext, Exchanged, SaysOn, SayOn, DidLine, DidOfLine, AddsEvents, AddsSomeEvents, PlaysOn, Adds, AddsSome, BeginsOn, ExchangesNone}
+use Rattle.alp_cluster.specs.declared.fault.RunFault.{RunFault}
+use Rattle.alp_cluster.specs.declared.stations.Stations.{Stations}
+use Rattle.alp_cluster.proofs.DidLemmas.{later_none, go_then}
 use Rattle.alp_cluster.proofs.ExchangeLemmas.{in_step_later}
-use Rattle.alp_cluster.proofs.GoLemmas.{goes_none, goes_then, timeout_goes}
 use Rattle.alp_cluster.proofs.KnowLemmas.{SameKnown, same_known}
 use Rattle.alp_cluster.proofs.OwnLemmas.{step_later}
 use Rattle.alp_cluster.proofs.SaidLemmas.{said_later}
@@ -94,98 +98,188 @@ behind_front a xs ys k is long =
     let rest : length (a ++ xs) - length a ≡ length xs = omega (arith, length-append a xs) in
     (λ i. take (length (is i) - long i) (drop (long i) (is i))) ∙ (λ i. take (rest i) (drop_front a xs i)) ∙ take-length xs
 
+-- ---- one thing that was to come
+
+-- nothing of it came
+pub one_cut : (x : Occurrence) (hs : List Occurrence) (due : Due) → IsCut (Just (x ∷ [])) hs due → (hs ≡ []) × (due ≡ to_come x)
+one_cut x [] due cut = (let same : cut.coming ∷ cut.rest ≡ x ∷ [] = cut.all in let first : cut.coming ≡ x = cc in (refl, cut.is ∙ ap to_come first))
+one_cut x (y ∷ []) due cut = (let wrong : y ∷ cut.coming ∷ cut.rest ≡ x ∷ [] = cut.all in cc)
+one_cut x (y ∷ z ∷ hs) due cut = (let wrong : y ∷ z ∷ (hs ++ cut.coming ∷ cut.rest) ≡ x ∷ [] = cut.all in cc)
+
+-- what was said stays said as the servers go on
+pub said_goes : {V : Type 0} (G : Ghosts V) (a b : Stations V) (c : Crowd) → AreLater G a b → (j : ℕ) (front : List items.Item) → HasSaid (state_at a) j (client_at c j) front → HasSaid (state_at b) j (client_at c j) front
+said_goes G a b c later j front said = said_later (state_at a) (state_at b) j (client_at c j) (client_at c j) front (λ n x. later.reached n j x) (λ n. refl) refl refl refl said
+
 -- ---- the items of a line
 
--- a frame of a line, and what comes behind it
-pub more_line : {V : Type 0} (G : Ghosts V) (c d e : Crowd) (n m z : NodeState V) (k : ℕ) (l : NumberedLine) (now : Next) (frame : Addressed) (behind : Next) (x : Item) (xs : List Item) (t : Option (ℕ × TransId)) → asks c k l.line now ≡ Some frame
-    → Exchanged G c d n m k l now frame behind x → Did G d e m z k l behind xs t → Did G c e n z k l now (x ∷ xs) t
-more_line G c d e n m z k l now frame behind x xs t asked h rest = record {
-  step = rest.step;
-  goes = λ f free. (let one : Goes G f (sent_it k x ∷ []) f n m = h.goes f free in goes_then G n m z f f f (sent_it k x ∷ []) (happened k xs (trans_of t)) one (rest.goes f one.free));
-  number = (h.number, rest.number);
-  sends = (frame, asked, h.sent, subst (λ (q : Crowd × Next). Sends q.0 k l.line q.1 xs t e) (sym h.heard) rest.sends);
-  said = λ front short said. subst (HasSaid z.kept k (client_at e k)) (append_assoc front (item_of x ∷ []) (list_map item_of xs))
-      (rest.said (front ++ item_of x ∷ []) (longer front (length xs) short) (h.said front (omega (arith, short)) said));
-  others = λ j away. rest.others j away ∙ others_stay c d k l.line now frame x.reply behind h.heard j away;
-}
-  where
+module _ {V : Type 0} (G : Ghosts V) (servers : ℕ) (c : Crowd) (a b : Stations V) (k : ℕ) (l : NumberedLine) (now : Next) (carried : Did G (CarriesAt servers c now) a b) where
+  -- what was said before messages were carried
+  said_carried : (front : List items.Item) → HasSaid (state_at a) k (client_at c k) front → HasSaid (state_at b) k (client_at c k) front
+  said_carried front said = said_goes G a b c carried.goes.later k front said
+
+  module _ (d e : Crowd) (m z : Stations V) (frame : Addressed) (behind : Next) (x : Item) (xs : List Item) (asked : asks c k l.line now ≡ Some frame) (h : Exchanged G c d b m k l now frame behind x) where
     longer : (front : List items.Item) (n : ℕ) → length front + suc n + 4 < 2 ^ 32 → length (front ++ item_of x ∷ []) + n + 4 < 2 ^ 32
     longer front n short = (let one : length (front ++ item_of x ∷ []) ≡ length front + 1 = length-append front (item_of x ∷ []) in omega (arith, short, one))
 
--- ---- a transaction times out
+    one_said : (y : Stations V) → SaysOn d e m y k xs → SaysOn c e a y k (x ∷ xs)
+    one_said y rest = λ front short said. subst (HasSaid (state_at y) k (client_at e k)) (append_assoc front (item_of x ∷ []) (list_map item_of xs))
+        (rest (front ++ item_of x ∷ []) (longer front (length xs) short) (h.said front (omega (arith, short)) (said_carried front said)))
 
-pub timed_goes : {V : Type 0} (G : Ghosts V) (n m : NodeState V) (t : Option TransId) → IsOn G n → HasTimed G n m t → (f : Bool) → IsFree G f n → Goes G f (timeouts_in t) f n m
-timed_goes G n m None on still f free = subst (λ (z : NodeState _). Goes G f [] f n z) (sym still) (goes_none G n f on free)
-timed_goes G n m (Some t) on timed f free = timeout_goes G n m t on timed f free
-
--- a server that has come to a timeout, or to none, is later
-pub timed_later : {V : Type 0} (G : Ghosts V) (n m : NodeState V) (t : Option TransId) → IsOn G n → HasTimed G n m t → IsLater G n m
-timed_later G n m t on timed = (timed_goes G n m t on timed true (λ e. cc)).later
-
--- a line behind its last frame
-pub ended_line : {V : Type 0} (G : Ghosts V) (c : Crowd) (n m : NodeState V) (k : ℕ) (l : NumberedLine) (now : Next) → InStep G c n → asks c k l.line now ≡ None → HasTimed G n m (trans_of (times_out c k now)) → Did G c c n m k l now [] (times_out c k now)
-ended_line G c n m k l now step none h =
-    let later : IsLater G n m = timed_later G n m (trans_of (times_out c k now)) step.on h in
-    record {
-      step = in_step_later G c n m step later;
-      goes = timed_goes G n m (trans_of (times_out c k now)) step.on h;
-      number = tt;
-      sends = (none, refl, refl);
-      said = λ front short said. subst (HasSaid m.kept k (client_at c k)) (sym (append-nil front)) (said_later n.kept m.kept k (client_at c k) (client_at c k) front (later.reached k) refl refl refl refl said);
-      others = λ j away. refl;
+    -- a frame of a line, and what comes behind it
+    pub more_line : (t : Option (ℕ × TransId)) → DidLine G servers d e m z k l behind xs t → DidLine G servers c e a z k l now (x ∷ xs) t
+    more_line t rest = record {
+      step = rest.step;
+      hs = carried.hs ++ at x.server (sent_it k x) ∷ rest.hs;
+      goes = go_then G carried.hs (at x.server (sent_it k x) ∷ rest.hs) a b z carried.goes (go_then G (at x.server (sent_it k x) ∷ []) rest.hs b m z h.goes rest.goes);
+      number = (h.number, rest.number);
+      sends = (
+        frame,
+        rest.hs,
+        asked,
+        h.sent,
+        then_word (CarriesAt servers c now) (Just (at x.server (sent_it k x) ∷ rest.hs)) carried.hs (at x.server (sent_it k x) ∷ rest.hs) carried.word refl,
+        subst (λ (q : Crowd × Next). Sends servers q.0 k l.line q.1 xs t rest.hs e) (sym h.heard) rest.sends,
+      );
+      said = one_said z rest.said;
+      others = λ j away. rest.others j away ∙ others_stay c d k l.line now frame x.reply behind h.heard j away;
     }
+
+    -- and there is more to come
+    pub more_some : (f : RunFault) → DidOfLine G f servers d e m z k l behind xs → DidOfLine G f servers c e a z k l now (x ∷ xs)
+    more_some f rest = record {
+      at_end = rest.at_end;
+      hs = carried.hs ++ at x.server (sent_it k x) ∷ rest.hs;
+      due = rest.due;
+      goes = go_then G carried.hs (at x.server (sent_it k x) ∷ rest.hs) a b rest.at_end carried.goes (go_then G (at x.server (sent_it k x) ∷ []) rest.hs b m rest.at_end h.goes rest.goes);
+      ends = rest.ends;
+      left = rest.left;
+      number = (h.number, rest.number);
+      sends = (
+        frame,
+        rest.hs,
+        asked,
+        h.sent,
+        then_word (CarriesAt servers c now) (Just (at x.server (sent_it k x) ∷ rest.hs)) carried.hs (at x.server (sent_it k x) ∷ rest.hs) carried.word refl,
+        subst (λ (q : Crowd × Next). SendsMore servers q.0 k l.line q.1 xs rest.hs rest.due e) (sym h.heard) rest.sends,
+      );
+      said = one_said rest.at_end rest.said;
+      others = λ j away. rest.others j away ∙ others_stay c d k l.line now frame x.reply behind h.heard j away;
+    }
+
+  -- nothing is said
+  none_said : (y : Stations V) → AreLater G b y → SaysOn c c a y k []
+  none_said y later = λ front short said. subst (HasSaid (state_at y) k (client_at c k)) (sym (append-nil front)) (said_goes G b y c later k front (said_carried front said))
+
+  -- a line behind its last frame
+  pub ended_line : (z : Stations V) → InStep G c b → asks c k l.line now ≡ None → Did G (Just (timeouts_due (times_out c k now))) b z → DidLine G servers c c a z k l now [] (times_out c k now)
+  ended_line z step none timed = record {
+    step = in_step_later G c b z step timed.goes.later;
+    hs = carried.hs ++ timed.hs;
+    goes = go_then G carried.hs timed.hs a b z carried.goes timed.goes;
+    number = tt;
+    sends = (then_word (CarriesAt servers c now) (Just (timeouts_due (times_out c k now))) carried.hs timed.hs carried.word timed.word, none, refl, refl);
+    said = none_said z timed.goes.later;
+    others = λ j away. refl;
+  }
+
+  -- a frame was to go out
+  pub send_some : (f : RunFault) (z : Stations V) (frame : Addressed) → asks c k l.line now ≡ Some frame → InStep G c b → ExchangesNone G f k frame b z → DidOfLine G f servers c c a z k l now []
+  send_some f z frame asked step h = record {
+    at_end = b;
+    hs = carried.hs;
+    due = to_send k frame;
+    goes = carried.goes;
+    ends = h.ends;
+    left = h.left;
+    number = tt;
+    sends = (inr (carried.word, inl (frame, asked, refl)), refl);
+    said = none_said b (later_none G b step.on);
+    others = λ j away. refl;
+  }
+
+  -- a transaction was to time out
+  pub timed_some : (f : RunFault) (z : Stations V) (t : ℕ × TransId) → times_out c k now ≡ Some t → DidSome G (Just (timeouts_due (Some t))) f b z → DidOfLine G f servers c c a z k l now []
+  timed_some f z t due h =
+      let (nothing, is) = one_cut (at t.0 (timed_out t.1)) h.hs h.due h.cut in
+      record {
+        at_end = h.at_end;
+        hs = carried.hs;
+        due = h.due;
+        goes = subst (λ (hs : List Occurrence). Go G hs a h.at_end) (ap (λ (js : List Occurrence). carried.hs ++ js) nothing ∙ append-nil carried.hs) (go_then G carried.hs h.hs a b h.at_end carried.goes h.goes);
+        ends = h.ends;
+        left = h.left;
+        number = tt;
+        sends = (inr (carried.word, inr (t, due, is)), refl);
+        said = none_said h.at_end h.goes.later;
+        others = λ j away. refl;
+      }
+
+-- messages were to be carried
+pub carry_some : {V : Type 0} (G : Ghosts V) (servers : ℕ) (c : Crowd) (a z : Stations V) (k : ℕ) (l : NumberedLine) (now : Next) (f : RunFault) → DidSome G (CarriesAt servers c now) f a z → DidOfLine G f servers c c a z k l now []
+carry_some G servers c a z k l now f h = record {
+  at_end = h.at_end;
+  hs = h.hs;
+  due = h.due;
+  goes = h.goes;
+  ends = h.ends;
+  left = h.left;
+  number = tt;
+  sends = (inl h.cut, refl);
+  said = λ front short said. subst (HasSaid (state_at h.at_end) k (client_at c k)) (sym (append-nil front)) (said_goes G a h.at_end c h.goes.later k front said);
+  others = λ j away. refl;
+}
 
 -- ---- a line begins, or declares
 
 begins_known : (c : Client) (l : Line) → SameKnown c (begins c l)
-begins_known c (line.Begin k server) = record { session = refl; told = refl; begun = refl; frames = refl }
+begins_known c (line.Begin k server) = record { session = λ n. refl; told = refl; begun = refl; frames = refl }
 begins_known c l = same_known c
 
 -- one client is another now that knows the same of all that is asked
-pub still_step : {V : Type 0} (G : Ghosts V) (c : Crowd) (n : NodeState V) (words : WordMap) (k : ℕ) (d : Client) → k < length c.places → SameKnown (client_at c k) d → InStep G c n → InStep G (with_client c words k d) n
-still_step G c n words k d here same step = record {
+pub still_step : {V : Type 0} (G : Ghosts V) (c : Crowd) (s : Stations V) (words : WordMap) (k : ℕ) (d : Client) → k < length c.places → SameKnown (client_at c k) d → InStep G c s → InStep G (with_client c words k d) s
+still_step G c s words k d here same step = record {
   on = step.on;
   places = as_many c words k d ∙ step.places;
   each = λ j. go j (eqb_tells j k);
 }
   where
-    go : (j : ℕ) → (((j == k) ≡ true) × (j ≡ k)) ⊎ (((j == k) ≡ false) × (j ≢ k)) → IsInStep n.kept j (client_at (with_client c words k d) j)
+    go : (j : ℕ) → (((j == k) ≡ true) × (j ≡ k)) ⊎ (((j == k) ≡ false) × (j ≢ k)) → IsInStep (state_at s) j (client_at (with_client c words k d) j)
     go j (inl is) =
-        subst (λ (i : ℕ). IsInStep n.kept i (client_at (with_client c words k d) i)) (sym is.1)
-        (subst (λ (x : Client). IsInStep n.kept k x) (sym (at_same c words k d here)) (step_later n.kept n.kept k (client_at c k) d (λ a h. h) same.session same.told same.frames (step.each k)))
-    go j (inr away) = subst (λ (x : Client). IsInStep n.kept j x) (sym (at_other c words k j d away.1)) (step.each j)
+        subst (λ (i : ℕ). IsInStep (state_at s) i (client_at (with_client c words k d) i)) (sym is.1)
+        (subst (λ (x : Client). IsInStep (state_at s) k x) (sym (at_same c words k d here)) (step_later (state_at s) (state_at s) k (client_at c k) d (λ n a h. h) same.session same.told same.frames (step.each k)))
+    go j (inr away) = subst (λ (x : Client). IsInStep (state_at s) j x) (sym (at_other c words k j d away.1)) (step.each j)
 
-pub at_step : {V : Type 0} (G : Ghosts V) (c : Crowd) (n : NodeState V) (k : ℕ) (l : Line) → k ≤ 16 → InStep G c n → InStep G (at_line c k l) n
-at_step G c n k l small step =
-    still_step G c n (words_at c.words l) k (begins (client_at c k) l) (omega (arith, small, step.places)) (begins_known (client_at c k) l) step
+pub at_step : {V : Type 0} (G : Ghosts V) (c : Crowd) (s : Stations V) (k : ℕ) (l : Line) → k ≤ 16 → InStep G c s → InStep G (at_line c k l) s
+at_step G c s k l small step =
+    still_step G c s (words_at c.words l) k (begins (client_at c k) l) (omega (arith, small, step.places)) (begins_known (client_at c k) l) step
 
 -- past the last place nothing changes
-past_step : {V : Type 0} (G : Ghosts V) (c : Crowd) (n : NodeState V) (k : ℕ) (d : Client) → length c.places ≤ k → InStep G c n → InStep G (with_client c c.words k d) n
-past_step G c n k d past step = subst (λ (xs : List Client). InStep G (record c { places = xs }) n) (sym (set_past c.places k d past)) step
+past_step : {V : Type 0} (G : Ghosts V) (c : Crowd) (s : Stations V) (k : ℕ) (d : Client) → length c.places ≤ k → InStep G c s → InStep G (with_client c c.words k d) s
+past_step G c s k d past step = subst (λ (xs : List Client). InStep G (record c { places = xs }) s) (sym (set_past c.places k d past)) step
 
 -- what is set for all clients is no matter of that
-set_step : {V : Type 0} (G : Ghosts V) (c : Crowd) (n : NodeState V) (s : Settings) → InStep G c n → InStep G (record c { settings = s }) n
-set_step G c n s step = record { on = step.on; places = step.places; each = step.each }
+set_step : {V : Type 0} (G : Ghosts V) (c : Crowd) (s : Stations V) (set : Settings) → InStep G c s → InStep G (record c { settings = set }) s
+set_step G c s set step = record { on = step.on; places = step.places; each = step.each }
 
-pub declared_step : {V : Type 0} (G : Ghosts V) (c : Crowd) (n : NodeState V) (l : Line) → InStep G c n → InStep G (declares c l) n
-declared_step G c n (line.Client k name) step = go (leb_tells (length c.places) k)
+pub declared_step : {V : Type 0} (G : Ghosts V) (c : Crowd) (s : Stations V) (l : Line) → InStep G c s → InStep G (declares c l) s
+declared_step G c s (line.Client k name) step = go (leb_tells (length c.places) k)
   where
     d : Client
     d = record (client_at c k) { name = name }
 
-    go : ((leb (length c.places) k ≡ true) × (length c.places ≤ k)) ⊎ ((leb (length c.places) k ≡ false) × (k < length c.places)) → InStep G (with_client c c.words k d) n
-    go (inl past) = past_step G c n k d past.1 step
-    go (inr here) = still_step G c n c.words k d here.1 (record { session = refl; told = refl; begun = refl; frames = refl }) step
-declared_step G c n (line.Patience count) step = set_step G c n (record c.settings { patience = count }) step
-declared_step G c n (line.Auto on) step = set_step G c n (record c.settings { collects = on }) step
-declared_step G c n l step = step
+    go : ((leb (length c.places) k ≡ true) × (length c.places ≤ k)) ⊎ ((leb (length c.places) k ≡ false) × (k < length c.places)) → InStep G (with_client c c.words k d) s
+    go (inl past) = past_step G c s k d past.1 step
+    go (inr here) = still_step G c s c.words k d here.1 (record { session = λ n. refl; told = refl; begun = refl; frames = refl }) step
+declared_step G c s (line.Patience count) step = set_step G c s (record c.settings { patience = count }) step
+declared_step G c s (line.Auto on) step = set_step G c s (record c.settings { collects = on }) step
+declared_step G c s l step = step
 
 -- what a client knows has it said as much
-said_known : {V : Type 0} (s : ServerState V) (k : ℕ) (c d : Client) (front : List items.Item) → SameKnown c d → HasSaid s k c front → HasSaid s k d front
-said_known s k c d front same said = said_later s s k c d front (λ a h. h) same.session same.told same.begun same.frames said
+said_known : {V : Type 0} (s : States V) (k : ℕ) (c d : Client) (front : List items.Item) → SameKnown c d → HasSaid s k c front → HasSaid s k d front
+said_known s k c d front same said = said_later s s k c d front (λ n a h. h) same.session same.told same.begun same.frames said
 
 -- the client of a line has said what it had, and so have all others
-pub said_at_line : {V : Type 0} (s : ServerState V) (c : Crowd) (k : ℕ) (l : Line) → length c.places ≡ 17 → k ≤ 16 → (j : ℕ) (front : List items.Item) → HasSaid s j (client_at c j) front → HasSaid s j (client_at (at_line c k l) j) front
+pub said_at_line : {V : Type 0} (s : States V) (c : Crowd) (k : ℕ) (l : Line) → length c.places ≡ 17 → k ≤ 16 → (j : ℕ) (front : List items.Item) → HasSaid s j (client_at c j) front → HasSaid s j (client_at (at_line c k l) j) front
 said_at_line s c k l places small j front said = go (eqb_tells j k)
   where
     d : Client
@@ -198,7 +292,7 @@ said_at_line s c k l places small j front said = go (eqb_tells j k)
         (said_known s k (client_at c k) d front (begins_known (client_at c k) l) (subst (λ (i : ℕ). HasSaid s i (client_at c i) front) is.1 said)))
     go (inr away) = subst (λ (z : Client). HasSaid s j z front) (sym (at_other c (words_at c.words l) k j d away.1)) said
 
-pub said_declared : {V : Type 0} (s : ServerState V) (c : Crowd) (l : Line) → (j : ℕ) (front : List items.Item) → HasSaid s j (client_at c j) front → HasSaid s j (client_at (declares c l) j) front
+pub said_declared : {V : Type 0} (s : States V) (c : Crowd) (l : Line) → (j : ℕ) (front : List items.Item) → HasSaid s j (client_at c j) front → HasSaid s j (client_at (declares c l) j) front
 said_declared s c (line.Client k name) j front said = go (leb_tells (length c.places) k)
   where
     d : Client
@@ -208,7 +302,7 @@ said_declared s c (line.Client k name) j front said = go (leb_tells (length c.pl
     one (inl is) here =
         subst (λ (i : ℕ). HasSaid s i (client_at (with_client c c.words k d) i) front) (sym is.1)
         (subst (λ (z : Client). HasSaid s k z front) (sym (at_same c c.words k d here))
-        (said_known s k (client_at c k) d front (record { session = refl; told = refl; begun = refl; frames = refl }) (subst (λ (i : ℕ). HasSaid s i (client_at c i) front) is.1 said)))
+        (said_known s k (client_at c k) d front (record { session = λ n. refl; told = refl; begun = refl; frames = refl }) (subst (λ (i : ℕ). HasSaid s i (client_at c i) front) is.1 said)))
     one (inr away) here = subst (λ (z : Client). HasSaid s j z front) (sym (at_other c c.words k j d away.1)) said
 
     go : ((leb (length c.places) k ≡ true) × (length c.places ≤ k)) ⊎ ((leb (length c.places) k ≡ false) × (k < length c.places)) → HasSaid s j (client_at (with_client c c.words k d) j) front
@@ -218,30 +312,42 @@ said_declared s c (line.Patience count) j front said = said
 said_declared s c (line.Auto on) j front said = said
 said_declared s c l j front said = said
 
--- what was said stays said as the server goes on
-pub said_goes : {V : Type 0} (G : Ghosts V) (n m : NodeState V) (c : Crowd) → IsLater G n m → (j : ℕ) (front : List items.Item) → HasSaid n.kept j (client_at c j) front → HasSaid m.kept j (client_at c j) front
-said_goes G n m c later j front said = said_later n.kept m.kept j (client_at c j) (client_at c j) front (later.reached j) refl refl refl refl said
-
 -- ---- what a line adds
 
 -- a line that is no client's
-pub adds_other : {V : Type 0} (G : Ghosts V) (f : Bool) (c d : Crowd) (n m : NodeState V) (l : NumberedLine) (lists : List (Vec Item Global)) (text : List ℕ) → client_named l.line ≡ None → InStep G c n → AddsEvents G f c d n m l.line
-    → Adds G f c d n m l lists lists text text
-adds_other G f c d n m l lists text none step h = record {
-  step = subst (λ (z : Crowd). InStep G z m) (sym h.declared) (declared_step G c m l.line (in_step_later G c n m step h.goes.later));
-  after_fused = h.after_fused;
-  turns = [];
-  happened_now = h.happened_now;
-  goes = h.goes;
-  plays = subst (λ (o : Option ℕ). PlaysLine c l o [] h.happened_now d) (sym none) (refl, h.gives, h.declared);
-  again = h.again;
-  places = refl;
-  lists = λ k. sym (append-nil (lists_in lists k));
-  few = λ k. omega arith;
-  said = λ k front short said. subst (HasSaid m.kept k (client_at d k)) (sym (append-nil front))
-      (subst (λ (z : Crowd). HasSaid m.kept k (client_at z k) front) (sym h.declared) (said_declared m.kept c l.line k front (said_goes G n m c h.goes.later k front said)));
-  text = sym (append-nil text);
-}
+module _ {V : Type 0} (G : Ghosts V) (servers : ℕ) (c d : Crowd) (a b : Stations V) (l : NumberedLine) (none : client_named l.line ≡ None) (step : InStep G c a) where
+  -- nobody says anything
+  quiet : (y : Stations V) → AreLater G a y → d ≡ declares c l.line → SayOn c d a y []
+  quiet y later declared = λ k front short said. subst (HasSaid (state_at y) k (client_at d k)) (sym (append-nil front))
+      (subst (λ (z : Crowd). HasSaid (state_at y) k (client_at z k) front) (sym declared) (said_declared (state_at y) c l.line k front (said_goes G a y c later k front said)))
+
+  pub plays_other : (lists : List (Vec Item Global)) (text : List ℕ) → AddsEvents G servers c d a b l.line → PlaysOn G servers c d a b l lists lists text text
+  plays_other lists text h = record {
+    step = subst (λ (z : Crowd). InStep G z b) (sym h.declared) (declared_step G c b l.line (in_step_later G c a b step h.goes.later));
+    turns = [];
+    hs = h.hs;
+    goes = h.goes;
+    plays = subst (λ (o : Option ℕ). PlaysOwn servers c l o [] h.hs d) (sym none) (refl, h.gives, h.declared);
+    places = refl;
+    lists = λ k. sym (append-nil (lists_in lists k));
+    few = λ k. omega arith;
+    said = quiet b h.goes.later h.declared;
+    text = sym (append-nil text);
+  }
+
+  pub begins_other : (f : RunFault) → AddsSomeEvents G f servers c d a b l.line → BeginsOn G f servers c d a b l
+  begins_other f h = record {
+    turns = [];
+    at_end = h.at_end;
+    hs = h.hs;
+    due = h.due;
+    goes = h.goes;
+    ends = h.ends;
+    left = h.left;
+    begins = subst (λ (o : Option ℕ). BeginsOwn servers c l o [] h.hs h.due d) (sym none) (refl, h.begins, h.declared);
+    few = λ k. omega arith;
+    said = quiet h.at_end h.goes.later h.declared;
+  }
 
 -- the list at a place is the client's
 pub list_there : (vs : List (Vec Item Global)) (k : ℕ) (v d : Vec Item Global) → k < length vs → v ≡ slice_index_or vs k d → lists_in vs k ≡ v.items
@@ -284,20 +390,18 @@ own_other l k j xs away = elim (eqb_tells k j) [
 ]
 
 -- behind it each client has said what it had, and this one the items of the turn
-pub said_turn : {V : Type 0} (G : Ghosts V) (n m : NodeState V) (c d : Crowd) (l : NumberedLine) (k : ℕ) (xs : List Item) → IsLater G n m → length xs ≤ 5
-    → ((front : List items.Item) → length front + length xs + 4 < 2 ^ 32 → HasSaid n.kept k (client_at c k) front → HasSaid m.kept k (client_at d k) (front ++ list_map item_of xs)) → ((j : ℕ) → j ≢ k → client_at d j ≡ client_at c j)
-    → (j : ℕ) (front : List items.Item) → length front + 10 < 2 ^ 32 → HasSaid n.kept j (client_at c j) front → HasSaid m.kept j (client_at d j) (front ++ list_map item_of (own_in j (turn_at l k xs ∷ [])))
-said_turn G n m c d l k xs later few own others j front short said = go (eqb_tells j k)
+pub said_turn : {V : Type 0} (G : Ghosts V) (a b : Stations V) (c d : Crowd) (l : NumberedLine) (k : ℕ) (xs : List Item) → AreLater G a b → length xs ≤ 5 → SaysOn c d a b k xs → ((j : ℕ) → j ≢ k → client_at d j ≡ client_at c j) → SayOn c d a b (turn_at l k xs ∷ [])
+said_turn G a b c d l k xs later few own others j front short said = go (eqb_tells j k)
   where
-    go : (((j == k) ≡ true) × (j ≡ k)) ⊎ (((j == k) ≡ false) × (j ≢ k)) → HasSaid m.kept j (client_at d j) (front ++ list_map item_of (own_in j (turn_at l k xs ∷ [])))
+    go : (((j == k) ≡ true) × (j ≡ k)) ⊎ (((j == k) ≡ false) × (j ≢ k)) → HasSaid (state_at b) j (client_at d j) (front ++ list_map item_of (own_in j (turn_at l k xs ∷ [])))
     go (inl same) =
-        subst (λ (i : ℕ). HasSaid m.kept i (client_at d i) (front ++ list_map item_of (own_in i (turn_at l k xs ∷ [])))) (sym same.1)
-        (subst (λ (ys : List Item). HasSaid m.kept k (client_at d k) (front ++ list_map item_of ys)) (sym (own_same l k xs))
-        (own front (omega (arith, short, few)) (subst (λ (i : ℕ). HasSaid n.kept i (client_at c i) front) same.1 said)))
+        subst (λ (i : ℕ). HasSaid (state_at b) i (client_at d i) (front ++ list_map item_of (own_in i (turn_at l k xs ∷ [])))) (sym same.1)
+        (subst (λ (ys : List Item). HasSaid (state_at b) k (client_at d k) (front ++ list_map item_of ys)) (sym (own_same l k xs))
+        (own front (omega (arith, short, few)) (subst (λ (i : ℕ). HasSaid (state_at a) i (client_at c i) front) same.1 said)))
     go (inr away) =
-        subst (λ (ys : List Item). HasSaid m.kept j (client_at d j) (front ++ list_map item_of ys)) (sym (own_other l k j xs away.1))
-        (subst (HasSaid m.kept j (client_at d j)) (sym (append-nil front))
-        (subst (λ (z : Client). HasSaid m.kept j z front) (sym (others j away.1)) (said_goes G n m c later j front said)))
+        subst (λ (ys : List Item). HasSaid (state_at b) j (client_at d j) (front ++ list_map item_of ys)) (sym (own_other l k j xs away.1))
+        (subst (HasSaid (state_at b) j (client_at d j)) (sym (append-nil front))
+        (subst (λ (z : Client). HasSaid (state_at b) j z front) (sym (others j away.1)) (said_goes G a b c later j front said)))
 
 pub few_turn : (l : NumberedLine) (k : ℕ) (xs : List Item) → length xs ≤ 5 → (j : ℕ) → length (own_in j (turn_at l k xs ∷ [])) ≤ 5
 few_turn l k xs few j = go (eqb_tells j k)
@@ -310,46 +414,81 @@ few_turn l k xs few j = go (eqb_tells j k)
 pub at_others : (c : Crowd) (k : ℕ) (l : Line) → (j : ℕ) → j ≢ k → client_at (at_line c k l) j ≡ client_at c j
 at_others c k l j away = at_other c (words_at c.words l) k j (begins (client_at c k) l) away
 
-abbrev HasNobody : Option ℕ → Type 0
-HasNobody None = Unit {0}
-HasNobody (Some k) = ⊥
+-- the line of a client
+module _ {V : Type 0} (G : Ghosts V) (servers : ℕ) (c d : Crowd) (a b : Stations V) (l : NumberedLine) (k : ℕ) (named : client_named l.line ≡ Some k) (small : k ≤ 16) (places : length c.places ≡ 17) (xs : List Item) (few : length xs ≤ 5) where
+  -- what it said before the line
+  from_line : (y : Stations V) → SayOn (at_line c k l.line) d a y (turn_at l k xs ∷ []) → SayOn c d a y (turn_at l k xs ∷ [])
+  from_line y says = λ j front short said. says j front short (said_at_line (state_at a) c k l.line places small j front said)
 
--- lines by which a server starts again are no client's
-restart_unnamed : (server pick k : ℕ) → client_named (line.Restart server pick) ≡ Some k → ⊥
-unfolding client_named
-restart_unnamed server pick k named = subst HasNobody named tt
+  pub plays_item : (t : Option (ℕ × TransId)) (lists : List (Vec Item Global)) (v : Vec Item Global) (text now : List ℕ) → length lists ≡ 17 → v.items ≡ lists_in lists k ++ xs → now ≡ text ++ turns_text (turn_at l k xs ∷ [])
+      → DidLine G servers (at_line c k l.line) d a b k l next.Call xs t → PlaysOn G servers c d a b l lists (slice_set lists k v) text now
+  plays_item t lists v text now many is told did = record {
+    step = did.step;
+    turns = turn_at l k xs ∷ [];
+    hs = did.hs;
+    goes = did.goes;
+    plays = subst (λ (o : Option ℕ). PlaysOwn servers c l o (turn_at l k xs ∷ []) did.hs d) (sym named) (xs, t, refl, did.number, did.sends);
+    places = set_many lists k v;
+    lists = λ j. left j (eqb_tells j k);
+    few = few_turn l k xs few;
+    said = from_line b (said_turn G a b (at_line c k l.line) d l k xs did.goes.later few did.said did.others);
+    text = told;
+  }
+    where
+      left : (j : ℕ) → (((j == k) ≡ true) × (j ≡ k)) ⊎ (((j == k) ≡ false) × (j ≢ k)) → lists_in (slice_set lists k v) j ≡ lists_in lists j ++ own_in j (turn_at l k xs ∷ [])
+      left j (inl same) =
+          ap (lists_in (slice_set lists k v)) same.1 ∙ set_same lists k v (omega (arith, small, many)) ∙ is
+          ∙ (λ i. lists_in lists k ++ sym (own_same l k xs) i) ∙ ap (λ (i : ℕ). lists_in lists i ++ own_in i (turn_at l k xs ∷ [])) (sym same.1)
+      left j (inr away) = set_other lists k v j away.1 ∙ sym (append-nil (lists_in lists j)) ∙ ap (λ (ys : List Item). lists_in lists j ++ ys) (sym (own_other l k j xs away.1))
 
-settle_unnamed : (k : ℕ) → client_named line.Settle ≡ Some k → ⊥
-unfolding client_named
-settle_unnamed k named = subst HasNobody named tt
+  pub begins_item : (f : RunFault) → DidOfLine G f servers (at_line c k l.line) d a b k l next.Call xs → BeginsOn G f servers c d a b l
+  begins_item f h = record {
+    turns = turn_at l k xs ∷ [];
+    at_end = h.at_end;
+    hs = h.hs;
+    due = h.due;
+    goes = h.goes;
+    ends = h.ends;
+    left = h.left;
+    begins = subst (λ (o : Option ℕ). BeginsOwn servers c l o (turn_at l k xs ∷ []) h.hs h.due d) (sym named) (xs, refl, h.number, h.sends);
+    few = few_turn l k xs few;
+    said = from_line h.at_end (said_turn G a h.at_end (at_line c k l.line) d l k xs h.goes.later few h.said h.others);
+  }
 
-starts_own : {V : Type 0} (G : Ghosts V) (l : Line) (k : ℕ) (n m : NodeState V) → client_named l ≡ Some k → StartsBy G l n m
-starts_own G (line.Restart server pick) k n m named = absurd (restart_unnamed server pick k named)
-starts_own G line.Settle k n m named = absurd (settle_unnamed k named)
-starts_own G l k n m named = tt
+-- ---- and what is carried behind it
 
-pub adds_item : {V : Type 0} (G : Ghosts V) (f : Bool) (c d : Crowd) (n m : NodeState V) (l : NumberedLine) (k : ℕ) (xs : List Item) (t : Option (ℕ × TransId)) (lists : List (Vec Item Global)) (v : Vec Item Global) (text now : List ℕ) → client_named l.line ≡ Some k → k ≤ 16
-    → length c.places ≡ 17 → length lists ≡ 17 → IsFree G f n → length xs ≤ 5 → v.items ≡ lists_in lists k ++ xs → now ≡ text ++ turns_text (turn_at l k xs ∷ []) → Did G (at_line c k l.line) d n m k l next.Call xs t
-    → Adds G f c d n m l lists (slice_set lists k v) text now
-adds_item G f c d n m l k xs t lists v text now named small places many free few is told did =
-    let goes : Goes G f (happened k xs (trans_of t)) f n m = did.goes f free in
-    record {
-      step = did.step;
-      after_fused = f;
-      turns = turn_at l k xs ∷ [];
-      happened_now = happened k xs (trans_of t);
-      goes = goes;
-      plays = subst (λ (o : Option ℕ). PlaysLine c l o (turn_at l k xs ∷ []) (happened k xs (trans_of t)) d) (sym named) (xs, t, refl, refl, did.number, did.sends);
-      again = starts_own G l.line k n m named;
-      places = set_many lists k v;
-      lists = λ j. left j (eqb_tells j k);
-      few = few_turn l k xs few;
-      said = λ j front short said. said_turn G n m (at_line c k l.line) d l k xs goes.later few did.said did.others j front short (said_at_line n.kept c k l.line places small j front said);
-      text = told;
-    }
-  where
-    left : (j : ℕ) → (((j == k) ≡ true) × (j ≡ k)) ⊎ (((j == k) ≡ false) × (j ≢ k)) → lists_in (slice_set lists k v) j ≡ lists_in lists j ++ own_in j (turn_at l k xs ∷ [])
-    left j (inl same) =
-        ap (lists_in (slice_set lists k v)) same.1 ∙ set_same lists k v (omega (arith, small, many)) ∙ is
-        ∙ (λ i. lists_in lists k ++ sym (own_same l k xs) i) ∙ ap (λ (i : ℕ). lists_in lists i ++ own_in i (turn_at l k xs ∷ [])) (sym same.1)
-    left j (inr away) = set_other lists k v j away.1 ∙ sym (append-nil (lists_in lists j)) ∙ ap (λ (ys : List Item). lists_in lists j ++ ys) (sym (own_other l k j xs away.1))
+module _ {V : Type 0} (G : Ghosts V) (servers : ℕ) (c d : Crowd) (a b : Stations V) (l : NumberedLine) (lists now : List (Vec Item Global)) (text printed : List ℕ) (h : PlaysOn G servers c d a b l lists now text printed) where
+  said_behind : (y : Stations V) → AreLater G b y → SayOn c d a y h.turns
+  said_behind y later = λ k front short said. said_goes G b y d later k (front ++ list_map item_of (own_in k h.turns)) (h.said k front short said)
+
+  pub adds : (z : Stations V) → Did G (CarriesIf servers d.settings.collects) b z → Adds G servers c d a z l lists now text printed
+  adds z carried = record {
+    step = in_step_later G d b z h.step carried.goes.later;
+    turns = h.turns;
+    hs = h.hs ++ carried.hs;
+    goes = go_then G h.hs carried.hs a b z h.goes carried.goes;
+    plays = record { by_line = h.hs; carried = carried.hs; are = refl; plays = h.plays; carries = carried.word };
+    places = h.places;
+    lists = h.lists;
+    few = h.few;
+    said = said_behind z carried.goes.later;
+    text = h.text;
+  }
+
+  pub adds_some : (f : RunFault) (z : Stations V) → DidSome G (CarriesIf servers d.settings.collects) f b z → AddsSome G f servers c d a z l
+  adds_some f z cut = record {
+    turns = h.turns;
+    at_end = cut.at_end;
+    hs = h.hs ++ cut.hs;
+    due = cut.due;
+    goes = go_then G h.hs cut.hs a b cut.at_end h.goes cut.goes;
+    ends = cut.ends;
+    left = cut.left;
+    begins = inr (h.hs, cut.hs, refl, h.plays, cut.cut);
+    few = h.few;
+    said = said_behind cut.at_end cut.goes.later;
+  }
+
+-- a line that is not over
+pub adds_begun : {V : Type 0} (G : Ghosts V) (f : RunFault) (servers : ℕ) (c d : Crowd) (a b : Stations V) (l : NumberedLine) → BeginsOn G f servers c d a b l → AddsSome G f servers c d a b l
+adds_begun G f servers c d a b l h = record { turns = h.turns; at_end = h.at_end; hs = h.hs; due = h.due; goes = h.goes; ends = h.ends; left = h.left; begins = inl h.begins; few = h.few; said = h.said }

@@ -1,4 +1,4 @@
--- what comes of a frame for its client: it stays in step with the server, and its list goes on
+-- what comes of a frame for its client: it stays in step with the servers, and its list goes on
 use Rattle.std.specs.Prelude.{true, false, Bool, Option, None, Some, IfSome}
 use Rattle.std.specs.FinMap as map
 use Rattle.std.specs.List.{AllByRecursion}
@@ -33,20 +33,27 @@ use Rattle.alp_session.specs.Heard.{greeted, answered, counted, heard_own, heard
 use Rattle.alp_session.proofs.FrameLemmas.{again_stays, own_stays, kept_as, kept_more}
 use Rattle.alp_node.specs.Turns.{TellsUpTo, is_greeting}
 use Rattle.alp_node.specs.declared.server_state.ServerState.{ServerState}
+use Rattle.std.specs.Prelude.{◌≢◌}
+use Rattle.std.proofs.lemmas.Bool.{cases_eq}
 use Rattle.alp_cluster.specs.Come.{Come, IsReached}
-use Rattle.alp_cluster.specs.Steps.{session_of, IsWithin, HasReached, come_in, IsPast, IsPastCall, SpellsPast, KeepsPast, IsInStep, IsOwnTurn, AsksOfTold, SpellsOfTold, HasSentFor, HasSaid, IsShort}
+use Rattle.alp_cluster.specs.Stations.{IsReachedBy}
+use Rattle.alp_cluster.specs.Clients.{States, session_of, IsWithin, HasReached, come_in, IsPast, IsPastCall, SpellsPast, KeepsPast, IsInStep, IsOwnTurn, AsksOfTold, SpellsOfTold, HasSentFor, HasSaid, IsShort}
 use Rattle.alp_cluster.proofs.AskLemmas.{line_no_greeting, line_has_seen, line_asks_of, asked_in}
 use Rattle.alp_cluster.proofs.CallLemmas.{asked_line, asked_form}
 use Rattle.alp_cluster.proofs.ComeLemmas.{come_by_has, own_turn, again_turn, after_small, after_most, within_more, below_more, up_to_self}
 use Rattle.alp_cluster.proofs.HeardLemmas.{Hears, Greets, welcome, silent, is_down, greets, own_reached}
-use Rattle.alp_cluster.proofs.KnowLemmas.{Knows, at_one, answered_knows, again_knows, counted_session}
-use Rattle.alp_cluster.proofs.PlaceLemmas.{put_there}
+use Rattle.alp_cluster.proofs.KnowLemmas.{Knows, asked_at, answered_knows, again_knows, counted_session, counted_elsewhere}
+use Rattle.alp_cluster.proofs.PlaceLemmas.{put_there, put_elsewhere}
 use Rattle.alp_cluster.proofs.SaidLemmas.{KnowsOf, item_at, said_more}
 
 -- the client is in step then, and its list has the item more
-pub record Hands {V : Type 0} (s t : ServerState V) (k : ℕ) (c d : Client) (x : Item) : Type 0 where
+pub record Hands {V : Type 0} (s t : States V) (k : ℕ) (c d : Client) (x : Item) : Type 0 where
   pub step : IsInStep t k d
   pub said : (xs : List Item) → IsShort xs → HasSaid s k c xs → HasSaid t k d (xs ++ x ∷ [])
+
+-- what servers had come to they have come to still
+abbrev pub GoOn : {V : Type 0} → (s t : States V) → ℕ → Type 0
+GoOn s t k = (j : ℕ) (a : Come) → IsReachedBy (s j) k a → IsReachedBy (t j) k a
 
 -- ---- frames that may be sent again
 
@@ -54,42 +61,42 @@ same_request : (a b : Request) → ◌≡◌ {A = Option Request} (Some a) (Some
 same_request a b e = cc
 
 -- what is within one session is within the other
-abbrev Carries : {V : Type 0} → ServerState V → ℕ → Option Come → Option Come → Type 0
-Carries s k a b = (x : Come) → IsWithin a x → IsReached s k x → IsWithin b x
+abbrev Carries : {V : Type 0} → Option (ServerState V) → ℕ → Option Come → Option Come → Type 0
+Carries s k a b = (x : Come) → IsWithin a x → IsReachedBy s k x → IsWithin b x
 
--- frames that spell requests that are past
-abbrev ArePast : {V : Type 0} → ServerState V → ℕ → Option Come → Option Addressed → Type 0
-ArePast s k o f = IfSome f (λ z. SpellsPast s k o z.bytes)
+-- a frame that spells a request that is past at its server
+abbrev IsPastAt : {V : Type 0} → States V → ℕ → Client → Option Addressed → Type 0
+IsPastAt s k c f = IfSome f (λ z. SpellsPast (s z.server) k (session_of z.server c) z.bytes)
 
-module _ {V : Type 0} (s t : ServerState V) (k : ℕ) (a b : Option Come) (on : (x : Come) → IsReached s k x → IsReached t k x) (carries : Carries s k a b) where
-  past_call : (x : Come) (c : Call) → IsPastCall s k a x c → IsPastCall t k b x c
-  past_call x (call.Hello name) h = tt
-  past_call x c h = (h.0, carries x h.1 h.2, on x h.2)
+past_call : {V : Type 0} (s t : Option (ServerState V)) (k : ℕ) (a b : Option Come) (on : (x : Come) → IsReachedBy s k x → IsReachedBy t k x) (carries : Carries s k a b) (x : Come) (c : Call) → IsPastCall s k a x c → IsPastCall t k b x c
+past_call s t k a b on carries x (call.Hello name) h = tt
+past_call s t k a b on carries x c h = (h.0, carries x h.1 h.2, on x h.2)
 
-  past_on : (o : Option Addressed) → ArePast s k a o → ArePast t k b o
+module _ {V : Type 0} (s t : States V) (k : ℕ) (c d : Client) (on : GoOn s t k) (carries : (j : ℕ) → Carries (s j) k (session_of j c) (session_of j d)) where
+  past_on : (o : Option Addressed) → IsPastAt s k c o → IsPastAt t k d o
   past_on None h = tt
-  past_on (Some f) h = λ r e. past_call (record { epoch = r.epoch; number = r.number }) r.call (h r e)
+  past_on (Some f) h = λ r e. past_call (s f.server) (t f.server) k (session_of f.server c) (session_of f.server d) (on f.server) (carries f.server) (record { epoch = r.epoch; number = r.number }) r.call (h r e)
 
-  pub keeps_past : (c d : Client) → session_of c ≡ a → session_of d ≡ b → d.frames ≡ c.frames → KeepsPast s k c → KeepsPast t k d
-  keeps_past c d was is frames h = record {
-    last = subst (λ (f : Frames). ArePast t k (session_of d) f.last) (sym frames) (subst (λ (o : Option Come). ArePast t k o c.frames.last) (sym is) (past_on c.frames.last (subst (λ (o : Option Come). ArePast s k o c.frames.last) was h.last)));
-    before = subst (λ (f : Frames). ArePast t k (session_of d) f.before) (sym frames) (subst (λ (o : Option Come). ArePast t k o c.frames.before) (sym is) (past_on c.frames.before (subst (λ (o : Option Come). ArePast s k o c.frames.before) was h.before)));
+  pub keeps_past : d.frames ≡ c.frames → KeepsPast s k c → KeepsPast t k d
+  keeps_past frames h = record {
+    last = subst (λ (f : Frames). IsPastAt t k d f.last) (sym frames) (past_on c.frames.last h.last);
+    before = subst (λ (f : Frames). IsPastAt t k d f.before) (sym frames) (past_on c.frames.before h.before);
   }
 
--- a client that nothing is said to stays in step as the server goes on
-pub step_later : {V : Type 0} (s t : ServerState V) (k : ℕ) (c d : Client) → ((x : Come) → IsReached s k x → IsReached t k x) → session_of d ≡ session_of c → d.told ≡ c.told → d.frames ≡ c.frames → IsInStep s k c → IsInStep t k d
+has_reached : {V : Type 0} (s t : Option (ServerState V)) (k : ℕ) (o : Option Come) → ((a : Come) → IsReachedBy s k a → IsReachedBy t k a) → HasReached s k o → HasReached t k o
+has_reached s t k None on h = tt
+has_reached s t k (Some g) on h = (h.0, h.1, on g h.2)
+
+-- a client that nothing is said to stays in step as the servers go on
+pub step_later : {V : Type 0} (s t : States V) (k : ℕ) (c d : Client) → GoOn s t k → ((j : ℕ) → session_of j d ≡ session_of j c) → d.told ≡ c.told → d.frames ≡ c.frames → IsInStep s k c → IsInStep t k d
 step_later s t k c d on session told frames h = record {
-  session = subst (HasReached t k) (sym session) (go (session_of c) h.session);
+  session = λ j. subst (HasReached (t j) k) (sym (session j)) (has_reached (s j) (t j) k (session_of j c) (on j) (h.session j));
   told = (let same : d.told.ts ≡ c.told.ts = ap (λ (x : Stamp). x.ts) told in omega (arith, same, h.told));
   frames = kept_as k c d frames h.frames;
-  past = keeps_past s t k (session_of c) (session_of c) on (λ x within reached. within) c d refl session frames h.past;
+  past = keeps_past s t k c d on (λ j x within reached. subst (λ (o : Option Come). IsWithin o x) (sym (session j)) within) frames h.past;
 }
-  where
-    go : (o : Option Come) → HasReached s k o → HasReached t k o
-    go None h = tt
-    go (Some g) h = (h.0, h.1, on g h.2)
 
-spells_one : {V : Type 0} (t : ServerState V) (k : ℕ) (o : Option Come) (frame : List ℕ) (q : Request) → whole request frame ≡ Some q → IsPast t k o q → SpellsPast t k o frame
+spells_one : {V : Type 0} (t : Option (ServerState V)) (k : ℕ) (o : Option Come) (frame : List ℕ) (q : Request) → whole request frame ≡ Some q → IsPast t k o q → SpellsPast t k o frame
 spells_one t k o frame q is past r e = subst (IsPast t k o) (same_request q r (sym is ∙ e)) past
 
 spells_of : (xs : List Item) (frame : List ℕ) (q : Request) → whole request frame ≡ Some q → AsksOfTold xs q.call → SpellsOfTold xs frame
@@ -97,15 +104,16 @@ spells_of xs frame q is of r e = subst (λ (z : Request). AsksOfTold xs z.call) 
 
 -- ---- a frame of its own
 
--- what the client `d` knows behind the answer, before it keeps the frame
-record OwnStep {V : Type 0} (s t : ServerState V) (k : ℕ) (c d : Client) (q : Request) (r : Option Reply) : Type 0 where
-  carries : Carries s k (session_of c) (session_of d)
-  session : HasReached t k (session_of d)
+-- What the client `d` knows behind the answer of a server, before it keeps the frame.
+record OwnStep {V : Type 0} (n : ℕ) (s t : States V) (k : ℕ) (c d : Client) (q : Request) (r : Option Reply) : Type 0 where
+  carries : Carries (s n) k (session_of n c) (session_of n d)
+  session : HasReached (t n) k (session_of n d)
+  elsewhere : (j : ℕ) → j ≢ n → session_of j d ≡ session_of j c
   low : d.told.ts ≤ 2 ^ 62
-  past : IsPast t k (session_of d) q
-  turn : (a : Come) (n : ℕ) → n + 4 < 2 ^ 32 → HasSentFor n (session_of c) → IsWithin (session_of c) a → IsOwnTurn a (record { epoch = q.epoch; number = q.number }) q.call
-  mine : is_greeting q.call ≡ false → IsWithin (session_of d) (record { epoch = q.epoch; number = q.number }) × IsReached t k (record { epoch = q.epoch; number = q.number })
-  many : (n : ℕ) → HasSentFor n (session_of c) → HasSentFor (n + 1) (session_of d)
+  past : IsPast (t n) k (session_of n d) q
+  turn : (a : Come) (i : ℕ) → i + 4 < 2 ^ 32 → HasSentFor i (session_of n c) → IsWithin (session_of n c) a → IsOwnTurn a (record { epoch = q.epoch; number = q.number }) q.call
+  mine : is_greeting q.call ≡ false → IsWithin (session_of n d) (record { epoch = q.epoch; number = q.number }) × IsReachedBy (t n) k (record { epoch = q.epoch; number = q.number })
+  many : (i : ℕ) → HasSentFor i (session_of n c) → HasSentFor (i + 1) (session_of n d)
   told : c.told.ts ≤ d.told.ts
   stamps : AllByRecursion (λ (x : Stamp). x.ts ≤ d.told.ts) (stamps_of_reply r)
   seen : (all : List Stamp) → AllByRecursion (λ (x : Stamp). x.ts ≤ c.told.ts) all → HasSeenBy all q.call
@@ -113,25 +121,37 @@ record OwnStep {V : Type 0} (s t : ServerState V) (k : ℕ) (c d : Client) (q : 
   asks : (xs : List Item) → KnowsOf c xs → AsksOfTold xs q.call
   frames : d.frames ≡ c.frames
 
-own_hands : {V : Type 0} (s t : ServerState V) (k : ℕ) (c d : Client) (epoch number : ℕ) (x : Call) (r : Option Reply) (frame : Addressed) (place : Option ℕ) → ((a : Come) → IsReached s k a → IsReached t k a) → IsInStep s k c → IsRequestOf k frame.bytes
-    → whole request frame.bytes ≡ Some (record { client = k; epoch = epoch; number = number; call = x }) → OwnStep s t k c d (record { client = k; epoch = epoch; number = number; call = x }) r → Hands s t k c (keeps d frame) (item_at Own k epoch number x r place)
-own_hands s t k c d epoch number x r frame place on h own spelled o =
+-- of all servers, where it is so of one
+at_each : (n : ℕ) (P : ℕ → Type 0) → P n → ((j : ℕ) → j ≢ n → P j) → (j : ℕ) → P j
+at_each n P here elsewhere j = elim (cases_eq j n) [
+  | inl same ↦ subst P (sym same) here
+  | inr away ↦ elsewhere j away
+]
+
+own_hands : {V : Type 0} (n : ℕ) (s t : States V) (k : ℕ) (c d : Client) (epoch number : ℕ) (x : Call) (r : Option Reply) (frame : Addressed) (place : Option ℕ) → GoOn s t k → IsInStep s k c → IsRequestOf k frame.bytes → frame.server ≡ n
+    → whole request frame.bytes ≡ Some (record { client = k; epoch = epoch; number = number; call = x }) → OwnStep n s t k c d (record { client = k; epoch = epoch; number = number; call = x }) r
+    → Hands s t k c (keeps d frame) (item_at n Own k epoch number x r place)
+own_hands n s t k c d epoch number x r frame place on h own at spelled o =
     let q : Request = record { client = k; epoch = epoch; number = number; call = x } in
     let b : Come = record { epoch = epoch; number = number } in
-    let old : KeepsPast t k d = keeps_past s t k (session_of c) (session_of d) on o.carries c d refl refl o.frames h.past in
+    let carries : (j : ℕ) → Carries (s j) k (session_of j c) (session_of j d) =
+    at_each n (λ j. Carries (s j) k (session_of j c) (session_of j d)) o.carries (λ j away y within reached. subst (λ (z : Option Come). IsWithin z y) (sym (o.elsewhere j away)) within) in
+    let old : KeepsPast t k d = keeps_past s t k c d on carries o.frames h.past in
     record {
       step = record {
-        session = o.session;
+        session = at_each n (λ j. HasReached (t j) k (session_of j d)) o.session (λ j away. subst (HasReached (t j) k) (sym (o.elsewhere j away)) (has_reached (s j) (t j) k (session_of j c) (on j) (h.session j)));
         told = o.low;
         frames = kept_more k c d frame o.frames h.frames own;
-        past = record { last = spells_one t k (session_of d) frame.bytes q spelled o.past; before = old.last };
+        past = record { last = subst (λ (j : ℕ). SpellsPast (t j) k (session_of j d) frame.bytes) (sym at) (spells_one (t n) k (session_of n d) frame.bytes q spelled o.past); before = old.last };
       };
-      said = λ xs short said. said_more s t Own k c (keeps d frame) epoch number x r place xs
+      said = λ xs short said. said_more n s t Own k c (keeps d frame) epoch number x r place xs
           (record {
-            turn = λ a n small many within reached. (refl, o.turn a n small many within);
-            within = λ a within reached. come_by_has (IsWithin (session_of d)) a b x (o.carries a within reached) (λ other. (o.mine other).0);
-            reached = λ a within reached. come_by_has (IsReached t k) a b x (on a reached) (λ other. (o.mine other).1);
+            turn = λ a i small many within reached. (refl, o.turn a i small many within);
+            within = λ a within reached. come_by_has (IsWithin (session_of n d)) a b x (o.carries a within reached) (λ other. (o.mine other).0);
+            reached = λ a within reached. come_by_has (IsReachedBy (t n) k) a b x (on n a reached) (λ other. (o.mine other).1);
             many = o.many;
+            elsewhere = o.elsewhere;
+            later = on;
             told = o.told;
             stamps = o.stamps;
             seen = o.seen;
@@ -145,18 +165,19 @@ own_hands s t k c d epoch number x r frame place on h own spelled o =
 
 -- ---- a greeting
 
-module _ {V : Type 0} (s t : ServerState V) (k : ℕ) (c : Client) (now : Next) (frame : Addressed) (place : Option ℕ) (on : (a : Come) → IsReached s k a → IsReached t k a) (step : IsInStep s k c) (own : IsRequestOf k frame.bytes) (none : session_of c ≡ None)
-    (spelled : whole request frame.bytes ≡ Some (record { client = k; epoch = 0; number = 1; call = call.Hello c.name })) where
+module _ {V : Type 0} (n : ℕ) (s t : States V) (s0 t0 : ServerState V) (was : s n ≡ Some s0) (now_is : t n ≡ Some t0) (k : ℕ) (c : Client) (now : Next) (frame : Addressed) (place : Option ℕ) (on : GoOn s t k) (step : IsInStep s k c) (own : IsRequestOf k frame.bytes) (at : frame.server ≡ n)
+    (none : session_of n c ≡ None) (spelled : whole request frame.bytes ≡ Some (record { client = k; epoch = 0; number = 1; call = call.Hello c.name })) where
   -- nothing is learned
-  unanswered : (r : Option Reply) → stamps_of_reply r ≡ [] → OwnStep s t k c c (record { client = k; epoch = 0; number = 1; call = call.Hello c.name }) r
+  unanswered : (r : Option Reply) → stamps_of_reply r ≡ [] → OwnStep n s t k c c (record { client = k; epoch = 0; number = 1; call = call.Hello c.name }) r
   unanswered r no_stamps = record {
     carries = λ x within reached. within;
-    session = subst (HasReached t k) (sym none) tt;
+    session = subst (HasReached (t n) k) (sym none) tt;
+    elsewhere = λ j away. refl;
     low = step.told;
     past = tt;
-    turn = λ a n small many within. refl;
+    turn = λ a i small many within. refl;
     mine = λ other. (let wrong : true ≡ false = other in cc);
-    many = λ n h. subst (HasSentFor (n + 1)) (sym none) tt;
+    many = λ i h. subst (HasSentFor (i + 1)) (sym none) tt;
     told = omega arith;
     stamps = subst (AllByRecursion (λ (x : Stamp). x.ts ≤ c.told.ts)) (sym no_stamps) tt;
     seen = λ all low. tt;
@@ -167,23 +188,24 @@ module _ {V : Type 0} (s t : ServerState V) (k : ℕ) (c : Client) (now : Next) 
 
   -- or the session begins
   abbrev begins_at : ℕ → Client
-  begins_at epoch = record c { sessions = map.insert c.sessions 1 (record { epoch = epoch; last = 1; joined = None }) }
+  begins_at epoch = record c { sessions = map.insert c.sessions n (record { epoch = epoch; last = 1; joined = None }) }
 
-  begun_session : (epoch : ℕ) → session_of (begins_at epoch) ≡ Some (record { epoch = epoch; number = 1 })
-  begun_session epoch = ap (option_map come_in) (put_there c.sessions (record { epoch = epoch; last = 1; joined = None }))
+  begun_session : (epoch : ℕ) → session_of n (begins_at epoch) ≡ Some (record { epoch = epoch; number = 1 })
+  begun_session epoch = ap (option_map come_in) (put_there n c.sessions (record { epoch = epoch; last = 1; joined = None }))
 
-  welcomed : (epoch : ℕ) → 0 < epoch → IsReached t k (record { epoch = epoch; number = 1 }) → ((a : Come) → IsReached s k a → IsWithin (Some (record { epoch = epoch; number = 1 })) a)
-      → OwnStep s t k c (begins_at epoch) (record { client = k; epoch = 0; number = 1; call = call.Hello c.name }) (Some (reply.Welcome epoch))
+  welcomed : (epoch : ℕ) → 0 < epoch → IsReached t0 k (record { epoch = epoch; number = 1 }) → ((a : Come) → IsReached s0 k a → IsWithin (Some (record { epoch = epoch; number = 1 })) a)
+      → OwnStep n s t k c (begins_at epoch) (record { client = k; epoch = 0; number = 1; call = call.Hello c.name }) (Some (reply.Welcome epoch))
   welcomed epoch some reached up =
       let is = begun_session epoch in
       record {
-        carries = λ x within old. subst (λ (o : Option Come). IsWithin o x) (sym is) (up x old);
-        session = subst (HasReached t k) (sym is) (some, omega arith, reached);
+        carries = λ x within old. subst (λ (o : Option Come). IsWithin o x) (sym is) (up x (subst (λ (o : Option (ServerState V)). IsReachedBy o k x) was old));
+        session = subst (HasReached (t n) k) (sym is) (some, omega arith, subst (λ (o : Option (ServerState V)). IsReachedBy o k (record { epoch = epoch; number = 1 })) (sym now_is) reached);
+        elsewhere = λ j away. ap (option_map come_in) (put_elsewhere n j c.sessions (record { epoch = epoch; last = 1; joined = None }) away);
         low = step.told;
         past = tt;
-        turn = λ a n small many within. refl;
+        turn = λ a i small many within. refl;
         mine = λ other. (let wrong : true ≡ false = other in cc);
-        many = λ n h. subst (HasSentFor (n + 1)) (sym is) (omega arith);
+        many = λ i h. subst (HasSentFor (i + 1)) (sym is) (omega arith);
         told = omega arith;
         stamps = tt;
         seen = λ all low. tt;
@@ -192,16 +214,16 @@ module _ {V : Type 0} (s t : ServerState V) (k : ℕ) (c : Client) (now : Next) 
         frames = refl;
       }
 
-  pub greeting_hands : (r : Option Reply) → Hears s t (record { client = k; epoch = 0; number = 1; call = call.Hello c.name }) r → Hands s t k c (keeps (greeted c 1 now r).0 frame) (item_at Own k 0 1 (call.Hello c.name) r place)
-  greeting_hands r h = go (greets s t k c.name r h)
+  pub greeting_hands : (r : Option Reply) → Hears s0 t0 (record { client = k; epoch = 0; number = 1; call = call.Hello c.name }) r → Hands s t k c (keeps (greeted c n now r).0 frame) (item_at n Own k 0 1 (call.Hello c.name) r place)
+  greeting_hands r h = go (greets s0 t0 k c.name r h)
     where
       P : Option Reply → Type 0
-      P q = Hands s t k c (keeps (greeted c 1 now q).0 frame) (item_at Own k 0 1 (call.Hello c.name) q place)
+      P q = Hands s t k c (keeps (greeted c n now q).0 frame) (item_at n Own k 0 1 (call.Hello c.name) q place)
 
-      go : Greets s t k r → P r
-      go (welcome is reached up) = subst P (sym is) (own_hands s t k c (begins_at s.epoch) 0 1 (call.Hello c.name) (Some (reply.Welcome s.epoch)) frame place on step own spelled (welcomed s.epoch h.raised reached up))
-      go (silent is) = subst P (sym is) (own_hands s t k c c 0 1 (call.Hello c.name) None frame place on step own spelled (unanswered None refl))
-      go (is_down is) = subst P (sym is) (own_hands s t k c c 0 1 (call.Hello c.name) (Some (reply.Refused refusal.Down)) frame place on step own spelled (unanswered (Some (reply.Refused refusal.Down)) refl))
+      go : Greets s0 t0 k r → P r
+      go (welcome is reached up) = subst P (sym is) (own_hands n s t k c (begins_at s0.epoch) 0 1 (call.Hello c.name) (Some (reply.Welcome s0.epoch)) frame place on step own at spelled (welcomed s0.epoch h.raised reached up))
+      go (silent is) = subst P (sym is) (own_hands n s t k c c 0 1 (call.Hello c.name) None frame place on step own at spelled (unanswered None refl))
+      go (is_down is) = subst P (sym is) (own_hands n s t k c c 0 1 (call.Hello c.name) (Some (reply.Refused refusal.Down)) frame place on step own at spelled (unanswered (Some (reply.Refused refusal.Down)) refl))
 
 -- ---- a call of what the client takes for its session
 
@@ -217,7 +239,7 @@ within_kept : (o : Option Come) (g a : Come) → (o ≡ Some g) ⊎ (o ≡ None)
 within_kept o g a (inl is) h = subst (λ (x : Option Come). IsWithin x a) (sym is) h
 within_kept o g a (inr is) h = subst (λ (x : Option Come). IsWithin x a) (sym is) tt
 
-reached_kept : {V : Type 0} (t : ServerState V) (k : ℕ) (o : Option Come) (g : Come) → (o ≡ Some g) ⊎ (o ≡ None) → HasReached t k (Some g) → HasReached t k o
+reached_kept : {V : Type 0} (t : Option (ServerState V)) (k : ℕ) (o : Option Come) (g : Come) → (o ≡ Some g) ⊎ (o ≡ None) → HasReached t k (Some g) → HasReached t k o
 reached_kept t k o g (inl is) h = subst (HasReached t k) (sym is) h
 reached_kept t k o g (inr is) h = subst (HasReached t k) (sym is) tt
 
@@ -225,13 +247,14 @@ sent_kept : (n : ℕ) (o : Option Come) (g : Come) → (o ≡ Some g) ⊎ (o ≡
 sent_kept n o g (inl is) h = subst (HasSentFor n) (sym is) h
 sent_kept n o g (inr is) h = subst (HasSentFor n) (sym is) tt
 
-past_other : {V : Type 0} (t : ServerState V) (k : ℕ) (o : Option Come) (a : Come) (c : Call) → (is_greeting c ≡ false → (0 < a.epoch) × IsWithin o a × IsReached t k a) → IsPastCall t k o a c
+past_other : {V : Type 0} (t : Option (ServerState V)) (k : ℕ) (o : Option Come) (a : Come) (c : Call) → (is_greeting c ≡ false → (0 < a.epoch) × IsWithin o a × IsReachedBy t k a) → IsPastCall t k o a c
 past_other t k o a (call.Hello name) h = tt
 past_other t k o a c h = h refl
 
--- what a client makes of an answer to a call, where it is told one
-record Told (c d : Client) (g : Come) (r : Option Reply) : Type 0 where
-  session : (session_of d ≡ Some g) ⊎ (session_of d ≡ None)
+-- what a client makes of an answer to a call at a server, where it is told one
+record Told (n : ℕ) (c d : Client) (g : Come) (r : Option Reply) : Type 0 where
+  session : (session_of n d ≡ Some g) ⊎ (session_of n d ≡ None)
+  elsewhere : (j : ℕ) → j ≢ n → session_of j d ≡ session_of j c
   before : c.told.ts ≤ d.told.ts
   stamps : AllByRecursion (λ (x : Stamp). x.ts ≤ d.told.ts) (stamps_of_reply r)
   low : d.told.ts ≤ 2 ^ 62
@@ -241,27 +264,36 @@ record Told (c d : Client) (g : Come) (r : Option Reply) : Type 0 where
 abbrev behind : Greeted → Come
 behind g = record { epoch = g.epoch; number = number_after g.last }
 
-counted_behind : (c d : Client) (g : Greeted) → session_of c ≡ Some (come_in g) → (session_of d ≡ session_of c) ⊎ (session_of d ≡ None)
-    → (session_of (counted d 1 (number_after g.last)) ≡ Some (behind g)) ⊎ (session_of (counted d 1 (number_after g.last)) ≡ None)
-counted_behind c d g has (inl is) = inl (counted_session d (number_after g.last) ∙ ap (option_map (λ (a : Come). record a { number = number_after g.last })) (is ∙ has))
-counted_behind c d g has (inr is) = inr (counted_session d (number_after g.last) ∙ ap (option_map (λ (a : Come). record a { number = number_after g.last })) is)
+counted_behind : (n : ℕ) (c d : Client) (g : Greeted) → session_of n c ≡ Some (come_in g) → (session_of n d ≡ session_of n c) ⊎ (session_of n d ≡ None)
+    → (session_of n (counted d n (number_after g.last)) ≡ Some (behind g)) ⊎ (session_of n (counted d n (number_after g.last)) ≡ None)
+counted_behind n c d g has (inl is) = inl (counted_session n d (number_after g.last) ∙ ap (option_map (λ (a : Come). record a { number = number_after g.last })) (is ∙ has))
+counted_behind n c d g has (inr is) = inr (counted_session n d (number_after g.last) ∙ ap (option_map (λ (a : Come). record a { number = number_after g.last })) is)
 
-knows_told : (c d : Client) (g : Greeted) (r : Reply) → session_of c ≡ Some (come_in g) → c.told.ts ≤ 2 ^ 62 → TellsUpTo (2 ^ 62) r → Knows c d r → Told c (counted d 1 (number_after g.last)) (behind g) (Some r)
-knows_told c d g r has low times k = record {
-  session = counted_behind c d g has k.session;
+knows_told : (n : ℕ) (c d : Client) (g : Greeted) (r : Reply) → session_of n c ≡ Some (come_in g) → c.told.ts ≤ 2 ^ 62 → TellsUpTo (2 ^ 62) r → Knows n c d r → Told n c (counted d n (number_after g.last)) (behind g) (Some r)
+knows_told n c d g r has low times k = record {
+  session = counted_behind n c d g has k.session;
+  elsewhere = λ j away. counted_elsewhere n j d (number_after g.last) away ∙ k.others j away;
   before = k.before;
   stamps = k.stamps;
   low = k.within (2 ^ 62) low (told_within (2 ^ 62) r times);
   begun = elim k.begun [ inl is ↦ inl is | inr is ↦ inr (is.0, ap Some is.1, is.2) ];
 }
 
-answered_told : (words : WordMap) (s : Settings) (c : Client) (g : Greeted) (l : Line) (now : Next) (a : Asking) (r : Option Reply) → session_of c ≡ Some (come_in g) → c.told.ts ≤ 2 ^ 62 → IfSome r (TellsUpTo (2 ^ 62))
-    → Told c (counted (answered words c (at_one (number_after g.last) now s) l a r).0 1 (number_after g.last)) (behind g) r
-answered_told words s c g l now a None has low times = record { session = counted_behind c c g has (inl refl); before = omega arith; stamps = tt; low = low; begun = inl refl }
-answered_told words s c g l now a (Some r) has low times = knows_told c (answered words c (at_one (number_after g.last) now s) l a (Some r)).0 g r has low times (answered_knows (number_after g.last) now s words c l a r)
+answered_told : (n : ℕ) (words : WordMap) (s : Settings) (c : Client) (g : Greeted) (l : Line) (now : Next) (a : Asking) (r : Option Reply) → session_of n c ≡ Some (come_in g) → c.told.ts ≤ 2 ^ 62 → IfSome r (TellsUpTo (2 ^ 62))
+    → Told n c (counted (answered words c (asked_at n (number_after g.last) now s) l a r).0 n (number_after g.last)) (behind g) r
+answered_told n words s c g l now a None has low times = record {
+  session = counted_behind n c c g has (inl refl);
+  elsewhere = λ j away. counted_elsewhere n j c (number_after g.last) away;
+  before = omega arith;
+  stamps = tt;
+  low = low;
+  begun = inl refl;
+}
+answered_told n words s c g l now a (Some r) has low times =
+    knows_told n c (answered words c (asked_at n (number_after g.last) now s) l a (Some r)).0 g r has low times (answered_knows n (number_after g.last) now s words c l a r)
 
-module _ {V : Type 0} (s t : ServerState V) (k : ℕ) (c : Client) (words : WordMap) (settings : Settings) (l : Line) (now : Next) (frame : Addressed) (place : Option ℕ) (y : Call) (a : Asking) (on : (a : Come) → IsReached s k a → IsReached t k a) (step : IsInStep s k c)
-    (own : IsRequestOf k frame.bytes) (form : IsForm l) (asked : call_by words c (asked_line k l now) ≡ Some y) where
+module _ {V : Type 0} (n : ℕ) (s t : States V) (s0 t0 : ServerState V) (was : s n ≡ Some s0) (now_is : t n ≡ Some t0) (k : ℕ) (c : Client) (words : WordMap) (settings : Settings) (l : Line) (now : Next) (frame : Addressed) (place : Option ℕ) (y : Call) (a : Asking) (on : GoOn s t k)
+    (step : IsInStep s k c) (own : IsRequestOf k frame.bytes) (at : frame.server ≡ n) (form : IsForm l) (asked : call_by words c (asked_line k l now) ≡ Some y) where
   -- what it sends
   abbrev x : Call
   x = call_asked a y
@@ -271,108 +303,117 @@ module _ {V : Type 0} (s t : ServerState V) (k : ℕ) (c : Client) (words : Word
 
   -- what it knows behind the answer
   abbrev then_in : Greeted → Option Reply → Client
-  then_in g r = (heard_own words settings c 1 (Some g) l now r).0
+  then_in g r = (heard_own words settings c n (Some g) l now r).0
 
-  call_step : (g : Greeted) → session_of c ≡ Some (come_in g) → (r : Option Reply) → Hears s t (record { client = k; epoch = g.epoch; number = number_after g.last; call = x }) r
-      → OwnStep s t k c (then_in g r) (record { client = k; epoch = g.epoch; number = number_after g.last; call = x }) r
+  call_step : (g : Greeted) → session_of n c ≡ Some (come_in g) → (r : Option Reply) → Hears s0 t0 (record { client = k; epoch = g.epoch; number = number_after g.last; call = x }) r
+      → OwnStep n s t k c (then_in g r) (record { client = k; epoch = g.epoch; number = number_after g.last; call = x }) r
   call_step g has r h =
       let d : Client = then_in g r in
-      let k0 : Told c d (behind g) r = answered_told words settings c g l now (asking_for g.joined c.trans l now) r has step.told h.times in
-      let known : HasReached s k (Some (come_in g)) = subst (HasReached s k) has step.session in
+      let k0 : Told n c d (behind g) r = answered_told n words settings c g l now (asking_for g.joined c.trans l now) r has step.told h.times in
+      let known : HasReached (s n) k (Some (come_in g)) = subst (HasReached (s n) k) has (step.session n) in
       let b : Come = record { epoch = g.epoch; number = number_after g.last } in
-      let there : IsReached t k b = own_reached s t k g x r h no_greeting known.2 in
-      let inside : IsWithin (session_of d) b = within_kept (session_of d) (behind g) b k0.session (up_to_self b) in
+      let there : IsReachedBy (t n) k b =
+      subst (λ (o : Option (ServerState V)). IsReachedBy o k b) (sym now_is) (own_reached s0 t0 k g x r h no_greeting (subst (λ (o : Option (ServerState V)). IsReachedBy o k (come_in g)) was known.2)) in
+      let inside : IsWithin (session_of n d) b = within_kept (session_of n d) (behind g) b k0.session (up_to_self b) in
       record {
-        carries = λ z within reached. within_kept (session_of d) (behind g) z k0.session (within_more g z known.1 (subst (λ (o : Option Come). IsWithin o z) has within));
-        session = reached_kept t k (session_of d) (behind g) k0.session (known.0, after_small g.last, there);
+        carries = λ z within reached. within_kept (session_of n d) (behind g) z k0.session (within_more g z known.1 (subst (λ (o : Option Come). IsWithin o z) has within));
+        session = reached_kept (t n) k (session_of n d) (behind g) k0.session (known.0, after_small g.last, there);
+        elsewhere = k0.elsewhere;
         low = k0.low;
-        past = past_other t k (session_of d) b x (λ other. (known.0, inside, there));
-        turn = λ z n small many within. own_turn z b x no_greeting known.0
-            (below_more g z (let few : g.last ≤ n = subst (HasSentFor n) has many in omega (arith, few, small)) (subst (λ (o : Option Come). IsWithin o z) has within));
+        past = past_other (t n) k (session_of n d) b x (λ other. (known.0, inside, there));
+        turn = λ z i small many within. own_turn z b x no_greeting known.0
+            (below_more g z (let few : g.last ≤ i = subst (HasSentFor i) has many in omega (arith, few, small)) (subst (λ (o : Option Come). IsWithin o z) has within));
         mine = λ other. (inside, there);
-        many = λ n many. sent_kept (n + 1) (session_of d) (behind g) k0.session (let few : g.last ≤ n = subst (HasSentFor n) has many in let most : number_after g.last ≤ g.last + 1 = after_most g.last in omega (arith, few, most));
+        many = λ i many. sent_kept (i + 1) (session_of n d) (behind g) k0.session (let few : g.last ≤ i = subst (HasSentFor i) has many in let most : number_after g.last ≤ g.last + 1 = after_most g.last in omega (arith, few, most));
         told = k0.before;
         stamps = k0.stamps;
         seen = λ all low. asked_in a y (HasSeenBy all) (λ u. tt) (line_has_seen words c (asked_line k l now) y all (asked_form k l now form) asked low);
         begun = k0.begun;
         asks = λ xs knows. asked_in a y (AsksOfTold xs) (λ u. tt) (line_asks_of words c (asked_line k l now) y xs (asked_form k l now form) asked knows.begun);
-        frames = own_stays words settings c 1 (Some g) l now r;
+        frames = own_stays words settings c n (Some g) l now r;
       }
 
-  pub call_hands : (g : Greeted) → session_of c ≡ Some (come_in g) → (r : Option Reply) → Hears s t (record { client = k; epoch = g.epoch; number = number_after g.last; call = x }) r
+  pub call_hands : (g : Greeted) → session_of n c ≡ Some (come_in g) → (r : Option Reply) → Hears s0 t0 (record { client = k; epoch = g.epoch; number = number_after g.last; call = x }) r
       → whole request frame.bytes ≡ Some (record { client = k; epoch = g.epoch; number = number_after g.last; call = x })
-      → Hands s t k c (keeps (then_in g r) frame) (item_at Own k g.epoch (number_after g.last) x r place)
-  call_hands g has r h spelled = own_hands s t k c (then_in g r) g.epoch (number_after g.last) x r frame place on step own spelled (call_step g has r h)
+      → Hands s t k c (keeps (then_in g r) frame) (item_at n Own k g.epoch (number_after g.last) x r place)
+  call_hands g has r h spelled = own_hands n s t k c (then_in g r) g.epoch (number_after g.last) x r frame place on step own at spelled (call_step g has r h)
 
 -- ---- a frame that is sent again
 
-module _ {V : Type 0} (s t : ServerState V) (k : ℕ) (c : Client) (q : Request) (r : Option Reply) (place : Option ℕ) (on : (a : Come) → IsReached s k a → IsReached t k a) (step : IsInStep s k c) (times : IfSome r (TellsUpTo (2 ^ 62))) (past : IsPast s k (session_of c) q)
+module _ {V : Type 0} (n : ℕ) (s t : States V) (k : ℕ) (c : Client) (q : Request) (r : Option Reply) (place : Option ℕ) (on : GoOn s t k) (step : IsInStep s k c) (times : IfSome r (TellsUpTo (2 ^ 62))) (past : IsPast (s n) k (session_of n c) q)
     (known : (xs : List Item) → KnowsOf c xs → AsksOfTold xs q.call) where
   -- what the client knows then
   record Again (d : Client) : Type 0 where
-    session : ((session_of d) ≡ (session_of c)) ⊎ ((session_of d) ≡ None)
+    session : (session_of n d ≡ session_of n c) ⊎ (session_of n d ≡ None)
+    elsewhere : (j : ℕ) → j ≢ n → session_of j d ≡ session_of j c
     before : c.told.ts ≤ d.told.ts
     stamps : AllByRecursion (λ (x : Stamp). x.ts ≤ d.told.ts) (stamps_of_reply r)
     low : d.told.ts ≤ 2 ^ 62
     begun : (d.begun ≡ c.begun) ⊎ ((u : TransId) × (r ≡ Some (reply.Begun u)) × (d.begun ≡ Some u))
 
-  again_told : (o : Option Reply) → r ≡ o → Again (heard_again c 1 o)
-  again_told None is = record { session = inl refl; before = omega arith; stamps = subst (λ (y : Option Reply). AllByRecursion (λ (x : Stamp). x.ts ≤ c.told.ts) (stamps_of_reply y)) (sym is) tt; low = step.told; begun = inl refl }
+  again_told : (o : Option Reply) → r ≡ o → Again (heard_again c n o)
+  again_told None is = record { session = inl refl; elsewhere = λ j away. refl; before = omega arith; stamps = subst (λ (y : Option Reply). AllByRecursion (λ (x : Stamp). x.ts ≤ c.told.ts) (stamps_of_reply y)) (sym is) tt; low = step.told; begun = inl refl }
   again_told (Some y) is =
-      let k0 : Knows c (heard_again c 1 (Some y)) y = again_knows c y in
+      let k0 : Knows n c (heard_again c n (Some y)) y = again_knows n c y in
       record {
         session = k0.session;
+        elsewhere = k0.others;
         before = k0.before;
-        stamps = subst (λ (z : Option Reply). AllByRecursion (λ (x : Stamp). x.ts ≤ (heard_again c 1 (Some y)).told.ts) (stamps_of_reply z)) (sym is) k0.stamps;
+        stamps = subst (λ (z : Option Reply). AllByRecursion (λ (x : Stamp). x.ts ≤ (heard_again c n (Some y)).told.ts) (stamps_of_reply z)) (sym is) k0.stamps;
         low = k0.within (2 ^ 62) step.told (told_within (2 ^ 62) y (subst (λ (z : Option Reply). IfSome z (TellsUpTo (2 ^ 62))) is times));
         begun = elim k0.begun [ inl same ↦ inl same | inr now ↦ inr (now.0, is ∙ ap Some now.1, now.2) ];
       }
 
-  within_again : (d : Client) (a : Come) → ((session_of d) ≡ (session_of c)) ⊎ ((session_of d) ≡ None) → IsWithin (session_of c) a → IsWithin (session_of d) a
+  within_again : (d : Client) (a : Come) → ((session_of n d) ≡ (session_of n c)) ⊎ ((session_of n d) ≡ None) → IsWithin (session_of n c) a → IsWithin (session_of n d) a
   within_again d a (inl is) h = subst (λ (o : Option Come). IsWithin o a) (sym is) h
   within_again d a (inr is) h = subst (λ (o : Option Come). IsWithin o a) (sym is) tt
 
-  session_again : (d : Client) → ((session_of d) ≡ (session_of c)) ⊎ ((session_of d) ≡ None) → HasReached t k (session_of d)
-  session_again d (inl is) = subst (HasReached t k) (sym is) (step_later s t k c c on refl refl refl step).session
-  session_again d (inr is) = subst (HasReached t k) (sym is) tt
+  session_again : (d : Client) → ((session_of n d) ≡ (session_of n c)) ⊎ ((session_of n d) ≡ None) → HasReached (t n) k (session_of n d)
+  session_again d (inl is) = subst (HasReached (t n) k) (sym is) (has_reached (s n) (t n) k (session_of n c) (on n) (step.session n))
+  session_again d (inr is) = subst (HasReached (t n) k) (sym is) tt
 
-  many_again : (n : ℕ) (d : Client) → ((session_of d) ≡ (session_of c)) ⊎ ((session_of d) ≡ None) → HasSentFor n (session_of c) → HasSentFor (n + 1) (session_of d)
-  many_again n d (inl is) h = subst (HasSentFor (n + 1)) (sym is) (go (session_of c) h)
+  many_again : (i : ℕ) (d : Client) → ((session_of n d) ≡ (session_of n c)) ⊎ ((session_of n d) ≡ None) → HasSentFor i (session_of n c) → HasSentFor (i + 1) (session_of n d)
+  many_again i d (inl is) h = subst (HasSentFor (i + 1)) (sym is) (go (session_of n c) h)
     where
-      go : (o : Option Come) → HasSentFor n o → HasSentFor (n + 1) o
+      go : (o : Option Come) → HasSentFor i o → HasSentFor (i + 1) o
       go None h = tt
       go (Some g) h = omega (arith, h)
-  many_again n d (inr is) h = subst (HasSentFor (n + 1)) (sym is) tt
+  many_again i d (inr is) h = subst (HasSentFor (i + 1)) (sym is) tt
 
   abbrev its : Come
   its = record { epoch = q.epoch; number = q.number }
 
-  past_parts : (x : Call) → q.call ≡ x → is_greeting x ≡ false → (0 < q.epoch) × IsWithin (session_of c) its × IsReached s k its
+  past_parts : (x : Call) → q.call ≡ x → is_greeting x ≡ false → (0 < q.epoch) × IsWithin (session_of n c) its × IsReachedBy (s n) k its
   past_parts (call.Hello name) is other = cc
-  past_parts x is other = go x (subst (IsPastCall s k (session_of c) its) is past) other
+  past_parts x is other = go x (subst (IsPastCall (s n) k (session_of n c) its) is past) other
     where
-      go : (x : Call) → IsPastCall s k (session_of c) its x → is_greeting x ≡ false → (0 < q.epoch) × IsWithin (session_of c) its × IsReached s k its
+      go : (x : Call) → IsPastCall (s n) k (session_of n c) its x → is_greeting x ≡ false → (0 < q.epoch) × IsWithin (session_of n c) its × IsReachedBy (s n) k its
       go (call.Hello name) h other = cc
       go x h other = h
 
-  pub again_hands : q.client ≡ k → Hands s t k c (heard_again c 1 r) (item_at Repeated k q.epoch q.number q.call r place)
+  pub again_hands : q.client ≡ k → Hands s t k c (heard_again c n r) (item_at n Repeated k q.epoch q.number q.call r place)
   again_hands client =
-      let d : Client = heard_again c 1 r in
+      let d : Client = heard_again c n r in
       let k0 : Again d = again_told r refl in
-      let frames : d.frames ≡ c.frames = again_stays c 1 r in
+      let frames : d.frames ≡ c.frames = again_stays c n r in
+      let carries : (j : ℕ) → Carries (s j) k (session_of j c) (session_of j d) =
+      at_each n (λ j. Carries (s j) k (session_of j c) (session_of j d)) (λ a within reached. within_again d a k0.session within) (λ j away y within reached. subst (λ (z : Option Come). IsWithin z y) (sym (k0.elsewhere j away)) within) in
       record {
         step = record {
-          session = session_again d k0.session;
+          session = at_each n (λ j. HasReached (t j) k (session_of j d)) (session_again d k0.session)
+              (λ j away. subst (HasReached (t j) k) (sym (k0.elsewhere j away)) (has_reached (s j) (t j) k (session_of j c) (on j) (step.session j)));
           told = k0.low;
           frames = kept_as k c d frames step.frames;
-          past = keeps_past s t k (session_of c) (session_of d) on (λ a within reached. within_again d a k0.session within) c d refl refl frames step.past;
+          past = keeps_past s t k c d on carries frames step.past;
         };
-        said = λ xs short said. said_more s t Repeated k c d q.epoch q.number q.call r place xs
+        said = λ xs short said. said_more n s t Repeated k c d q.epoch q.number q.call r place xs
             (record {
-              turn = λ a n small many within reached. (refl, again_turn its q.call (λ other. (past_parts q.call refl other).0));
-              within = λ a within reached. come_by_has (IsWithin (session_of d)) a its q.call (within_again d a k0.session within) (λ other. within_again d its k0.session (past_parts q.call refl other).1);
-              reached = λ a within reached. come_by_has (IsReached t k) a its q.call (on a reached) (λ other. on its (past_parts q.call refl other).2);
-              many = λ n many. many_again n d k0.session many;
+              turn = λ a i small many within reached. (refl, again_turn its q.call (λ other. (past_parts q.call refl other).0));
+              within = λ a within reached. come_by_has (IsWithin (session_of n d)) a its q.call (within_again d a k0.session within) (λ other. within_again d its k0.session (past_parts q.call refl other).1);
+              reached = λ a within reached. come_by_has (IsReachedBy (t n) k) a its q.call (on n a reached) (λ other. on n its (past_parts q.call refl other).2);
+              many = λ i many. many_again i d k0.session many;
+              elsewhere = k0.elsewhere;
+              later = on;
               told = k0.before;
               stamps = k0.stamps;
               seen = λ all low. tt;

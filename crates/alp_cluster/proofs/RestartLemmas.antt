@@ -25,13 +25,12 @@ use Rattle.alp_node.specs.declared.start.StartFault.{StartFault}
 use Rattle.alp_node.specs.declared.start.StartFault.TheVariants as start_fault
 use Rattle.alp_node.proofs.StartLemmas.{no_session}
 use Rattle.alp_cluster.specs.Come.{Come, IsReached}
-use Rattle.alp_cluster.specs.Goes.{IsLater, Goes, GoesSome}
-use Rattle.alp_cluster.specs.Happens.{Happening, restarted, stop_set, lifts, Happens}
-use Rattle.alp_cluster.specs.Plays.{to_come}
-use Rattle.alp_cluster.specs.Servers.{IsOn, IsFree, IsDone, AreKept, stand_of, state_of, HasGone, HasStopSet, IsLifted, StartsAgain, StaysDown, IsFailureAt, IsOfVolumeAt, AreCountedFor}
+use Rattle.alp_cluster.specs.Goes.{IsLater, GoesBy}
+use Rattle.alp_course.specs.Happens.{Happening, restarted, stop_set, lifts, Happens}
+use Rattle.alp_cluster.specs.Servers.{IsOn, IsFree, IsDone, AreKept, stand_of, state_of, HasGone, AreCounted, HasStopSet, IsLifted, StartsAgain, StaysDown, IsFailureAt, IsOfVolumeAt, AreCountedFor}
 use Rattle.alp_cluster.specs.declared.fault.RunFault.TheVariants as fault
 use Rattle.alp_cluster.proofs.CalmLemmas.{calm_restart}
-use Rattle.alp_cluster.proofs.GoLemmas.{recorded_one, later_same}
+use Rattle.alp_cluster.proofs.GoLemmas.{later_same}
 use Rattle.alp_cluster.proofs.StepLemmas.{state_more, law_more, along_more}
 
 -- ---- it starts again
@@ -39,6 +38,9 @@ use Rattle.alp_cluster.proofs.StepLemmas.{state_more, law_more, along_more}
 module _ {V : Type 0} (G : Ghosts V) (pick : ℕ) (n m : NodeState V) (d : DownState V) (on : IsOn G n) (falls : HasFallen G pick n d) (starts : HasRestarted G d m) (kept : IsConsistent G m) where
   again_server : m.kept.server ≡ n.kept.server
   again_server = starts.server ∙ falls.server
+
+  again_count : m.kept.servers ≡ n.kept.servers
+  again_count = starts.servers ∙ falls.servers
 
   again_opening : m.opening ≡ n.opening
   again_opening = starts.opening ∙ falls.opening
@@ -53,7 +55,7 @@ module _ {V : Type 0} (G : Ghosts V) (pick : ℕ) (n m : NodeState V) (d : DownS
   again_epoch = starts.epoch ∙ ap (λ (k : ℕ). k + 1) falls.epoch
 
   abbrev again_entry : Entry
-  again_entry = entry_again (record { epoch = m.kept.epoch; clock = m.kept.clock })
+  again_entry = entry_again (record { epoch = m.kept.epoch; clock = m.kept.clock }) starts.joins starts.stamps
 
   again_journal : m.journal ≡ n.journal ++ again_entry ∷ []
   again_journal = starts.journal ∙ ap (λ (es : List Entry). es ++ again_entry ∷ []) falls.journal
@@ -62,7 +64,7 @@ module _ {V : Type 0} (G : Ghosts V) (pick : ℕ) (n m : NodeState V) (d : DownS
   again_done told =
       let right : node.IsRight (start_in G m) (G.held m.kept.vault) m = kept.right told in
       let law : IsAnsweredSo (state_of G n) again_entry = law_more G n m again_entry again_start again_journal IsAnsweredSo right.caused.0 in
-      (refl, calm_restart law.0 (state_of G n) m.kept.epoch m.kept.clock law.1)
+      (refl, calm_restart law.0 (state_of G n) m.kept.epoch m.kept.clock starts.joins starts.stamps law.1)
 
   -- nobody has a session
   again_kept : AreKept m.kept
@@ -71,8 +73,7 @@ module _ {V : Type 0} (G : Ghosts V) (pick : ℕ) (n m : NodeState V) (d : DownS
   again_on : IsOn G m
   again_on = record {
     kept = kept;
-    first = again_server ∙ on.first;
-    alone = ap (λ (o : Opened V). G.servers o.vault.value) again_opening ∙ on.alone;
+    all = ap (λ (o : Opened V). G.servers o.vault.value) again_opening ∙ on.all ∙ sym again_count;
     replies = λ up. again_kept;
     answered = λ told. along_more G n m again_entry again_start again_journal IsDone (on.answered (subst IsTrue again_telling told)) (again_done told);
   }
@@ -90,33 +91,36 @@ module _ {V : Type 0} (G : Ghosts V) (pick : ℕ) (n m : NodeState V) (again : S
   still_reached k a (inr now) = (let same : a.epoch ≡ n.kept.epoch = now.0 in inl (omega (arith, same, next_epoch)))
 
   pub again_later : IsLater G n m
-  again_later = record { on = again.on; opening = again.opening; start = again.start; telling = again.starts.same.telling ∙ again.falls.same.telling; reached = still_reached }
+  again_later = record { on = again.on; number = again.starts.server ∙ again.falls.server; count = again.starts.servers ∙ again.falls.servers; opening = again.opening; start = again.start; telling = again.starts.same.telling ∙ again.falls.same.telling; reached = still_reached }
 
   abbrev entry_then : Entry
-  entry_then = entry_again (record { epoch = m.kept.epoch; clock = m.kept.clock })
+  entry_then = entry_again (record { epoch = m.kept.epoch; clock = m.kept.clock }) again.starts.joins again.starts.stamps
 
   journal_then : m.journal ≡ n.journal ++ entry_then ∷ []
   journal_then = again.starts.journal ∙ ap (λ (es : List Entry). es ++ entry_then ∷ []) again.falls.journal
 
-  pub again_goes : (f : Bool) → Goes G f (restarted pick ∷ []) false n m
-  again_goes f = record {
+  pub again_goes : (f tells : Bool) → GoesBy G f false (λ w es v. Happens tells w (restarted pick) es v) n m
+  again_goes f tells = record {
     later = again_later;
     free = λ e. again.starts.allowance;
     entries = entry_then ∷ [];
     journal = journal_then;
-    recorded = recorded_one (G.tells n.kept.vault) (stand_of G f n) (stand_of G false m) (restarted pick) (entry_then ∷ []) (record {
+    made = record {
       entry = entry_then;
       clock = m.kept.clock;
+      parts = again.starts.joins;
+      stamps = again.starts.stamps;
       one = refl;
-      is = ap (λ (k : ℕ). entry_again (record { epoch = k; clock = m.kept.clock })) next_epoch;
+      is = ap (λ (k : ℕ). entry_again (record { epoch = k; clock = m.kept.clock }) again.starts.joins again.starts.stamps) next_epoch;
       behind = λ i. record {
+        server = again_later.number i;
         epoch = next_epoch i;
         is_down = again.starts.nobody.up i;
         is_fused = false;
         place = (ap (λ (js : List Entry). length js) journal_then ∙ length-append n.journal (entry_then ∷ [])) i;
         state = state_more G n m entry_then again.start journal_then i;
       };
-    });
+    };
   }
 
   pub again_up : m.kept.is_down ≡ false
@@ -171,49 +175,38 @@ module _ {V : Type 0} (G : Ghosts V) (pick : ℕ) (n : NodeState V) (on : IsOn G
   all_same f h = record { telling = h.stays.same.telling ∙ h.falls.same.telling; sizes = h.stays.same.sizes ∙ h.falls.same.sizes; number = h.stays.same.number ∙ h.falls.same.number; of_all = h.stays.same.of_all ∙ h.falls.same.of_all }
 
   -- the server fell, and this is the fault
-  pub stays_gone : {T : Type 0} (P : Type 0) (f : StartFault) → StaysDown G pick n e f → HasGone {T = T} G P n.kept.vault e.vault (Err (fault.Start 1 f))
+  pub stays_gone : {T : Type 0} (P : Type 0) (f : StartFault) → StaysDown G pick n e f → HasGone {T = T} G P n.kept.vault e.vault (Err (fault.Start n.kept.server f))
   stays_gone P (start_fault.Vault f) h =
       let up : G.faults h.fallen.vault ≤ G.faults e.vault = h.stays.cause.2 in
       let still : G.faults h.fallen.vault ≡ G.faults n.kept.vault = h.falls.faults in
       record {
         same = all_same (start_fault.Vault f) h;
         later = omega (arith, still, up);
-        failed = (refl, failed_for f h);
-        told = λ tells. of_volume f (h.stays.cause.1 (fallen_told (start_fault.Vault f) h tells));
+        failed = (sym on.kept.number, λ here. failed_for f h);
+        told = λ tells here. of_volume f (h.stays.cause.1 (fallen_told (start_fault.Vault f) h tells));
         free = λ p k. h.free;
-        counted = λ p k. counted_for f h.fallen h.falls.faults h.stays.cause;
+        counted = λ p k. ((λ here. counted_for f h.fallen h.falls.faults h.stays.cause), (λ away. absurd (away (sym on.kept.number))));
       }
   stays_gone P start_fault.BadNote h =
       let counted : G.faults e.vault ≡ G.faults n.kept.vault = h.stays.cause.0 ∙ h.falls.faults in
       record {
         same = all_same start_fault.BadNote h;
         later = omega (arith, counted);
-        failed = (refl, tt);
-        told = λ tells. h.stays.sound (fallen_told start_fault.BadNote h tells) refl;
+        failed = (sym on.kept.number, λ here. tt);
+        told = λ tells here. h.stays.sound (fallen_told start_fault.BadNote h tells) refl;
         free = λ p k. h.free;
-        counted = λ p k. counted;
+        counted = λ p k. ((λ here. counted), (λ away. counted));
       }
   stays_gone P start_fault.EpochEnd h =
       let counted : G.faults e.vault ≡ G.faults n.kept.vault = ap G.faults h.stays.cause.1 ∙ h.falls.faults in
       record {
         same = all_same start_fault.EpochEnd h;
         later = omega (arith, counted);
-        failed = (refl, tt);
-        told = λ tells. tt;
+        failed = (sym on.kept.number, λ here. tt);
+        told = λ tells here. tt;
         free = λ p k. h.free;
-        counted = λ p k. counted;
+        counted = λ p k. ((λ here. counted), (λ away. counted));
       }
-
-  -- the last epoch is over
-  pub last_some : StaysDown G pick n e start_fault.EpochEnd → (f : Bool) → GoesSome G (fault.Start 1 start_fault.EpochEnd) f [] (to_come (restarted pick)) n n
-  last_some h f = record {
-    later = later_same G n on;
-    after_fused = f;
-    entries = [];
-    journal = sym (append-nil n.journal);
-    recorded = (refl, refl);
-    ends = record { restart = tt; last = sym h.falls.epoch ∙ h.stays.cause.0 };
-  }
 
 -- ---- another vault, and all else as it was
 
@@ -230,8 +223,7 @@ module _ {V : Type 0} (G : Ghosts V) (n m : NodeState V) (on : IsOn G n) (kept :
   pub put_on : IsOn G m
   put_on = record {
     kept = kept;
-    first = ap (λ (z : NodeState V). z.kept.server) rest ∙ on.first;
-    alone = ap (λ (z : NodeState V). G.servers z.opening.vault.value) rest ∙ on.alone;
+    all = ap (λ (z : NodeState V). G.servers z.opening.vault.value) rest ∙ on.all ∙ sym (ap (λ (z : NodeState V). z.kept.servers) rest);
     replies = λ up. subst (λ (z : NodeState V). AreKept z.kept) (sym rest) (on.replies (sym (ap (λ (z : NodeState V). z.kept.is_down) rest) ∙ up));
     answered = λ told. subst (λ (z : NodeState V). Along next IsDone (opened (start_in G z)) z.journal) (sym rest) (on.answered (subst IsTrue same.telling told));
   }
@@ -239,6 +231,8 @@ module _ {V : Type 0} (G : Ghosts V) (n m : NodeState V) (on : IsOn G n) (kept :
   put_later : IsLater G n m
   put_later = record {
     on = put_on;
+    number = ap (λ (z : NodeState V). z.kept.server) rest;
+    count = ap (λ (z : NodeState V). z.kept.servers) rest;
     opening = ap (λ (z : NodeState V). z.opening) rest;
     start = same_start;
     telling = same.telling;
@@ -251,6 +245,7 @@ module _ {V : Type 0} (G : Ghosts V) (n m : NodeState V) (on : IsOn G n) (kept :
   -- where the run stands then
   pub put_stand : (f g : Bool) → stand_of G g m ≡ record (stand_of G f n) { is_fused = g }
   put_stand f g = λ i. record {
+    server = ap (λ (z : NodeState V). z.kept.server) rest i;
     epoch = ap (λ (z : NodeState V). z.kept.epoch) rest i;
     is_down = ap (λ (z : NodeState V). z.kept.is_down) rest i;
     is_fused = g;
@@ -258,14 +253,8 @@ module _ {V : Type 0} (G : Ghosts V) (n m : NodeState V) (on : IsOn G n) (kept :
     state = same_state i;
   }
 
-  pub put_goes : (f g : Bool) (h : Happening) → IsFree G g m → ((tells : Bool) → Happens tells (stand_of G f n) h [] (stand_of G g m)) → Goes G f (h ∷ []) g n m
-  put_goes f g h free is = record {
-    later = put_later;
-    free = free;
-    entries = [];
-    journal = put_journal;
-    recorded = recorded_one (G.tells n.kept.vault) (stand_of G f n) (stand_of G g m) h [] (is (G.tells n.kept.vault));
-  }
+  pub put_goes : (f g tells : Bool) (h : Happening) → IsFree G g m → Happens tells (stand_of G f n) h [] (stand_of G g m) → GoesBy G f g (λ w es v. Happens tells w h es v) n m
+  put_goes f g tells h free is = record { later = put_later; free = free; entries = []; journal = put_journal; made = is }
 
 -- ---- nobody stops it any more
 
@@ -273,8 +262,8 @@ module _ {V : Type 0} (G : Ghosts V) (n m : NodeState V) (on : IsOn G n) (lifted
   pub lifted_on : IsOn G m
   lifted_on = put_on G n m on lifted.kept lifted.same lifted.rest
 
-  pub lifted_goes : (f : Bool) → Goes G f (lifts n.kept.is_down ∷ []) false n m
-  lifted_goes f = put_goes G n m on lifted.kept lifted.same lifted.rest f false (lifts n.kept.is_down) (λ e. lifted.free) (λ tells. (refl, refl, put_stand G n m on lifted.kept lifted.same lifted.rest f false))
+  pub lifted_goes : (f tells : Bool) → GoesBy G f false (λ w es v. Happens tells w (lifts n.kept.is_down) es v) n m
+  lifted_goes f tells = put_goes G n m on lifted.kept lifted.same lifted.rest f false tells (lifts n.kept.is_down) (λ e. lifted.free) (refl, refl, put_stand G n m on lifted.kept lifted.same lifted.rest f false)
 
   pub lifted_down : m.kept.is_down ≡ n.kept.is_down
   lifted_down = ap (λ (z : NodeState V). z.kept.is_down) lifted.rest
@@ -290,8 +279,8 @@ module _ {V : Type 0} (G : Ghosts V) (calls : ℕ) (n m : NodeState V) (on : IsO
   free_then f true down free = λ is. subst (λ (z : NodeState V). G.allowance z.kept.vault ≡ Free) (sym (set.down down)) (free is)
   free_then f false up free = λ is. cc
 
-  pub stop_goes : (f : Bool) → IsFree G f n → Goes G f (stop_set calls ∷ []) (cond n.kept.is_down f true) n m
-  stop_goes f free = put_goes G n m on set.kept set.same set.rest f (cond n.kept.is_down f true) (stop_set calls) (free_then f n.kept.is_down refl free) (λ tells. (refl, put_stand G n m on set.kept set.same set.rest f (cond n.kept.is_down f true)))
+  pub stop_goes : (f tells : Bool) → IsFree G f n → GoesBy G f (cond n.kept.is_down f true) (λ w es v. Happens tells w (stop_set calls) es v) n m
+  stop_goes f tells free = put_goes G n m on set.kept set.same set.rest f (cond n.kept.is_down f true) tells (stop_set calls) (free_then f n.kept.is_down refl free) (refl, put_stand G n m on set.kept set.same set.rest f (cond n.kept.is_down f true))
 
   -- of the count of faults nothing is said then, where it may be stopped
   pub stop_gone : {T : Type 0} (P : Type 0) (x : T) → (P → ⊥) → HasGone {T = T} G P n.kept.vault m.kept.vault (Ok x)

@@ -6,7 +6,7 @@ use Rattle.alp_base.specs.Causes.{Rose}
 use Rattle.alp_base.specs.declared.allowance.Allowance.{Allowance}
 use Rattle.alp_base.specs.declared.allowance.Allowance.TheVariants.{Free}
 use Rattle.alp_files.specs.declared.reply.Reply.{Reply}
-use Rattle.alp_journal.specs.Answered.{is_fault_reply}
+use Rattle.alp_journal.specs.Answered.{is_read_fault}
 use Rattle.alp_journal.specs.Desk.{Session}
 use Rattle.alp_journal.specs.declared.entry.Entry.{Entry}
 use Rattle.alp_journal.specs.declared.event.Event.{Event}
@@ -25,7 +25,7 @@ use Rattle.alp_cluster.specs.declared.fault.RunFault.TheVariants as fault
 use Rattle.alp_cluster.proofs.CalmLemmas.{calm, calm_reply, quiet_now, fault_now, failed_rose, free_goes}
 use Rattle.alp_cluster.proofs.DeskLemmas.{change, kept_all}
 use Rattle.alp_cluster.proofs.GoneLemmas.{stays_free}
-use Rattle.alp_cluster.proofs.StepLemmas.{along_more, kept_server}
+use Rattle.alp_cluster.proofs.StepLemmas.{along_more}
 
 or_false : (a b : Bool) → b ≡ false → (a || b) ≡ a
 or_false true b is = refl
@@ -40,7 +40,7 @@ pub failed_last : (es fs : List Entry) (e : Entry) (place : ℕ) → fs ≡ es +
 failed_last es fs e place is at = (λ i. is_failed_at (slice_get (is i) (at i))) ∙ last_at es e
 
 module _ {V : Type 0} (G : Ghosts V) (n m : NodeState V) (e : Event) (r : Option Reply) (on : IsOn G n) (served : IsServed e) (up : n.kept.is_down ≡ false) (room : HasRoom n)
-    (a : Answered n.kept.server (order_in n.kept e) (G.tells n.kept.vault) (state_of G n) n.journal m.journal e r (G.faults n.kept.vault) (G.faults m.kept.vault) (G.allowance m.kept.vault) m.kept.is_down)
+    (a : Answered (order_in n.kept e) (G.tells n.kept.vault) (state_of G n) n.journal m.journal e r (G.faults n.kept.vault) (G.faults m.kept.vault) (G.allowance m.kept.vault) m.kept.is_down)
     (opening : m.opening ≡ n.opening) (seat : IsSeated G n.kept m.kept) (turned : m.kept.is_down ≡ false → HasTurned (order_in n.kept e) n.kept m.kept e r) (kept : IsConsistent G m) where
   abbrev entry_made : Entry
   entry_made = record { event = e; reply = r; acts = a.acts }
@@ -53,29 +53,28 @@ module _ {V : Type 0} (G : Ghosts V) (n m : NodeState V) (e : Event) (r : Option
 
   -- ---- the device did not fail
 
-  module _ (quiet : is_fault_reply n.kept.server r ≡ false) (whole : list_any is_failure a.acts ≡ false) where
+  module _ (quiet : is_read_fault r ≡ false) (whole : list_any is_failure a.acts ≡ false) where
     not_stopped : m.kept.is_down ≡ true → G.allowance n.kept.vault ≡ Free → ⊥
     not_stopped down free = free_goes (G.faults n.kept.vault) (G.faults m.kept.vault) a.acts (sym a.down ∙ down) whole (causes_free free)
 
     done_now : IsTrue (G.tells n.kept.vault) → IsDone (state_of G n) entry_made
     done_now told =
         let (failed, answered, rose) = a.cause told in
-        (whole, calm failed (state_of G n) e r a.acts served (ap (λ (k : ℕ). is_fault_reply k r) (kept_server G n on.kept told) ∙ quiet) answered)
+        (whole, calm failed (state_of G n) entry_made (λ shows. (rose shows).1) quiet answered)
 
-    kept_now : m.kept.is_down ≡ false → (client : ℕ) (w : Session) → session_at m.kept.sessions client ≡ Some w → IsKeptReply n.kept.server n.kept.epoch w
+    kept_now : m.kept.is_down ≡ false → (client : ℕ) (w : Session) → session_at m.kept.sessions client ≡ Some w → IsKeptReply n.kept.epoch w
     kept_now goes =
-        kept_all n.kept m.kept on.kept.ready.places n.kept.server n.kept.epoch (on.replies up) r refl (calm_reply n.kept.server r quiet)
+        kept_all n.kept m.kept on.kept.ready.places n.kept.epoch (on.replies up) r refl (calm_reply r quiet)
         (change n.kept m.kept e r served kept.ready.clock (turned goes))
 
     replies_now : m.kept.is_down ≡ false → AreKept m.kept
-    replies_now goes client w is = subst (λ (k : ℕ). IsKeptReply k m.kept.epoch w) (sym seat.server) (subst (λ (k : ℕ). IsKeptReply n.kept.server k w) (sym seat.epoch) (kept_now goes client w is))
+    replies_now goes client w is = subst (λ (k : ℕ). IsKeptReply k w) (sym seat.epoch) (kept_now goes client w is)
 
     pub taken : HasStepped G n m e r
     taken = record {
       on = record {
         kept = kept;
-        first = seat.server ∙ on.first;
-        alone = ap (λ (o : Opened V). G.servers o.vault.value) opening ∙ on.alone;
+        all = ap (λ (o : Opened V). G.servers o.vault.value) opening ∙ on.all ∙ sym seat.servers;
         replies = replies_now;
         answered = λ now. (
             let told : IsTrue (G.tells n.kept.vault) = subst IsTrue seat.same.telling now in
@@ -84,6 +83,8 @@ module _ {V : Type 0} (G : Ghosts V) (n m : NodeState V) (e : Event) (r : Option
       };
       up = up;
       room = room;
+      server = seat.server;
+      servers = seat.servers;
       opening = opening;
       start = start_same;
       epoch = seat.epoch;
@@ -93,7 +94,7 @@ module _ {V : Type 0} (G : Ghosts V) (n m : NodeState V) (e : Event) (r : Option
       journal = a.entry;
       down = a.down;
       halts = not_stopped;
-      closes = λ down. (a.halts down).1;
+      closes = a.halts;
       done = done_now;
       turned = turned;
       replies = a.replies;
@@ -103,7 +104,7 @@ module _ {V : Type 0} (G : Ghosts V) (n m : NodeState V) (e : Event) (r : Option
     still_counted : G.allowance n.kept.vault ≡ Free → (b : Bool) → m.kept.is_down ≡ b → G.faults m.kept.vault ≡ G.faults n.kept.vault
     still_counted free true down = absurd (not_stopped down free)
     still_counted free false goes =
-        a.still (or_false (is_fault_now n.kept.server (order_in n.kept e) r) m.kept.is_down goes ∙ quiet_now n.kept.server (order_in n.kept e) r quiet)
+        a.still (or_false (is_fault_now (order_in n.kept e) r) m.kept.is_down goes ∙ quiet_now (order_in n.kept e) r quiet)
 
     pub taken_gone : {T : Type 0} (P : Type 0) (x : T) → HasGone {T = T} G P n.kept.vault m.kept.vault (Ok x)
     taken_gone P x = record {
@@ -117,22 +118,22 @@ module _ {V : Type 0} (G : Ghosts V) (n m : NodeState V) (e : Event) (r : Option
 
   -- ---- the device failed
 
-  told_rose : (b : Bool) → m.kept.is_down ≡ b → is_fault_reply n.kept.server r ≡ true → Rose (G.faults n.kept.vault) (G.faults m.kept.vault)
-  told_rose true down shows = (let wrong : true ≡ false = sym shows ∙ ap (is_fault_reply n.kept.server) (a.halts down).1 in cc)
+  told_rose : (b : Bool) → m.kept.is_down ≡ b → is_read_fault r ≡ true → Rose (G.faults n.kept.vault) (G.faults m.kept.vault)
+  told_rose true down shows = (let wrong : true ≡ false = sym shows ∙ ap is_read_fault (a.halts down) in cc)
   told_rose false goes shows = a.told (fault_now n.kept m.kept (on.replies up) (order_in n.kept e) e r (turned goes) shows)
 
-  rose_by : (is_fault_reply n.kept.server r ≡ true) ⊎ (list_any is_failure a.acts ≡ true) → Rose (G.faults n.kept.vault) (G.faults m.kept.vault)
+  rose_by : (is_read_fault r ≡ true) ⊎ (list_any is_failure a.acts ≡ true) → Rose (G.faults n.kept.vault) (G.faults m.kept.vault)
   rose_by (inl shows) = told_rose m.kept.is_down refl shows
   rose_by (inr failed) = failed_rose (G.faults n.kept.vault) (G.faults m.kept.vault) (G.allowance m.kept.vault) a.acts failed a.causes
 
-  pub failed_gone : {T : Type 0} (P : Type 0) (server : ℕ) → server ≡ n.kept.server → (is_fault_reply n.kept.server r ≡ true) ⊎ (list_any is_failure a.acts ≡ true) → HasGone {T = T} G P n.kept.vault m.kept.vault (Err (fault.DiskFault server))
+  pub failed_gone : {T : Type 0} (P : Type 0) (server : ℕ) → server ≡ n.kept.server → (is_read_fault r ≡ true) ⊎ (list_any is_failure a.acts ≡ true) → HasGone {T = T} G P n.kept.vault m.kept.vault (Err (fault.DiskFault server))
   failed_gone {T = T} P server is shows = record {
     same = seat.same;
     later = a.later;
-    failed = (is ∙ on.first, rose_by shows);
+    failed = (is ∙ sym on.kept.number, λ here. rose_by shows);
     told = λ e. tt;
     free = λ p free. stays_free (G.allowance n.kept.vault) (G.allowance m.kept.vault) seat.spends free;
-    counted = λ p free. rose_by shows;
+    counted = λ p free. ((λ here. rose_by shows), (λ away. absurd (away (is ∙ sym on.kept.number))));
   }
 
 -- memory was wanting

@@ -10,7 +10,7 @@ use Rattle.alp_session.specs.Frames.{told_by}
 use Rattle.alp_vault.specs.declared.vault.Vault.{Ghosts}
 use Rattle.alp_node.specs.NodeStates.{NodeState}
 use Rattle.alp_node.specs.Served.{IsServed}
-use Rattle.alp_cluster.specs.Happens.{handed_for}
+use Rattle.alp_course.specs.Happens.{handed_for}
 use Rattle.alp_cluster.specs.Servers.{Steps}
 use Rattle.alp_cluster.specs.declared.exchange.Handed.{Handed}
 

@@ -1,11 +1,9 @@
--- A run that has played some lines of a script, and its server at the end.
-use Rattle.std.specs.Prelude.{◌≡◌, ℕ, ◌*◌, ◌<◌, ◌≤◌, ◌^◌, Bool, false, true, IsTrue, List, length, map as list_map, Vec}
+-- A run that has played some lines of a script, and its servers at the end.
+use Rattle.std.specs.Prelude.{◌≡◌, ◌⊎◌, ℕ, ◌*◌, ◌<◌, ◌≤◌, ◌^◌, Bool, false, true, IsTrue, List, [], ◌∷◌, ◌++◌, length, map as list_map, Option, None, Vec}
 use Rattle.std.specs.Global.{Global}
 use Rattle.std.specs.List.{AllByRecursion}
 use Rattle.alp_base.specs.declared.ids.TransId.{TransId}
 use Rattle.alp_journal.specs.declared.log.Item.{Item}
-use Rattle.alp_node.specs.Nodes.{start_in}
-use Rattle.alp_node.specs.NodeStates.{NodeState}
 use Rattle.alp_lines.specs.declared.line.Line.{Line}
 use Rattle.alp_lines.specs.declared.line.Line.TheVariants as line
 use Rattle.alp_script.specs.declared.numbered.NumberedLine.{NumberedLine}
@@ -13,91 +11,118 @@ use Rattle.alp_session.specs.Crowd.{Crowd}
 use Rattle.alp_session.specs.Crowds.{new_crowd, client_at}
 use Rattle.alp_history.specs.RunLogs.{item_of}
 use Rattle.alp_vault.specs.declared.vault.Vault.{Ghosts}
-use Rattle.alp_cluster.specs.Turns.{Turn, lists_in, own_in, turns_text}
-use Rattle.alp_cluster.specs.Goes.{Goes, GoesSome}
-use Rattle.alp_cluster.specs.Happens.{Happening, first_stand, AreRecorded}
-use Rattle.alp_cluster.specs.Plays.{Due, Plays, ArePlayed, IsSettling, IsBegun}
-use Rattle.alp_cluster.specs.Fills.{HasStopped}
-use Rattle.alp_cluster.specs.Rests.{IsGone, RestsAgain}
-use Rattle.alp_cluster.specs.Servers.{IsOn, IsFree, stand_of}
-use Rattle.alp_cluster.specs.Steps.{InStep, HasSaid}
+use Rattle.alp_course.specs.Courses.{Course, Occurrence, seat_at, AreCourse}
+use Rattle.alp_course.specs.Links.{IsFirst}
+use Rattle.alp_course.specs.Plays.{Due, sent_of, IsCut, Plays, BeginsLine, ArePlayed}
+use Rattle.alp_course.specs.Settles.{IsSettling, AreUp, AreTaken}
+use Rattle.alp_course.specs.Turns.{Turn, lists_in, own_in, sent_in, turns_text}
+use Rattle.alp_cluster.specs.Clients.{InStep, HasSaid}
+use Rattle.alp_cluster.specs.Fills.{IsEndFor}
+use Rattle.alp_cluster.specs.Stations.{AreOn, EndsFor, course_of, openings_of, state_at}
 use Rattle.alp_cluster.specs.declared.fault.RunFault.{RunFault}
+use Rattle.alp_cluster.specs.declared.stations.Stations.{Stations}
 
 -- ---- stops
 
--- a line that lets the disk be stopped
+-- a line that lets a disk be stopped
 abbrev pub is_stop_line : Line → Bool
 is_stop_line (line.Stop server calls) = true
 is_stop_line l = false
 
--- a line by which the server may start again
-abbrev pub restarts : Line → Bool
-restarts (line.Restart server pick) = true
-restarts line.Settle = true
-restarts l = false
+-- a line by which something happens at one server, or all is settled
+abbrev pub happens_at_once : Line → Bool
+happens_at_once (line.Timeout server client) = true
+happens_at_once (line.Tick server) = true
+happens_at_once (line.Force server) = true
+happens_at_once (line.Stop server calls) = true
+happens_at_once (line.Restart server pick) = true
+happens_at_once line.Settle = true
+happens_at_once l = false
 
--- none of the lines lets the disk be stopped
+-- none of the lines lets a disk be stopped
 abbrev pub StopNone : List NumberedLine → Type 0
 StopNone ls = AllByRecursion (λ (l : NumberedLine). is_stop_line l.line ≡ false) ls
 
 -- ---- the lines
 
--- the lines so far, played on a server that did nothing before
-pub record HasPlayed {V : Type 0} (G : Ghosts V) (lines : List NumberedLine) (c : Crowd) (n : NodeState V) (vs : List (Vec Item Global)) (printed : List ℕ) : Type 0 where
-  pub step : InStep G c n
-  pub is_fused : Bool
-  pub free : IsFree G is_fused n
+-- where a run began, and what occurred in it since
+pub record Ran {V : Type 0} (G : Ghosts V) (hs : List Occurrence) (now : Stations V) : Type 0 where
+  pub first : Course
+  pub is_first : IsFirst first
+  pub course : AreCourse first hs (course_of G now)
+
+-- the lines so far, played on servers that did nothing before
+pub record HasPlayed {V : Type 0} (G : Ghosts V) (servers : ℕ) (lines : List NumberedLine) (c : Crowd) (s : Stations V) (vs : List (Vec Item Global)) (printed : List ℕ) : Type 0 where
+  pub step : InStep G c s
+  pub count : length s.all.items ≡ servers
   pub turns : List Turn
-  pub happened : List Happening
-  pub plays : Plays new_crowd lines turns happened c
+  pub happened : List Occurrence
+  pub plays : Plays servers new_crowd lines turns happened c
   pub places : length vs ≡ 17
   pub lists : (k : ℕ) → lists_in vs k ≡ own_in k turns
   pub few : (k : ℕ) → length (own_in k turns) ≤ 5 * length lines
-  pub said : length lines < 2 ^ 29 → (k : ℕ) → HasSaid n.kept k (client_at c k) (list_map item_of (own_in k turns))
+  pub said : length lines < 2 ^ 29 → (k : ℕ) → HasSaid (state_at s) k (client_at c k) (list_map item_of (own_in k turns))
   pub text : printed ≡ turns_text turns
-  pub recorded : AreRecorded (G.tells n.kept.vault) (first_stand (start_in G n)) happened n.journal (stand_of G is_fused n)
-
--- ---- coming to rest
-
--- All that a settling is happened: the server is up, nobody stops it, and no transaction is live. Where it was down it started again with
--- pick 0.
-pub record HasSettled {V : Type 0} (G : Ghosts V) (is_fused : Bool) (before after : NodeState V) : Type 0 where
-  pub up : after.kept.is_down ≡ false
-  pub hs : List Happening
-  pub settles : IsSettling hs
-  pub goes : Goes G is_fused hs false before after
-  pub rests : IsTrue (G.tells after.kept.vault) → (t : TransId) → IsGone G after t
-  pub crash : before.kept.is_down ≡ true → RestsAgain G before after
-
--- some of it did, and the rest could not come for that fault
-pub record SettlesSome {V : Type 0} (G : Ghosts V) (f : RunFault) (is_fused : Bool) (before after : NodeState V) : Type 0 where
-  pub hs : List Happening
-  pub due : Due
-  pub begins : IsBegun IsSettling hs due
-  pub goes : GoesSome G f is_fused hs due before after
+  pub ran : Ran G happened s
 
 -- ---- all of it
 
--- all lines were played on a server that did nothing before, and then it came to rest
-pub record HasPlayedOut {V : Type 0} (G : Ghosts V) (lines : List NumberedLine) (last : NodeState V) (vs : List (Vec Item Global)) (printed : List ℕ) : Type 0 where
-  pub on : IsOn G last
-  pub up : last.kept.is_down ≡ false
-  pub free : IsFree G false last
+-- All lines were played on servers that did nothing before, and then the run was settled: each server is up, nobody stops its disk, and no message
+-- to another one is left. Where it is the only one, no transaction is live there.
+pub record HasPlayedOut {V : Type 0} (G : Ghosts V) (servers : ℕ) (lines : List NumberedLine) (last : Stations V) (vs : List (Vec Item Global)) (printed : List ℕ) : Type 0 where
+  pub on : AreOn G last
+  pub count : length last.all.items ≡ servers
+  pub up : AreUp (course_of G last)
+  pub taken : AreTaken (course_of G last)
+  pub rests : servers ≡ 1 → IsTrue (seat_at (course_of G last) 1).tells → (t : TransId) → (seat_at (course_of G last) 1).stand.state.holder.lives t ≡ None
   pub turns : List Turn
-  pub hs : List Happening
-  pub played : ArePlayed lines turns hs
+  pub hs : List Occurrence
+  pub played : ArePlayed servers lines turns hs
   pub places : length vs ≡ 17
   pub lists : (k : ℕ) → lists_in vs k ≡ own_in k turns
-  pub said : (k : ℕ) → HasSaid last.kept k (client_at played.clients k) (list_map item_of (own_in k turns))
+  pub said : (k : ℕ) → HasSaid (state_at last) k (client_at played.clients k) (list_map item_of (own_in k turns))
   pub text : printed ≡ turns_text turns
-  pub recorded : AreRecorded (G.tells last.kept.vault) (first_stand (start_in G last)) hs last.journal (stand_of G false last)
-  pub rests : IsTrue (G.tells last.kept.vault) → (t : TransId) → IsGone G last t
+  pub ran : Ran G hs last
 
--- the run ended before, for that fault, and this is what was played by then
-pub record HasEndedEarly {V : Type 0} (G : Ghosts V) (lines : List NumberedLine) (f : RunFault) (last : NodeState V) : Type 0 where
-  pub on : IsOn G last
+-- the lines before this one were played, and this one was not over
+pub record StopsInLine (servers : ℕ) (lines : List NumberedLine) (turns : List Turn) (hs : List Occurrence) (due : Due) : Type 0 where
+  pub before : List NumberedLine
+  pub line : NumberedLine
+  pub later : List NumberedLine
+  pub are : lines ≡ before ++ line ∷ later
+  pub whole : List Turn
+  pub happened_before : List Occurrence
+  pub own : List Turn
+  pub happened_now : List Occurrence
+  pub clients : Crowd
+  pub known : Crowd
+  pub turns_are : turns ≡ whole ++ own
+  pub happened_are : hs ≡ happened_before ++ happened_now
+  pub plays : Plays servers new_crowd before whole happened_before clients
+  pub begins : BeginsLine servers clients line own happened_now due known
+
+-- all lines were played, and the settling behind them was not over
+pub record StopsBehindLines (servers : ℕ) (lines : List NumberedLine) (turns : List Turn) (hs : List Occurrence) (due : Due) : Type 0 where
+  pub clients : Crowd
+  pub happened_before : List Occurrence
+  pub happened_now : List Occurrence
+  pub happened_are : hs ≡ happened_before ++ happened_now
+  pub plays : Plays servers new_crowd lines turns happened_before clients
+  pub settles : IsCut (IsSettling servers) happened_now due
+
+-- The run ended before, for that fault, and this is what was played by then: the servers stood so, and there was more to come, for which
+-- that is no way. These are left.
+pub record HasEndedEarly {V : Type 0} (G : Ghosts V) (servers : ℕ) (lines : List NumberedLine) (f : RunFault) (left : Stations V) : Type 0 where
+  pub last : Stations V
+  pub on : AreOn G last
+  pub count : length last.all.items ≡ servers
   pub clients : Crowd
   pub turns : List Turn
-  pub said : (k : ℕ) → HasSaid last.kept k (client_at clients k) (list_map item_of (own_in k turns))
-  pub stopped : HasStopped (G.tells last.kept.vault) lines (start_in G last) last.journal turns f
-  pub stands : stopped.last.is_down ≡ last.kept.is_down
+  pub said : (k : ℕ) → HasSaid (state_at last) k (client_at clients k) (list_map item_of (own_in k turns))
+  pub hs : List Occurrence
+  pub due : Due
+  pub sent : sent_of hs ≡ sent_in turns
+  pub ran : Ran G hs last
+  pub next_was : StopsInLine servers lines turns hs due ⊎ StopsBehindLines servers lines turns hs due
+  pub ends : IsEndFor f (course_of G last) due
+  pub ended : EndsFor G f last left

@@ -1,4 +1,4 @@
--- The server of a run: server 1, alone, up or down, on a disk that lines may stop.
+-- A server of a run, up or down, on a disk that lines may stop.
 use Rattle.std.specs.Prelude.{◌≡◌, ◌≢◌, ℕ, ◌≤◌, ◌||◌, Bool, true, false, IsTrue, List, [], ◌∷◌, ◌++◌, length, Option, None, Some, is_some, Result, Ok, Err}
 use Rattle.std.specs.List.{list_any}
 use Rattle.alp_base.specs.Causes.{Rose}
@@ -19,7 +19,7 @@ use Rattle.alp_journal.specs.declared.event.Event.{Event}
 use Rattle.alp_journal.specs.declared.event.Event.TheVariants as event
 use Rattle.alp_base.specs.declared.ids.TransId.{TransId}
 use Rattle.alp_journal.specs.Moves.{next, stops}
-use Rattle.alp_journal.specs.Answered.{IsAnsweredEntry, is_fault_reply}
+use Rattle.alp_journal.specs.Answered.{IsAnsweredEntry, is_read_fault}
 use Rattle.alp_journal.specs.Desk.{Session}
 use Rattle.alp_rpc.specs.Replies.{IsSendable}
 use Rattle.alp_node.specs.Nodes as node
@@ -33,7 +33,7 @@ use Rattle.alp_node.specs.Turns.{HasTurned}
 use Rattle.alp_node.specs.declared.server_state.ServerState.{ServerState}
 use Rattle.alp_node.specs.declared.start.StartFault.{StartFault}
 use Rattle.alp_node.specs.declared.start.StartFault.TheVariants as start_fault
-use Rattle.alp_cluster.specs.Happens.{Stand}
+use Rattle.alp_course.specs.Happens.{Stand}
 use Rattle.alp_cluster.specs.Fills.{OnEnd}
 use Rattle.alp_cluster.specs.declared.fault.RunFault.{RunFault}
 use Rattle.alp_cluster.specs.declared.fault.RunFault.TheVariants as fault
@@ -44,7 +44,7 @@ state_of G n = node.state_of (start_in G n) n.journal
 
 -- where its run stands, on a disk that may be stopped, or not
 abbrev pub stand_of : {V : Type 0} → Ghosts V → Bool → NodeState V → Stand
-stand_of G is_fused n = record { epoch = n.kept.epoch; is_down = n.kept.is_down; is_fused = is_fused; place = length n.journal; state = state_of G n }
+stand_of G is_fused n = record { server = n.kept.server; epoch = n.kept.epoch; is_down = n.kept.is_down; is_fused = is_fused; place = length n.journal; state = state_of G n }
 
 -- a disk that no line lets be stopped passes all calls
 abbrev pub IsFree : {V : Type 0} → Ghosts V → Bool → NodeState V → Type 0
@@ -70,23 +70,22 @@ IsDone s e = (fails e ≡ false) × IsAnsweredEntry false s e
 
 -- It has a frame, and so a repeat may be answered. It does not say that a read failed: the first such reply ends the run. That to
 -- the greeting is the welcome of this epoch.
-pub record IsKeptReply (here epoch : ℕ) (w : Session) : Type 0 where
+pub record IsKeptReply (epoch : ℕ) (w : Session) : Type 0 where
   pub sendable : IsSendable w.reply
-  pub calm : is_fault_reply here (Some w.reply) ≡ false
+  pub calm : is_read_fault (Some w.reply) ≡ false
   pub counted : 1 ≤ w.last
   pub greeting : w.last ≡ 1 → w.reply ≡ reply.Welcome epoch
 
 -- of each session, while the server is up: one that is down answers nothing else
 abbrev pub AreKept : {V : Type 0} → ServerState V → Type 0
-AreKept k = (client : ℕ) (w : Session) → session_at k.sessions client ≡ Some w → IsKeptReply k.server k.epoch w
+AreKept k = (client : ℕ) (w : Session) → session_at k.sessions client ≡ Some w → IsKeptReply k.epoch w
 
 -- ---- a server of a run
 
 -- It is what its journal says; where its vault tells what it holds, its device did not fail in any entry.
 pub record IsOn {V : Type 0} (G : Ghosts V) (n : NodeState V) : Type 0 where
   pub kept : IsConsistent G n
-  pub first : n.kept.server ≡ 1
-  pub alone : G.servers n.opening.vault.value ≡ 1
+  pub all : G.servers n.opening.vault.value ≡ n.kept.servers
   pub replies : n.kept.is_down ≡ false → AreKept n.kept
   pub answered : IsTrue (G.tells n.kept.vault) → Along next IsDone (opened (start_in G n)) n.journal
 
@@ -112,16 +111,16 @@ AreCountedAt (start_fault.Vault f) before now = AreCountedFor f before now
 AreCountedAt start_fault.EpochEnd before now = now ≡ before
 AreCountedAt start_fault.BadNote before now = now ≡ before
 
--- a fault of a run
-abbrev pub AreCounted : RunFault → ℕ → ℕ → Type 0
-AreCounted (fault.DiskFault server) before now = Rose before now
-AreCounted fault.OutOfMemory before now = now ≡ before
-AreCounted fault.JournalFull before now = now ≡ before
-AreCounted (fault.Start server f) before now = AreCountedAt f before now
+-- a fault of a run, at the server of this number
+abbrev pub AreCounted : ℕ → RunFault → ℕ → ℕ → Type 0
+AreCounted here (fault.DiskFault server) before now = (server ≡ here → Rose before now) × (server ≢ here → now ≡ before)
+AreCounted here fault.OutOfMemory before now = now ≡ before
+AreCounted here fault.JournalFull before now = now ≡ before
+AreCounted here (fault.Start server f) before now = (server ≡ here → AreCountedAt f before now) × (server ≢ here → now ≡ before)
 
-abbrev pub AreCountedIn : {T : Type 0} → Result T RunFault → ℕ → ℕ → Type 0
-AreCountedIn (Ok x) before now = now ≡ before
-AreCountedIn (Err f) before now = AreCounted f before now
+abbrev pub AreCountedIn : {T : Type 0} → ℕ → Result T RunFault → ℕ → ℕ → Type 0
+AreCountedIn here (Ok x) before now = now ≡ before
+AreCountedIn here (Err f) before now = AreCounted here f before now
 
 -- the device failed, where that is the fault; one that is started again is not stopped
 abbrev pub IsFailureAt : StartFault → ℕ → ℕ → Type 0
@@ -129,11 +128,12 @@ IsFailureAt (start_fault.Vault vault_fault.Failed) before now = Rose before now
 IsFailureAt (start_fault.Vault vault_fault.Stopped) before now = ⊥
 IsFailureAt f before now = Unit {0}
 
-abbrev pub IsFailure : {T : Type 0} → Result T RunFault → ℕ → ℕ → Type 0
-IsFailure (Ok x) before now = Unit {0}
-IsFailure (Err (fault.DiskFault server)) before now = (server ≡ 1) × Rose before now
-IsFailure (Err (fault.Start server f)) before now = (server ≡ 1) × IsFailureAt f before now
-IsFailure (Err f) before now = Unit {0}
+-- a fault names a server that may be named, and where it is this one its device failed
+abbrev pub IsFailure : {T : Type 0} → (ℕ → Type 0) → ℕ → Result T RunFault → ℕ → ℕ → Type 0
+IsFailure N here (Ok x) before now = Unit {0}
+IsFailure N here (Err (fault.DiskFault server)) before now = N server × (server ≡ here → Rose before now)
+IsFailure N here (Err (fault.Start server f)) before now = N server × (server ≡ here → IsFailureAt f before now)
+IsFailure N here (Err f) before now = Unit {0}
 
 -- a vault that tells what it holds is found to be a volume in its format, as it is started again
 abbrev pub IsOfVolumeAt : StartFault → Type 0
@@ -142,20 +142,25 @@ IsOfVolumeAt (start_fault.Vault (vault_fault.Damaged place)) = ⊥
 IsOfVolumeAt start_fault.BadNote = ⊥
 IsOfVolumeAt f = Unit {0}
 
-abbrev pub IsToldFault : {T : Type 0} → Result T RunFault → Type 0
-IsToldFault (Err (fault.Start server f)) = IsOfVolumeAt f
-IsToldFault r = Unit {0}
+abbrev pub IsToldFault : {T : Type 0} → ℕ → Result T RunFault → Type 0
+IsToldFault here (Err (fault.Start server f)) = server ≡ here → IsOfVolumeAt f
+IsToldFault here r = Unit {0}
 
 -- What a call leaves of the vault of a server, whether it went well or not: it is the vault that it was, and its count of faults
--- did not fall. It rose where the device failed. Where nobody stopped it before, and this holds, nobody stops it, and the count
--- stays where the call went well, memory was wanting, the journal was full, the epochs are used up or the notes are at fault.
-pub record HasGone {V T : Type 0} (G : Ghosts V) (P : Type 0) (old new : V) (result : Result T RunFault) : Type 0 where
+-- did not fall. It rose where its device failed; a fault names one of the servers that may be named. Where nobody stopped it before,
+-- and this holds, nobody stops it, and the count stays where the call went well, memory was wanting, the journal was full, the epochs
+-- are used up, the notes are at fault or the fault is of another server.
+pub record HasGoneBy {V T : Type 0} (G : Ghosts V) (N : ℕ → Type 0) (P : Type 0) (old new : V) (result : Result T RunFault) : Type 0 where
   pub same : IsSameVault G.tells G.volume G.server G.servers old new
   pub later : G.faults old ≤ G.faults new
-  pub failed : IsFailure result (G.faults old) (G.faults new)
-  pub told : IsTrue (G.tells old) → IsToldFault result
+  pub failed : IsFailure N (G.server old) result (G.faults old) (G.faults new)
+  pub told : IsTrue (G.tells old) → IsToldFault (G.server old) result
   pub free : P → G.allowance old ≡ Free → G.allowance new ≡ Free
-  pub counted : P → G.allowance old ≡ Free → AreCountedIn result (G.faults old) (G.faults new)
+  pub counted : P → G.allowance old ≡ Free → AreCountedIn (G.server old) result (G.faults old) (G.faults new)
+
+-- and where a fault names this server alone
+abbrev pub HasGone : {V T : Type 0} → Ghosts V → Type 0 → (old new : V) → Result T RunFault → Type 0
+HasGone G P old new result = HasGoneBy G (λ server. server ≡ G.server old) P old new result
 
 -- ---- one step
 
@@ -181,6 +186,8 @@ pub record HasStepped {V : Type 0} (G : Ghosts V) (old new : NodeState V) (e : E
   pub on : IsOn G new
   pub up : old.kept.is_down ≡ false
   pub room : HasRoom old
+  pub server : new.kept.server ≡ old.kept.server
+  pub servers : new.kept.servers ≡ old.kept.servers
   pub opening : new.opening ≡ old.opening
   pub start : start_in G new ≡ start_in G old
   pub epoch : new.kept.epoch ≡ old.kept.epoch

@@ -1,12 +1,11 @@
 //! The server's side of an exchange: from the bytes of a frame to the bytes of its reply.
 ghost use Rattle.std.specs.Prelude.{◌≡◌, ◌≤◌, ◌<◌, ◌^◌, false, IfOk, IfSome, IsSome};
 ghost use Rattle.alp_fields.specs.Forms.{whole};
-ghost use Rattle.alp_journal.specs.declared.log.Item.{Item as AnItem};
 ghost use Rattle.alp_rpc.specs.Frames.{request as request_form, IsHead, IsSendable as IsSendableRequest};
 ghost use Rattle.alp_rpc.specs.Replies.{IsSendable};
 ghost use Rattle.alp_session.specs.Frames.{told_by};
 ghost use Rattle.alp_cluster.specs.Exchanges.{IsAsked, IsTurnedAway, IsHanded, place_for};
-ghost use Rattle.alp_cluster.specs.Happens.{handed_for};
+ghost use Rattle.alp_course.specs.Happens.{handed_for};
 ghost use Rattle.alp_cluster.specs.Servers.{IsOn, HasGone, HasNoRoom, OnFull};
 
 use crate::fault::RunFault;
@@ -18,9 +17,6 @@ use alp_node::Node;
 use alp_rpc::{ReplyFrame, Request, decode_request, encode_reply};
 use alp_vault::Vault;
 use std::alloc::Global;
-
-/// The server of a run at this stage.
-pub const SERVER: u8 = 1;
 
 /// What a frame said to the server, and what the server answered, as a value and as bytes: nothing is silence.
 #[derive(Drop)]
@@ -34,8 +30,8 @@ pub(crate) struct Handed {
 
 impl Handed {
     /// The item of the line that sent the frame.
-    pub(crate) fn item(self, line: u32, mark: Mark) -> Item
-        ensures { result ≡ record { line = line; server = 1; mark = mark; sent = self.sent; reply = self.reply; place = self.place } }
+    pub(crate) fn item(self, line: u32, server: u8, mark: Mark) -> Item
+        ensures { result ≡ record { line = line; server = server; mark = mark; sent = self.sent; reply = self.reply; place = self.place } }
     {
         let Handed {
             sent,
@@ -45,7 +41,7 @@ impl Handed {
         } = self;
         Item {
             line,
-            server: SERVER,
+            server,
             mark,
             sent,
             reply,
@@ -161,7 +157,7 @@ fn refuse<V: Vault>(
     })
 }
 
-/// The server is handed the frame of a client and hands back its reply: the bytes are read, the server takes its step, or says that
+/// A server is handed the frame of a client and hands back its reply: the bytes are read, the server takes its step, or says that
 /// it is down, and the reply is spelled.
 pub(crate) fn hand<V: Vault>(
     alloc: Global,

@@ -1,18 +1,20 @@
-//! Plays the lines of a script on a server: the clients' calls, the exchange of frames, timeouts, stops and restarts.
+//! Plays the lines of a script on its servers: the clients' calls, the exchange of frames, messages, timeouts, stops and restarts.
 #![tactic(auto)]
 
+mod carrying;
 mod cluster;
 mod exchange;
 mod fault;
 mod parties;
-mod ranking;
 mod restarts;
-mod settle;
-mod standing;
+mod server;
+mod settling;
+mod station;
+mod stations;
 mod step;
 
-pub use cluster::{Cluster, Server};
-pub use exchange::SERVER;
+pub use cluster::Cluster;
 pub use fault::RunFault;
-pub use ranking::ranks;
+pub use server::Server;
+pub use station::Station;
 pub use step::JOURNAL_ENTRIES_MOST;

@@ -1,42 +1,42 @@
-//! The parties of a run: its server, and the clients of the script. They exchange frames.
-ghost use Rattle.std.specs.Prelude.{◌≡◌, ◌≤◌, [], ◌∷◌, ◌++◌, List, ℕ, OnOk, IfOk, IfSome, IsSome, Option, None, Some, length, Bool, false};
+//! The parties of a run: its servers, and the clients of the script. They exchange frames.
+ghost use Rattle.std.specs.Prelude.{◌≡◌, ◌≤◌, [], ◌∷◌, ◌++◌, List, ℕ, OnOk, IfOk, IfSome, Option, Some, None, length, true, false};
 ghost use Rattle.alp_base.specs.declared.ids.TransId.{TransId as ATrans};
-ghost use Rattle.alp_fields.specs.Forms.{whole};
 ghost use Rattle.alp_journal.specs.declared.log.Item.{Item as AnItem};
 ghost use Rattle.alp_lines.specs.Forms.{IsForm};
 ghost use Rattle.alp_lines.specs.Named.{client_named};
-ghost use Rattle.alp_node.specs.Served.{IsServed};
 ghost use Rattle.alp_rpc.specs.Frames.{request};
+ghost use Rattle.alp_script.specs.Order.{names_ours};
 ghost use Rattle.alp_session.specs.Ahead.{ahead, IsOnItsWay};
 ghost use Rattle.alp_session.specs.Crowd.{Crowd};
 ghost use Rattle.alp_session.specs.Crowds.{client_at, request_next, times_out, asks};
 ghost use Rattle.alp_session.specs.Frames.{mark_of as mark_said};
 ghost use Rattle.alp_session.specs.declared.waiting.Next.TheVariants as next;
-ghost use Rattle.alp_cluster.specs.declared.fault.RunFault.TheVariants as run_fault;
-ghost use Rattle.alp_cluster.specs.Plays.{trans_of};
-ghost use Rattle.alp_cluster.specs.Runs.{is_stop_line, restarts};
-ghost use Rattle.alp_cluster.specs.Servers.{IsOn, IsFree, HasGone, HasTimed, HasComeTo, HasStopSet, HasNoRoom, OnFull};
-ghost use Rattle.alp_cluster.specs.Steps.{InStep, IsOwnNext, Exchanged, Did, DidSome, AddsEvents, AddsSomeEvents};
-ghost use Rattle.alp_cluster.specs.Turns.{turns_text};
+ghost use Rattle.alp_course.specs.Languages.{Just};
+ghost use Rattle.alp_course.specs.Plays.{CarriesAt, GivesLine, timeouts_due};
+ghost use Rattle.alp_course.specs.Carries.{CarriesIf};
+ghost use Rattle.alp_course.specs.Turns.{turns_text};
+ghost use Rattle.alp_cluster.specs.Clients.{InStep};
+ghost use Rattle.alp_cluster.specs.Fills.{OnEnd};
+ghost use Rattle.alp_cluster.specs.Runs.{is_stop_line, happens_at_once};
+ghost use Rattle.alp_cluster.specs.Stations.{AreOn, Did, DidSome, HaveGone};
+ghost use Rattle.alp_cluster.specs.Steps.{IsOwnNext, Exchanged, DidLine, DidOfLine, ExchangesNone, AddsEvents, AddsSomeEvents};
 
-use crate::exchange::{SERVER, hand};
 use crate::fault::RunFault;
-use crate::step::step;
+use crate::stations::Stations;
 use alp_base::TransId;
 use alp_journal::{Event, Item, Mark};
 use alp_lines::Line;
-use alp_node::Node;
 use alp_report::put_line;
 use alp_script::NumberedLine;
 use alp_session::{Addressed, Clients, Next};
 use alp_vault::Vault;
 use std::alloc::Global;
 
-/// The server of a run, and its clients.
+/// The servers of a run, and its clients.
 #[derive(Drop)]
 pub(crate) struct Parties<V: Vault> {
     pub(crate) alloc: Global,
-    pub(crate) node: Node<V>,
+    pub(crate) stations: Stations<V>,
     pub(crate) clients: Clients,
 }
 
@@ -51,43 +51,21 @@ fn mark_of(line: &Line) -> Mark
     }
 }
 
-// The transaction of what is due at a server: a run of one server has no other.
-fn trans_due(due: Option<(u8, TransId)>) -> Option<TransId>
-    ensures { result ≡ trans_of due }
-{
-    match due {
-        Some((_, trans)) => Some(trans),
-        None => None,
-    }
-}
-
-/// The transaction times out, if it is one.
-pub(crate) fn time_out<V: Vault>(node: &mut Node<V>, trans: Option<TransId>) -> Result<(), RunFault>
-    requires on { IsOn V.Vault node.old }
-    ensures gone { HasGone V.Vault (Unit {0}) node.old.kept.vault node.new.kept.vault result }
-    ensures filled { OnFull result (IsSome trans × HasNoRoom node.old node.new) }
-    ensures timed { OnOk result (HasTimed V.Vault node.old node.new trans) }
-{
-    let Some(trans) = trans else {
-        return Ok(());
-    };
-    step(node, Event::Timeout { trans })?;
-    Ok(())
-}
-
-/// The server comes to an event that is no call.
-pub(crate) fn happen<V: Vault>(node: &mut Node<V>, event: Event) -> Result<(), RunFault>
-    requires on { IsOn V.Vault node.old }
-    requires served { IsServed event }
-    ensures gone { HasGone V.Vault (Unit {0}) node.old.kept.vault node.new.kept.vault result }
-    ensures filled { OnFull result (HasNoRoom node.old node.new) }
-    ensures steps { OnOk result (HasComeTo V.Vault node.old node.new event) }
-{
-    step(node, event)?;
-    Ok(())
-}
-
 impl<V: Vault> Parties<V> {
+    // Before a collect of a line messages are carried, where they are carried by themselves.
+    fn carry_before(&mut self, next: Next) -> Result<(), RunFault>
+        requires on { AreOn V.Vault self.old.stations }
+        ensures gone { HaveGone V.Vault (Unit {0}) self.old.stations self.new.stations result }
+        ensures did { OnOk result (Did V.Vault (CarriesAt (length self.old.stations.all.items) self.old.clients next) self.old.stations self.new.stations) }
+        ensures ended { OnEnd result (λ f. DidSome V.Vault (CarriesAt (length self.old.stations.all.items) self.old.clients next) f self.old.stations self.new.stations) }
+        ensures clients { self.new.clients ≡ self.old.clients }
+    {
+        match next {
+            Next::Collect => self.stations.carry_if(self.clients.carries()),
+            _ => Ok(()),
+        }
+    }
+
     // A client sends a frame for its line, and hears the reply: one item more. Gives what it does next for the line.
     fn send(
         &mut self,
@@ -98,43 +76,50 @@ impl<V: Vault> Parties<V> {
         frame: Addressed,
     ) -> Result<Next, RunFault>
         requires client { (1 ≤ client) × (client ≤ 16) }
-        requires step { InStep V.Vault self.old.clients self.old.node }
+        requires step { InStep V.Vault self.old.clients self.old.stations }
         requires form { IsForm line.now.line }
         requires asked { asks self.old.clients client line.now.line next ≡ Some frame }
         requires fits { IfSome (request_next self.old.clients client line.now.line next) request.Fits }
         requires own { IsOwnNext line.now.line next }
-        ensures gone { HasGone V.Vault (Unit {0}) self.old.node.kept.vault self.new.node.kept.vault result }
-        ensures filled { OnFull result ((frame.server ≡ 1) × IsSome (whole request frame.bytes) × HasNoRoom self.old.node self.new.node) }
-        ensures sent { IfOk result (λ behind. (x : AnItem) × (items.new.items ≡ items.old.items ++ x ∷ []) × Exchanged V.Vault self.old.clients self.new.clients self.old.node self.new.node client line.now next frame behind x) }
+        ensures gone { HaveGone V.Vault (Unit {0}) self.old.stations self.new.stations result }
+        ensures ended { OnEnd result (λ f. ExchangesNone V.Vault f client frame self.old.stations self.new.stations) }
+        ensures sent { IfOk result (λ behind. (x : AnItem) × (items.new.items ≡ items.old.items ++ x ∷ []) × Exchanged V.Vault self.old.clients self.new.clients self.old.stations self.new.stations client line.now next frame behind x) }
     {
-        // No server gives an id of another, and so no frame goes to another; but of a vault that does not tell what it holds no contract
-        // says so.
-        if frame.server != SERVER {
+        let server = frame.server;
+        // A client knows no server but those of the run; but of a vault that does not tell what it holds no contract says so.
+        if !self.stations.has(server) {
             return Err(RunFault::OutOfMemory);
         }
-        let handed = hand(self.alloc, &mut self.node, client, frame.bytes.as_slice())?;
+        let handed = self
+            .stations
+            .hand(self.alloc, server, client, frame.bytes.as_slice())?;
         let behind = self
             .clients
             .hears(self.alloc, client, &line.line, next, frame, &handed.bytes)?;
-        items.push(handed.item(line.number, mark_of(&line.line)))?;
+        items.push(handed.item(line.number, server, mark_of(&line.line)))?;
         Ok(behind)
     }
 
-    // Behind the last frame of a line: where its client's patience is at an end, its transaction times out.
-    fn end_line(&mut self, client: u8, line: &NumberedLine, next: Next) -> Result<(), RunFault>
-        requires client { (1 ≤ client) × (client ≤ 16) }
-        requires step { InStep V.Vault self.old.clients self.old.node }
-        requires last { asks self.old.clients client line.now.line next ≡ None }
-        ensures gone { HasGone V.Vault (Unit {0}) self.old.node.kept.vault self.new.node.kept.vault result }
-        ensures filled { OnFull result (DidSome V.Vault run_fault.JournalFull self.old.clients self.old.clients self.old.node self.new.node client line.now next []) }
-        ensures did { OnOk result (Did V.Vault self.old.clients self.new.clients self.old.node self.new.node client line.now next [] (times_out self.old.clients client next)) }
+    // The transaction that is due at a server times out, if one is.
+    fn time_out(&mut self, due: Option<(u8, TransId)>) -> Result<(), RunFault>
+        requires on { AreOn V.Vault self.old.stations }
+        ensures gone { HaveGone V.Vault (Unit {0}) self.old.stations self.new.stations result }
+        ensures did { OnOk result (Did V.Vault (Just (timeouts_due due)) self.old.stations self.new.stations) }
+        ensures ended { OnEnd result (λ f. DidSome V.Vault (Just (timeouts_due due)) f self.old.stations self.new.stations) }
+        ensures clients { self.new.clients ≡ self.old.clients }
     {
-        let due = trans_due(self.clients.due(client, next));
-        time_out(&mut self.node, due)
+        let Some((server, trans)) = due else {
+            return Ok(());
+        };
+        // As a frame goes to a server of the run, so its call waits at one.
+        if !self.stations.has(server) {
+            return Err(RunFault::OutOfMemory);
+        }
+        self.stations.happen(server, Event::Timeout { trans })
     }
 
     // What a client still sends for a line, and is handed: a greeting maybe, a `Join` maybe, its call, and the collects of those that
-    // are to wait; and where its patience is at an end its transaction times out.
+    // are to wait, before which messages are carried; and where its patience is at an end its transaction times out.
     fn send_line(
         &mut self,
         items: &mut Vec<Item>,
@@ -143,16 +128,18 @@ impl<V: Vault> Parties<V> {
         next: Next,
     ) -> Result<(), RunFault>
         requires client { (1 ≤ client) × (client ≤ 16) }
-        requires step { InStep V.Vault self.old.clients self.old.node }
+        requires step { InStep V.Vault self.old.clients self.old.stations }
         requires form { IsForm line.now.line }
         requires own { IsOwnNext line.now.line next }
         requires way { IsOnItsWay self.old.clients.words (client_at self.old.clients client) line.now.line next }
-        ensures gone { HasGone V.Vault (Unit {0}) self.old.node.kept.vault self.new.node.kept.vault result }
-        ensures filled { OnFull result ((xs : List AnItem) × (known : Crowd) × (length xs ≤ ahead self.old.clients.words (client_at self.old.clients client) line.now.line next) × DidSome V.Vault run_fault.JournalFull self.old.clients known self.old.node self.new.node client line.now next xs) }
-        ensures did { OnOk result ((xs : List AnItem) × (t : Option (ℕ × ATrans)) × (length xs ≤ ahead self.old.clients.words (client_at self.old.clients client) line.now.line next) × (items.new.items ≡ items.old.items ++ xs) × Did V.Vault self.old.clients self.new.clients self.old.node self.new.node client line.now next xs t) }
+        ensures gone { HaveGone V.Vault (Unit {0}) self.old.stations self.new.stations result }
+        ensures ended { OnEnd result (λ f. (xs : List AnItem) × (known : Crowd) × (length xs ≤ ahead self.old.clients.words (client_at self.old.clients client) line.now.line next) × DidOfLine V.Vault f (length self.old.stations.all.items) self.old.clients known self.old.stations self.new.stations client line.now next xs) }
+        ensures did { OnOk result ((xs : List AnItem) × (t : Option (ℕ × ATrans)) × (length xs ≤ ahead self.old.clients.words (client_at self.old.clients client) line.now.line next) × (items.new.items ≡ items.old.items ++ xs) × DidLine V.Vault (length self.old.stations.all.items) self.old.clients self.new.clients self.old.stations self.new.stations client line.now next xs t) }
     {
+        self.carry_before(next)?;
         let Some(frame) = self.clients.asks(self.alloc, client, &line.line, next)? else {
-            return self.end_line(client, line, next);
+            let due = self.clients.due(client, next);
+            return self.time_out(due);
         };
         let behind = self.send(items, client, line, next, frame)?;
         self.send_line(items, client, line, behind)
@@ -167,11 +154,11 @@ impl<V: Vault> Parties<V> {
         line: &NumberedLine,
     ) -> Result<(), RunFault>
         requires client { (1 ≤ client) × (client ≤ 16) }
-        requires step { InStep V.Vault self.old.clients self.old.node }
+        requires step { InStep V.Vault self.old.clients self.old.stations }
         requires form { IsForm line.now.line }
-        ensures gone { HasGone V.Vault (Unit {0}) self.old.node.kept.vault self.new.node.kept.vault result }
-        ensures filled { OnFull result ((xs : List AnItem) × (known : Crowd) × (length xs ≤ 5) × DidSome V.Vault run_fault.JournalFull self.old.clients known self.old.node self.new.node client line.now next.Call xs) }
-        ensures did { OnOk result ((xs : List AnItem) × (t : Option (ℕ × ATrans)) × (length xs ≤ 5) × (items.new.items ≡ items.old.items ++ xs) × (text.new.items ≡ text.old.items ++ turns_text (record { line = line.now.number; client = client; items = xs } ∷ [])) × Did V.Vault self.old.clients self.new.clients self.old.node self.new.node client line.now next.Call xs t) }
+        ensures gone { HaveGone V.Vault (Unit {0}) self.old.stations self.new.stations result }
+        ensures ended { OnEnd result (λ f. (xs : List AnItem) × (known : Crowd) × (length xs ≤ 5) × DidOfLine V.Vault f (length self.old.stations.all.items) self.old.clients known self.old.stations self.new.stations client line.now next.Call xs) }
+        ensures did { OnOk result ((xs : List AnItem) × (t : Option (ℕ × ATrans)) × (length xs ≤ 5) × (items.new.items ≡ items.old.items ++ xs) × (text.new.items ≡ text.old.items ++ turns_text (record { line = line.now.number; client = client; items = xs } ∷ [])) × DidLine V.Vault (length self.old.stations.all.items) self.old.clients self.new.clients self.old.stations self.new.stations client line.now next.Call xs t) }
     {
         let before = items.len();
         self.send_line(items, client, line, Next::Call)?;
@@ -179,42 +166,79 @@ impl<V: Vault> Parties<V> {
         Ok(())
     }
 
-    // The disk of the server passes so many further changing calls, and then stops. A server that is down has none to pass.
-    fn stop(&mut self, calls: u32)
-        requires on { IsOn V.Vault self.old.node }
-        ensures clients { self.new.clients ≡ self.old.clients }
-        ensures set { HasStopSet V.Vault calls self.old.node self.new.node }
-    {
-        if self.node.is_down() {
-            return;
-        }
-        self.node.stop_after(Some(calls));
-        self.node.knows();
-    }
-
-    /// A line that is no client's and restarts nothing: what it declares or sets, and what happens by it at the server.
-    pub(crate) fn play_event(&mut self, line: &Line) -> Result<(), RunFault>
-        requires step { InStep V.Vault self.old.clients self.old.node }
-        requires form { IsForm line.now }
+    // A line by which messages are brought, lost or brought once more; no server sends to itself.
+    fn play_message(&mut self, line: &Line) -> Result<(), RunFault>
+        requires step { InStep V.Vault self.old.clients self.old.stations }
+        requires ours { names_ours (length self.old.stations.all.items) line.now ≡ true }
         requires event { client_named line.now ≡ None }
-        requires here { restarts line.now ≡ false }
-        ensures gone { HasGone V.Vault (is_stop_line line.now ≡ false) self.old.node.kept.vault self.new.node.kept.vault result }
-        ensures filled { OnFull result ((f : Bool) → IsFree V.Vault f self.old.node → AddsSomeEvents V.Vault run_fault.JournalFull f self.old.clients self.new.clients self.old.node self.new.node line.now) }
-        ensures adds { OnOk result ((f : Bool) → IsFree V.Vault f self.old.node → AddsEvents V.Vault f self.old.clients self.new.clients self.old.node self.new.node line.now) }
+        requires other { happens_at_once line.now ≡ false }
+        ensures gone { HaveGone V.Vault (Unit {0}) self.old.stations self.new.stations result }
+        ensures did { OnOk result (Did V.Vault (GivesLine (length self.old.stations.all.items) self.old.clients line.now) self.old.stations self.new.stations) }
+        ensures ended { OnEnd result (λ f. DidSome V.Vault (GivesLine (length self.old.stations.all.items) self.old.clients line.now) f self.old.stations self.new.stations) }
+        ensures clients { self.new.clients ≡ self.old.clients }
     {
-        self.clients.declares(line);
         match line {
-            Line::Timeout { client, .. } => {
-                let trans = self.clients.trans_of(*client);
-                time_out(&mut self.node, trans)
-            }
-            Line::Tick { .. } => happen(&mut self.node, Event::Tick),
-            Line::Force { .. } => happen(&mut self.node, Event::Force),
-            Line::Stop { calls, .. } => {
-                self.stop(*calls);
+            Line::Carry { from, to } => self.stations.carry_other(*from, *to),
+            Line::Lose { from, to } => {
+                self.stations.lose_other(*from, *to);
                 Ok(())
             }
+            Line::Again { from, to } => self.stations.again_other(*from, *to),
             _ => Ok(()),
         }
+    }
+
+    // A line of an event at a server, or of a settling, and any other that declares or sets something.
+    fn play_other(&mut self, line: &Line) -> Result<(), RunFault>
+        requires step { InStep V.Vault self.old.clients self.old.stations }
+        requires ours { names_ours (length self.old.stations.all.items) line.now ≡ true }
+        requires form { IsForm line.now }
+        requires event { client_named line.now ≡ None }
+        ensures gone { HaveGone V.Vault (is_stop_line line.now ≡ false) self.old.stations self.new.stations result }
+        ensures did { OnOk result (Did V.Vault (GivesLine (length self.old.stations.all.items) self.old.clients line.now) self.old.stations self.new.stations) }
+        ensures ended { OnEnd result (λ f. DidSome V.Vault (GivesLine (length self.old.stations.all.items) self.old.clients line.now) f self.old.stations self.new.stations) }
+        ensures clients { self.new.clients ≡ self.old.clients }
+    {
+        match line {
+            Line::Timeout { server, client } => {
+                let trans = self.clients.trans_of(*client);
+                self.stations.time_out(*server, trans)
+            }
+            Line::Tick { server } => self.stations.happen(*server, Event::Tick),
+            Line::Force { server } => self.stations.happen(*server, Event::Force),
+            Line::Stop { server, calls } => {
+                self.stations.stop(*server, *calls);
+                Ok(())
+            }
+            Line::Restart { server, pick } => self.stations.restart(*server, *pick),
+            Line::Settle => self.stations.settle(),
+            _ => self.play_message(line),
+        }
+    }
+
+    /// A line that is no client's: what it declares or sets, and what occurs by it.
+    pub(crate) fn play_event(&mut self, line: &Line) -> Result<(), RunFault>
+        requires step { InStep V.Vault self.old.clients self.old.stations }
+        requires ours { names_ours (length self.old.stations.all.items) line.now ≡ true }
+        requires form { IsForm line.now }
+        requires event { client_named line.now ≡ None }
+        ensures gone { HaveGone V.Vault (is_stop_line line.now ≡ false) self.old.stations self.new.stations result }
+        ensures ended { OnEnd result (λ f. AddsSomeEvents V.Vault f (length self.old.stations.all.items) self.old.clients self.new.clients self.old.stations self.new.stations line.now) }
+        ensures adds { OnOk result (AddsEvents V.Vault (length self.old.stations.all.items) self.old.clients self.new.clients self.old.stations self.new.stations line.now) }
+    {
+        let played = self.play_other(line);
+        self.clients.declares(line);
+        played
+    }
+
+    /// Behind a line messages are carried, where they are carried by themselves.
+    pub(crate) fn carry_behind(&mut self) -> Result<(), RunFault>
+        requires on { AreOn V.Vault self.old.stations }
+        ensures gone { HaveGone V.Vault (Unit {0}) self.old.stations self.new.stations result }
+        ensures did { OnOk result (Did V.Vault (CarriesIf (length self.old.stations.all.items) self.old.clients.settings.collects) self.old.stations self.new.stations) }
+        ensures ended { OnEnd result (λ f. DidSome V.Vault (CarriesIf (length self.old.stations.all.items) self.old.clients.settings.collects) f self.old.stations self.new.stations) }
+        ensures clients { self.new.clients ≡ self.old.clients }
+    {
+        self.stations.carry_if(self.clients.carries())
     }
 }

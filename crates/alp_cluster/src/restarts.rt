@@ -14,7 +14,7 @@ pub(crate) fn start_again<V: Vault>(
     pick: u64,
 ) -> Result<Node<V>, (Down<V>, RunFault)>
     requires on { IsOn V.Vault node }
-    ensures { MatchResult result (StartsAgain V.Vault pick node) (λ e. (f : AStartFault) × (e.1 ≡ run_fault.Start 1 f) × StaysDown V.Vault pick node e.0 f) }
+    ensures { MatchResult result (StartsAgain V.Vault pick node) (λ e. (f : AStartFault) × (e.1 ≡ run_fault.Start node.kept.server f) × StaysDown V.Vault pick node e.0 f) }
 {
     let server = node.server();
     let fallen = node.fall(pick);

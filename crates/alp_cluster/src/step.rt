@@ -1,11 +1,11 @@
-//! One step of the run's server, on a device that may fail or be stopped.
+//! One step of a server of a run, on a device that may fail or be stopped.
 ghost use Rattle.std.specs.Prelude.{◌≡◌, IfOk, slice_get};
-ghost use Rattle.alp_journal.specs.Answered.{is_fault_reply};
+ghost use Rattle.alp_journal.specs.Answered.{is_read_fault};
 ghost use Rattle.alp_node.specs.Served.{IsServed};
 ghost use Rattle.alp_cluster.specs.Servers.{IsOn, HasGone, Steps, HasNoRoom, OnFull, is_failure, fails, is_failed_at};
 
 use crate::fault::RunFault;
-use alp_files::{Cause, Refusal, Reply, Why};
+use alp_files::{Refusal, Reply};
 use alp_journal::{Act, Entry, Event};
 use alp_node::Node;
 use alp_vault::Vault;
@@ -13,22 +13,12 @@ use alp_vault::Vault;
 /// So many entries a journal has at most, but for those of restarts.
 pub const JOURNAL_ENTRIES_MOST: usize = 65_536;
 
-// Whether a reply shows that a read of this server's device failed.
-fn shows_fault(here: u8, reply: &Option<Reply>) -> bool
-    ensures { result ≡ is_fault_reply here reply.now }
+// Whether a reply shows that a read of the server's device failed.
+fn shows_fault(reply: &Option<Reply>) -> bool
+    ensures { result ≡ is_read_fault reply.now }
 {
     match reply {
         Some(Reply::Refused(Refusal::ReadFault)) => true,
-        Some(
-            Reply::Refused(
-                Refusal::Aborted {
-                    cause: Cause::Voted {
-                        server,
-                        why: Why::ReadFault,
-                    },
-                },
-            ),
-        ) => *server == here,
         _ => false,
     }
 }
@@ -78,7 +68,7 @@ pub fn step<V: Vault>(node: &mut Node<V>, event: Event) -> Result<Option<Reply>,
     let server = node.server();
     let reply = node.step(event)?;
     node.knows();
-    if shows_fault(server, &reply) || failed_at(node.journal().entries(), place) {
+    if shows_fault(&reply) || failed_at(node.journal().entries(), place) {
         return Err(RunFault::DiskFault { server });
     }
     Ok(reply)

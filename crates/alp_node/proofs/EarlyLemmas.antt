@@ -6,7 +6,7 @@ use Rattle.std.proofs.Common.{◌≡◌, ℕ, ◌^◌, ◌≤◌, List, [], ◌�
 use Rattle.alp_base.specs.declared.ids.JoinNo.{JoinNo}
 use Rattle.alp_base.specs.declared.ids.TransId.{TransId}
 use Rattle.alp_journal.specs.Account.{is_other, are_servers_apart, AreJoins}
-use Rattle.alp_journal.specs.Coordinator.{Fate, Undrawn, Running, Finishing, Committed, Forgotten, Ended, Vote, client_of, begun, registered, finishing, heard, acknowledged, voted, with_vote}
+use Rattle.alp_journal.specs.Coordinator.{Fate, Undrawn, Running, Finishing, Committed, Forgotten, Ended, Vote, client_of, begun, registered, finishing, heard, acknowledged, has_all, voted, with_vote}
 use Rattle.alp_journal.specs.Deeds.{Begins, Registers, Finishes, Hears, Acknowledges}
 use Rattle.alp_journal.specs.Ids.{same_trans, has_join, has_server}
 use Rattle.alp_journal.specs.Laws.{latest_vote}
@@ -15,7 +15,7 @@ use Rattle.alp_journal.proofs.StandLemmas.{any-last}
 use Rattle.alp_coord.specs.declared.answers.Registration.{Registration}
 use Rattle.alp_coord.specs.declared.answers.Registration.TheVariants as registration
 use Rattle.alp_coord.specs.declared.coordinator.Coordinator.{Coordinator}
-use Rattle.alp_coord.specs.Coordinators.{AfterRegistration, Comes, ComesLike, Keeps, fate_in, is_known, registration_in, registration_of, server_of}
+use Rattle.alp_coord.specs.Coordinators.{AfterRegistration, Comes, ComesLike, Keeps, epoch_of, fate_in, forgotten_as, forgotten_fate, is_known, registration_in, registration_of, server_of}
 use Rattle.alp_coord.specs.Coordinators as coord
 use Rattle.alp_coord.specs.Likeness.{AreLikeVotes, IsLike}
 use Rattle.alp_coord.specs.Likeness as like
@@ -101,6 +101,20 @@ module _ (servers here : ℕ) where
   early_acknowledged j (Forgotten s js) h = tt
   early_acknowledged j (Ended c) h = tt
 
+  early_forgotten : (b : Bool) (f : Fate) → IsEarlyFate servers here f → IsEarlyFate servers here (forgotten_fate b f)
+  early_forgotten b Undrawn h = tt
+  early_forgotten b (Running c js) h = h
+  early_forgotten b (Finishing c js vs) h = h
+  early_forgotten b (Committed s [] ds) h = tt
+  early_forgotten b (Committed s (j ∷ js) ds) h = go b (has_all ds (j ∷ js))
+    where
+      go : (b d : Bool) → IsEarlyFate servers here (cond {A = Fate} d (forgotten_as b (Committed s (j ∷ js) ds)) (Committed s (j ∷ js) ds))
+      go true true = tt
+      go false true = tt
+      go b false = tt
+  early_forgotten b (Forgotten s js) h = tt
+  early_forgotten b (Ended c) h = tt
+
   early_like : (f g : Fate) → IsLike f g → IsEarlyFate servers here g → IsEarlyFate servers here f
   early_like f g (like.same x) h = h
   early_like _ _ (like.finishing client js vs ws l) h = record { joins = h.joins; some = h.some; low = subst (λ (n : ℕ). n ≤ 2 ^ 62) (sym (l.latest 0)) h.low }
@@ -136,6 +150,11 @@ module _ (servers here : ℕ) where
   early_acknowledges t j before after comes h u =
       early_like (fate_in after u) (cond {A = Fate} (same_trans t u) (acknowledged j (fate_in before u)) (fate_in before u)) (comes u)
       (early_if (same_trans t u) (fate_in before u) (acknowledged j (fate_in before u)) (early_acknowledged j (fate_in before u) (h u)) (h u))
+
+  pub early_forgets : (t : TransId) (before after : Coordinator) → ((u : TransId) → fate_in after u ≡ cond {A = Fate} (same_trans t u) (forgotten_fate (u.epoch == epoch_of before) (fate_in before u)) (fate_in before u)) → AreEarly servers here before → AreEarly servers here after
+  early_forgets t before after forgot h u =
+      subst (IsEarlyFate servers here) (sym (forgot u))
+      (early_if (same_trans t u) (fate_in before u) (forgotten_fate (u.epoch == epoch_of before) (fate_in before u)) (early_forgotten (u.epoch == epoch_of before) (fate_in before u) (h u)) (h u))
 
   -- its client asks for the commit of one that has joins
   pub early_finishes : (t : TransId) (client : ℕ) (js : List JoinNo) (before after : Coordinator) → fate_in before t ≡ Running client js → js ≢ [] → Comes (Finishes t) before after → AreEarly servers here before → AreEarly servers here after

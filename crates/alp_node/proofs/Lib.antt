@@ -107,15 +107,23 @@ pub mod EndingLemmas
 pub mod OutcomeLemmas
 pub mod JoinLemmas
 pub mod LogLemmas
+mod AbortReady
+mod LeftWrites
+mod LetGoWrites
+mod NoteWrites
+mod WriteSteps
+mod MadeAs
+mod ApplySteps
+mod ForgetSteps
+mod CountedLocks
+mod VoteForSteps
+mod VoteNotes
 pub mod FinishedFates
 pub mod TickSays
 pub mod OpenJoins
 pub mod LateTold
 pub mod LateReady
 pub mod LateSteps
-pub mod LetGoWrites
-pub mod WriteSteps
-pub mod MadeAs
 pub mod DecidedNotes
 pub mod TimelySteps
 pub mod FewJoins

@@ -134,6 +134,13 @@ impl Clients {
         }
     }
 
+    /// Whether messages are carried by themselves.
+    pub fn carries(&self) -> bool
+        ensures { result ≡ self.now.settings.collects }
+    {
+        self.settings.collects
+    }
+
     /// The transaction of the client, if it has one.
     pub fn trans_of(&self, number: u8) -> Option<TransId>
         requires { number ≤ 16 }

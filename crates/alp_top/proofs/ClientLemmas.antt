@@ -27,10 +27,10 @@ use Rattle.alp_history.proofs.Logs.{opening-server}
 use Rattle.alp_session.specs.declared.client.Client.{Client}
 use Rattle.alp_node.specs.declared.server_state.ServerState.{ServerState}
 use Rattle.alp_cluster.specs.Come.{Come, none_come, IsUpTo, IsBelow, further}
-use Rattle.alp_cluster.specs.Happens.{Happening, sent_it, timed_out, ticked, forced, stop_set, restarted, lifts, finds, Stand, IsEntryOf, IsNone, ComesTo, Takes, Happens, AreRecorded}
-use Rattle.alp_cluster.specs.Plays.{sent_of}
+use Rattle.alp_course.specs.Happens.{Happening, sent_it, timed_out, ticked, forced, stop_set, restarted, lifts, finds, Stand, IsEntryOf, IsNone, ComesTo, Takes, Happens, AreRecorded}
+use Rattle.alp_course.specs.Plays.{sent_of}
 use Rattle.alp_cluster.specs.Steps.{come_of, come_by, come_with, IsOwnTurn, IsAgainTurn, IsInTurn, IsSentBy, AreNumbered, IsToldOf, AsksOfTold, SentOfTold, HasSaid}
-use Rattle.alp_cluster.specs.Turns.{Turn, own_in, sent_in}
+use Rattle.alp_course.specs.Turns.{Turn, own_in, sent_in}
 use Rattle.alp_cluster.proofs.ComeLemmas.{up_to_left, up_to_right, up_to_self, below_after}
 use Rattle.alp_top.proofs.SingleLemmas.{single, of_self, by_server}
 

@@ -38,7 +38,7 @@ use Rattle.alp_node.specs.declared.start.StartFault.TheVariants as start_fault
 use Rattle.alp_vault.specs.Contents.{Contents}
 use Rattle.alp_vault.specs.declared.vault.Vault.{Ghosts}
 use Rattle.alp_cluster.specs.Ends.{IsServerOf}
-use Rattle.alp_cluster.specs.Happens.{first_stand, AreRecorded}
+use Rattle.alp_course.specs.Happens.{first_stand, AreRecorded}
 use Rattle.alp_cluster.specs.Standings.{playing, HasVault, EndsAt}
 use Rattle.alp_cluster.specs.declared.cluster.Server.{Server}
 use Rattle.alp_cluster.specs.declared.cluster.Server.TheVariants.{Up, Fallen}
@@ -48,11 +48,13 @@ use Rattle.alp_cluster.specs.declared.parties.Parties.{Parties}
 use Rattle.alp_cluster.specs.declared.standing.Standing.{Standing}
 use Rattle.alp_cluster.specs.declared.standing.Standing.TheVariants as standing
 use Rattle.alp_cluster.specs.declared.standing.Standing.TheVariants.{Playing}
-use Rattle.alp_cluster.specs.Plays.{ArePlayed, ranks_from}
+use Rattle.alp_course.specs.Courses.{ranks_from}
+use Rattle.alp_course.specs.Plays.{ArePlayed}
 use Rattle.alp_cluster.specs.Runs.{HasPlayedOut}
 use Rattle.alp_cluster.specs.Servers.{IsOn, IsDone, StaysDown, state_of as node_state, stand_of}
-use Rattle.alp_cluster.specs.Turns.{Turn, lists_in, own_in, turns_of, turns_text}
-use Rattle.alp_cluster.proofs.RunLemmas.{turns_are, played_sent}
+use Rattle.alp_course.specs.Turns.{Turn, lists_in, own_in, turns_of, turns_text}
+use Rattle.alp_course.proofs.PlayLemmas.{played_sent}
+use Rattle.alp_course.proofs.TurnLemmas.{turns_are}
 use Rattle.alp_top.specs.Anywhere.{IsPlayedThrough}
 use Rattle.alp_top.specs.Endings.{holding_of, IsEnding, IsServerLog, IsReported, IsEnded, IsVaultOf, IsVaultAt}
 use Rattle.alp_top.specs.Looks.{HasLooked}

@@ -17,10 +17,10 @@ use Rattle.alp_node.specs.Nodes.{start_in}
 use Rattle.alp_node.specs.NodeStates.{NodeState}
 use Rattle.alp_vault.specs.declared.vault.Vault.{Ghosts}
 use Rattle.alp_cluster.specs.Fills.{HasStopped}
-use Rattle.alp_cluster.specs.Happens.{first_stand}
-use Rattle.alp_cluster.specs.Plays.{ranks_from}
+use Rattle.alp_course.specs.Happens.{first_stand}
+use Rattle.alp_course.specs.Courses.{ranks_from}
 use Rattle.alp_cluster.specs.Runs.{HasEndedEarly}
-use Rattle.alp_cluster.specs.Turns.{own_in}
+use Rattle.alp_course.specs.Turns.{own_in}
 use Rattle.alp_cluster.specs.declared.fault.RunFault.{RunFault}
 use Rattle.alp_cluster.specs.declared.fault.RunFault.TheVariants as run_fault
 use Rattle.alp_top.specs.Volumes.{IsCutShort}

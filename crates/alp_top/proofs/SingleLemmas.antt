@@ -34,7 +34,7 @@ use Rattle.alp_history.specs.Log.{ServerLog, Log, Decision, nobody, of, journal_
 use Rattle.alp_history.specs.Theorems.{IsProper, HasCommitted}
 use Rattle.alp_history.proofs.Agreed.{WasCommitted, committed-parts, applied-committed}
 use Rattle.alp_history.proofs.Decisions.{linked-end, here-end, tied-end}
-use Rattle.alp_cluster.specs.Plays.{ranks_from}
+use Rattle.alp_course.specs.Courses.{ranks_from}
 
 -- ---- a log of one server
 

@@ -13,7 +13,7 @@ use Rattle.alp_vault.specs.declared.vault.Vault.{Ghosts}
 use Rattle.alp_top.specs.Headline.{IsOfScript}
 use Rattle.alp_top.specs.Logs.{Log, ServerOfLog, lists_of}
 use Rattle.alp_top.specs.Statuses.{Kept, OnDone, OnWriteFault, OnTooLong, OnBadDisk, OnDiskFault, IsLimit}
-use Rattle.alp_cluster.specs.Turns.{turns_of, turns_text}
+use Rattle.alp_course.specs.Turns.{turns_of, turns_text}
 use Rattle.alp_top.specs.Tallies.{tally_in}
 use Rattle.alp_top.specs.declared.status.Status.{Status}
 

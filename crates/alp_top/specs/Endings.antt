@@ -16,7 +16,7 @@ use Rattle.alp_report.specs.declared.summary.Summary.{Summary}
 use Rattle.alp_script.specs.declared.numbered.NumberedLine.{NumberedLine}
 use Rattle.alp_vault.specs.Contents.{Contents}
 use Rattle.alp_vault.specs.declared.vault.Vault.{Ghosts}
-use Rattle.alp_cluster.specs.Plays.{ranks_from}
+use Rattle.alp_course.specs.Courses.{ranks_from}
 use Rattle.alp_cluster.specs.Servers.{state_of}
 use Rattle.alp_cluster.specs.declared.cluster.Server.{Server}
 use Rattle.alp_cluster.specs.declared.cluster.Server.TheVariants.{Up, Fallen}

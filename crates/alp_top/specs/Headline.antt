@@ -17,11 +17,12 @@ use Rattle.alp_script.specs.Reading.{GaveScript, SaysScript}
 use Rattle.alp_script.specs.Volumes.{sizes_said}
 use Rattle.alp_script.specs.declared.numbered.NumberedLine.{NumberedLine}
 use Rattle.alp_vault.specs.declared.vault.Vault.{Ghosts}
-use Rattle.alp_cluster.specs.Happens.{Happening, Stand, first_stand, AreRecorded}
-use Rattle.alp_cluster.specs.Plays.{ArePlayed, ranks_from}
+use Rattle.alp_course.specs.Happens.{Happening, Stand, first_stand, AreRecorded}
+use Rattle.alp_course.specs.Courses.{ranks_from}
+use Rattle.alp_course.specs.Plays.{ArePlayed}
 use Rattle.alp_cluster.specs.Runs.{StopNone}
 use Rattle.alp_cluster.specs.Servers.{IsDone}
-use Rattle.alp_cluster.specs.Turns.{turns_of, own_in}
+use Rattle.alp_course.specs.Turns.{turns_of, own_in}
 use Rattle.alp_top.specs.Logs.{Log, ServerOfLog, openings, start_of, log_of, lists_of}
 use Rattle.alp_top.specs.Reports.{end_of, report_of}
 use Rattle.alp_top.specs.Volumes.{IsStored, IsReturned, HasRunCause, StartsOn}

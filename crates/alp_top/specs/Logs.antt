@@ -9,8 +9,8 @@ use Rattle.alp_journal.specs.Opening.{Start}
 use Rattle.alp_node.specs.declared.opened.Opened.{Opened}
 use Rattle.alp_history.specs.RunLogs as runs
 use Rattle.alp_history.specs.Log as logs
-use Rattle.alp_cluster.specs.Plays.{ranks_from}
-use Rattle.alp_cluster.specs.Turns.{Turn, own_in}
+use Rattle.alp_course.specs.Courses.{ranks_from}
+use Rattle.alp_course.specs.Turns.{Turn, own_in}
 
 -- the log of servers on vaults
 abbrev pub Log : Type 0 → Type 0

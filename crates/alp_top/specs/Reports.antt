@@ -9,7 +9,7 @@ use Rattle.alp_history.specs.Log.{decided}
 use Rattle.alp_report.specs.Reports.{Holding, server_text, owned_by, count_text, summary_text}
 use Rattle.alp_script.specs.declared.numbered.NumberedLine.{NumberedLine}
 use Rattle.alp_top.specs.Logs.{Log, ServerOfLog, openings, log_of, lists_of}
-use Rattle.alp_cluster.specs.Turns.{turns_of, turns_text}
+use Rattle.alp_course.specs.Turns.{turns_of, turns_text}
 
 -- what a server's journal says at its end, in a run of so many servers
 abbrev pub end_of : {V : Type 0} → Ghosts V → ℕ → ServerOfLog V → State

@@ -33,7 +33,7 @@ use Rattle.alp_history.specs.Theorems.{IsOneThread, AreWhole}
 use Rattle.alp_cluster.specs.Fills.{HasStopped}
 use Rattle.alp_cluster.specs.Runs.{StopNone}
 use Rattle.alp_cluster.specs.Servers.{IsDone}
-use Rattle.alp_cluster.specs.Turns.{Turn}
+use Rattle.alp_course.specs.Turns.{Turn}
 use Rattle.alp_cluster.specs.declared.fault.RunFault.{RunFault}
 use Rattle.alp_cluster.specs.declared.fault.RunFault.TheVariants as run_fault
 use Rattle.alp_top.specs.Logs.{log_so_far}

@@ -5,17 +5,17 @@ use Rattle.alp_files.specs.declared.reply.Reply.{Reply}
 use Rattle.alp_journal.specs.declared.entry.Entry.{Entry}
 use Rattle.alp_journal.specs.declared.log.Sent.TheVariants as sent
 use Rattle.alp_cluster.specs.Exchanges.{event_of, place_for}
-use Rattle.alp_cluster.specs.Happens.{handed_for}
+use Rattle.alp_course.specs.Happens.{handed_for}
 use Rattle.alp_cluster.specs.Servers.{Steps}
 use Rattle.alp_cluster.specs.declared.fault.RunFault.TheVariants as fault
-use Rattle.alp_cluster.proofs.GoneLemmas.{gone_nothing, gone_memory, gone_handed, gone_ok, full_then, end_memory, handed_on}
+use Rattle.alp_cluster.proofs.GoneLemmas.{one_nothing, one_memory, one_handed, one_ok, full_then, end_memory, handed_on}
 use Rattle.alp_cluster.proofs.ReplyLemmas.{steps_epoch, steps_place, asked_sendable}
 use Rattle.alp_cluster.proofs.ServedLemmas.{request_served}
 use Rattle.alp_cluster.proofs.exchange.ask.Goals as goal
 
 pub returns-in_err-copied-clause-gone : goal.returns-in_err-copied-clause-gone
 returns-in_err-copied-clause-gone g c =
-    rw (handed_on fault.OutOfMemory c.from_residual.result c.from_residual.ensures.0 c.from_residual.ensures.1) (gone_nothing g.V.Vault (Unit {0}) c.args.node.now.kept.vault _ tt tt refl)
+    rw (handed_on fault.OutOfMemory c.from_residual.result c.from_residual.ensures.0 c.from_residual.ensures.1) (one_nothing g.V.Vault (Unit {0}) c.args.node.now.kept.vault _ tt tt refl)
 
 pub returns-in_err-copied-clause-filled : goal.returns-in_err-copied-clause-filled
 returns-in_err-copied-clause-filled g c =
@@ -26,7 +26,7 @@ step-requires-clause-served g c = request_served c.args.request c.requires.fits 
 
 pub returns-in_err-reply-clause-gone : goal.returns-in_err-reply-clause-gone
 returns-in_err-reply-clause-gone g c =
-    gone_handed g.V.Vault (Unit {0}) c.args.node.now.kept.vault c.step.new.node.kept.vault c.in_err-reply.field-0.0 c.from_residual-in_err-reply.result c.in_err-reply.ensures.gone
+    one_handed g.V.Vault (Unit {0}) c.args.node.now.kept.vault c.step.new.node.kept.vault c.in_err-reply.field-0.0 c.from_residual-in_err-reply.result c.in_err-reply.ensures.gone
     (handed_on c.in_err-reply.field-0.0 c.from_residual-in_err-reply.result c.from_residual-in_err-reply.ensures.0 c.from_residual-in_err-reply.ensures.1)
 
 pub returns-in_err-reply-clause-filled : goal.returns-in_err-reply-clause-filled
@@ -41,7 +41,7 @@ spelled-requires-clause-sendable g c =
 pub returns-in_err-bytes-clause-gone : goal.returns-in_err-bytes-clause-gone
 returns-in_err-bytes-clause-gone g c =
     rw (handed_on fault.OutOfMemory c.from_residual-in_err-bytes.result c.from_residual-in_err-bytes.ensures.0 c.from_residual-in_err-bytes.ensures.1)
-    (gone_memory g.V.Vault (Unit {0}) c.args.node.now.kept.vault c.step.new.node.kept.vault c.in_ok-reply.reply c.in_ok-reply.ensures.gone)
+    (one_memory g.V.Vault (Unit {0}) c.args.node.now.kept.vault c.step.new.node.kept.vault c.in_ok-reply.reply c.in_ok-reply.ensures.gone)
 
 pub returns-in_err-bytes-clause-filled : goal.returns-in_err-bytes-clause-filled
 returns-in_err-bytes-clause-filled g c =
@@ -55,7 +55,7 @@ place_of-requires g c down =
     omega (arith, long, low)
 
 pub returns-clause-gone : goal.returns-clause-gone
-returns-clause-gone g c = gone_ok g.V.Vault (Unit {0}) c.args.node.now.kept.vault c.step.new.node.kept.vault c.in_ok-reply.reply _ c.in_ok-reply.ensures.gone
+returns-clause-gone g c = one_ok g.V.Vault (Unit {0}) c.args.node.now.kept.vault c.step.new.node.kept.vault c.in_ok-reply.reply _ c.in_ok-reply.ensures.gone
 
 pub returns-clause-asked : goal.returns-clause-asked
 returns-clause-asked g c =

@@ -9,6 +9,6 @@ returns-in-Ok g c = starts_again g.V.Vault c.args.pick c.args.node c.in-Ok.node 
 pub returns-in-Err : goal.returns-in-Err
 returns-in-Err g c = (
   c.in-Err.fault,
-  ap (λ (k : ℕ). fault.Start k c.in-Err.fault) (c.server-server.ensures ∙ c.requires.on.first),
+  ap (λ (k : ℕ). fault.Start k c.in-Err.fault) c.server-server.ensures,
   record { fallen = c.fall-fallen.result; falls = c.fall-fallen.ensures.fallen; stood = c.knows.ensures; stays = c.in-Err.ensures; free = c.knows-in-Err.ensures.free },
 )

@@ -3,12 +3,12 @@ use Rattle.std.proofs.Common.{inl, inr, ◌⊎◌, ◌≡◌, ◌≤◌, ℕ, Li
 use Rattle.std.specs.List.{list_any}
 use Rattle.alp_files.specs.declared.refusal.Refusal.TheVariants as refusal
 use Rattle.alp_files.specs.declared.reply.Reply.TheVariants as reply
-use Rattle.alp_journal.specs.Answered.{is_fault_reply, entries_limit}
+use Rattle.alp_journal.specs.Answered.{is_read_fault, entries_limit}
 use Rattle.alp_journal.specs.declared.entry.Entry.{Entry}
 use Rattle.alp_node.specs.Nodes.{HasRoom}
 use Rattle.alp_cluster.specs.Servers.{Steps, is_failure}
 use Rattle.alp_cluster.specs.declared.fault.RunFault.TheVariants as fault
-use Rattle.alp_cluster.proofs.GoneLemmas.{gone_nothing, handed_on, end_memory}
+use Rattle.alp_cluster.proofs.GoneLemmas.{one_nothing, handed_on, end_memory}
 use Rattle.alp_cluster.proofs.TakenLemmas.{failed_last, taken, taken_gone, failed_gone, wanting_gone}
 use Rattle.alp_cluster.proofs.step.step.Goals as goal
 use Rattle.alp_cluster.proofs.step.step.Goals.{then-shows_fault-via-then-shows_fault, then-shows_fault-via-else-shows_fault+then-failed_at}
@@ -16,7 +16,7 @@ use Rattle.alp_cluster.proofs.step.step.Goals.{then-shows_fault-via-then-shows_f
 -- ---- it is down
 
 pub returns-then-is_down-clause-gone : goal.returns-then-is_down-clause-gone
-returns-then-is_down-clause-gone g c = gone_nothing g.V.Vault (Unit {0}) c.args.node.now.kept.vault (Ok (Some (reply.Refused refusal.Down))) tt tt refl
+returns-then-is_down-clause-gone g c = one_nothing g.V.Vault (Unit {0}) c.args.node.now.kept.vault (Ok (Some (reply.Refused refusal.Down))) tt tt refl
 
 pub returns-then-is_down-clause-steps : goal.returns-then-is_down-clause-steps
 returns-then-is_down-clause-steps g c =
@@ -27,7 +27,7 @@ returns-then-is_down-clause-steps g c =
 -- ---- its journal is full
 
 pub returns-then-place-ge-JOURNAL_ENTRIES_MOST-clause-gone : goal.returns-then-place-ge-JOURNAL_ENTRIES_MOST-clause-gone
-returns-then-place-ge-JOURNAL_ENTRIES_MOST-clause-gone g c = gone_nothing g.V.Vault (Unit {0}) c.args.node.now.kept.vault (Err fault.JournalFull) tt tt refl
+returns-then-place-ge-JOURNAL_ENTRIES_MOST-clause-gone g c = one_nothing g.V.Vault (Unit {0}) c.args.node.now.kept.vault (Err fault.JournalFull) tt tt refl
 
 pub returns-then-place-ge-JOURNAL_ENTRIES_MOST-clause-filled : goal.returns-then-place-ge-JOURNAL_ENTRIES_MOST-clause-filled
 returns-then-place-ge-JOURNAL_ENTRIES_MOST-clause-filled g c =
@@ -57,8 +57,8 @@ returns-then-shows_fault-clause-gone g c =
     let up : n.kept.is_down ≡ false = sym c.is_down.ensures ∙ c.if-is_down.false in
     let h = c.in_ok-reply.ensures in
     let a = h.answered up room in
-    let shows : (is_fault_reply n.kept.server c.in_ok-reply.reply ≡ true) ⊎ (list_any is_failure a.acts ≡ true) = elim c.then-shows_fault.branch [
-      | then-shows_fault-via-then-shows_fault w ↦ inl (ap (λ (k : ℕ). is_fault_reply k c.in_ok-reply.reply) (sym c.server-server.ensures) ∙ sym c.shows_fault.ensures ∙ w.if-shows_fault.true)
+    let shows : (is_read_fault c.in_ok-reply.reply ≡ true) ⊎ (list_any is_failure a.acts ≡ true) = elim c.then-shows_fault.branch [
+      | then-shows_fault-via-then-shows_fault w ↦ inl (sym c.shows_fault.ensures ∙ w.if-shows_fault.true)
       | then-shows_fault-via-else-shows_fault+then-failed_at w ↦
           inr (sym (failed_last n.journal w.entries.result.now (record { event = c.args.event; reply = c.in_ok-reply.reply; acts = a.acts }) (length c.entries-place.result.now) (w.entries.ensures ∙ w.journal-else-shows_fault.ensures ∙ a.entry) long)
           ∙ sym w.failed_at.ensures ∙ w.if-failed_at.true)
@@ -74,7 +74,7 @@ returns-clause-gone g c =
     let up : n.kept.is_down ≡ false = sym c.is_down.ensures ∙ c.if-is_down.false in
     let h = c.in_ok-reply.ensures in
     let a = h.answered up room in
-    let quiet : is_fault_reply n.kept.server c.in_ok-reply.reply ≡ false = ap (λ (k : ℕ). is_fault_reply k c.in_ok-reply.reply) (sym c.server-server.ensures) ∙ sym c.shows_fault.ensures ∙ c.if-shows_fault.false in
+    let quiet : is_read_fault c.in_ok-reply.reply ≡ false = sym c.shows_fault.ensures ∙ c.if-shows_fault.false in
     let whole : list_any is_failure a.acts ≡ false =
     sym (failed_last n.journal c.entries.result.now (record { event = c.args.event; reply = c.in_ok-reply.reply; acts = a.acts }) (length c.entries-place.result.now) (c.entries.ensures ∙ c.journal-else-shows_fault.ensures ∙ a.entry) long) ∙ sym c.failed_at.ensures
     ∙ c.if-failed_at.false in
@@ -89,7 +89,7 @@ returns-clause-steps g c =
     let up : n.kept.is_down ≡ false = sym c.is_down.ensures ∙ c.if-is_down.false in
     let h = c.in_ok-reply.ensures in
     let a = h.answered up room in
-    let quiet : is_fault_reply n.kept.server c.in_ok-reply.reply ≡ false = ap (λ (k : ℕ). is_fault_reply k c.in_ok-reply.reply) (sym c.server-server.ensures) ∙ sym c.shows_fault.ensures ∙ c.if-shows_fault.false in
+    let quiet : is_read_fault c.in_ok-reply.reply ≡ false = sym c.shows_fault.ensures ∙ c.if-shows_fault.false in
     let whole : list_any is_failure a.acts ≡ false =
     sym (failed_last n.journal c.entries.result.now (record { event = c.args.event; reply = c.in_ok-reply.reply; acts = a.acts }) (length c.entries-place.result.now) (c.entries.ensures ∙ c.journal-else-shows_fault.ensures ∙ a.entry) long) ∙ sym c.failed_at.ensures
     ∙ c.if-failed_at.false in

@@ -1,6 +1,6 @@
 use Rattle.std.proofs.Common.{List, [], ◌∷◌, ◌++◌, refl, ap, ◌∙◌}
 use Rattle.alp_top.specs.Logs.{ServerOfLog}
-use Rattle.alp_cluster.specs.Plays.{ranks_from}
+use Rattle.alp_course.specs.Courses.{ranks_from}
 use Rattle.alp_top.proofs.finish.server_logs.Goals as goal
 
 pub returns : goal.returns

@@ -3,69 +3,69 @@ use Rattle.std.specs.Global.{Global}
 use Rattle.std.proofs.Common.{◌<◌, ◌≤◌, ◌^◌, ℕ, length, sym, ◌∙◌, subst, arith}
 use Rattle.std.proofs.lemmas.Result.{on_ok_weaker}
 use Rattle.alp_journal.specs.declared.log.Item.{Item}
+use Rattle.alp_script.specs.Accepted.{servers_said}
+use Rattle.alp_course.specs.Settles.{IsSettling}
 use Rattle.alp_cluster.specs.Runs.{HasPlayedOut, StopNone}
-use Rattle.alp_cluster.specs.Servers.{HasGone}
-use Rattle.alp_cluster.proofs.GoneLemmas.{gone_both, gone_where, gone_handed, end_on, end_map, handed_on}
+use Rattle.alp_cluster.specs.Stations.{course_of}
+use Rattle.alp_cluster.proofs.DidLemmas.{gone_both, all_where, all_handed}
+use Rattle.alp_cluster.proofs.GoneLemmas.{end_on, end_map, handed_on}
+use Rattle.alp_cluster.proofs.LeftLemmas.{end_opened}
+use Rattle.alp_cluster.proofs.LoopLemmas.{did_count, some_count}
 use Rattle.alp_cluster.proofs.RunLemmas.{end_ended, played_out}
-use Rattle.alp_cluster.proofs.StandLemmas.{vault_is}
 use Rattle.alp_cluster.proofs.cluster.Cluster.play_out.Goals as goal
 
 pub returns-in_err-play-clause-gone : goal.returns-in_err-play-clause-gone
-returns-in_err-play-clause-gone g c = λ p is.
-    let (v, has, gone) = c.in_err-play.ensures.gone p is in (
-      v,
-      has,
-      gone_handed g.V.Vault (StopNone c.args.lines.now) p.node.kept.vault v c.in_err-play.field-0.0 c.from_residual.result gone (handed_on c.in_err-play.field-0.0 c.from_residual.result c.from_residual.ensures.0 c.from_residual.ensures.1),
-    )
+returns-in_err-play-clause-gone g c =
+    all_handed g.V.Vault (StopNone c.args.lines.now) c.args.self.now.parties.stations c.play.new.self.parties.stations c.in_err-play.field-0.0 c.from_residual.result c.in_err-play.ensures.gone
+    (handed_on c.in_err-play.field-0.0 c.from_residual.result c.from_residual.ensures.0 c.from_residual.ensures.1)
 
 pub returns-in_err-play-clause-ended : goal.returns-in_err-play-clause-ended
 returns-in_err-play-clause-ended g c =
     end_on c.in_err-play.field-0.0 c.from_residual.result _ _ (handed_on c.in_err-play.field-0.0 c.from_residual.result c.from_residual.ensures.0 c.from_residual.ensures.1) (λ f h. h) c.in_err-play.ensures.ended
 
+pub returns-in_err-play-clause-left : goal.returns-in_err-play-clause-left
+returns-in_err-play-clause-left g c =
+    end_on c.in_err-play.field-0.0 c.from_residual.result _ _ (handed_on c.in_err-play.field-0.0 c.from_residual.result c.from_residual.ensures.0 c.from_residual.ensures.1) (λ f h. h) c.in_err-play.ensures.left
+
 pub settle-requires : goal.settle-requires
-settle-requires g c =
-    let (p, is, new) = c.requires.new in
-    let (q, now, opening, telling, played) = c.in_ok-play.ensures.played p is in
-    record { playing = (q, now, played.step.on) }
+settle-requires g c = record { on = c.in_ok-play.ensures.played.step.on }
 
 pub returns-clause-gone : goal.returns-clause-gone
-returns-clause-gone g c = λ p is.
-    let (q, now, opening, telling, played) = c.in_ok-play.ensures.played p is in
-    let (u, had, went) = c.in_ok-play.ensures.gone p is in
-    let (v, has, gone) = c.settle.ensures.gone q now in (
-      v,
-      has,
-      gone_both g.V.Vault (StopNone c.args.lines.now) p.node.kept.vault q.node.kept.vault v tt c.settle.result
-          (subst (λ x. HasGone g.V.Vault (StopNone c.args.lines.now) p.node.kept.vault x (Ok tt)) (vault_is c.play.new.self.standing q u now had) went)
-          (gone_where g.V.Vault (Unit {0}) (StopNone c.args.lines.now) q.node.kept.vault v c.settle.result (λ e. tt) gone),
-    )
+returns-clause-gone g c =
+    let a = c.args.self.now.parties.stations in
+    let b = c.play.new.self.parties.stations in
+    let z = c.settle.new.self.parties.stations in
+    gone_both g.V.Vault (StopNone c.args.lines.now) a b z _ c.settle.result c.in_ok-play.ensures.played.step.on c.in_ok-play.ensures.gone
+    (all_where g.V.Vault (Unit {0}) (StopNone c.args.lines.now) b z c.settle.result (λ e. tt {0}) c.settle.ensures.gone)
 
 pub returns-clause-ended : goal.returns-clause-ended
 returns-clause-ended g c =
+    let q = c.play.new.self in
     let few : length c.args.lines.now ≤ 200000 = c.requires.accepted.few in
     let short : length c.args.lines.now < 2 ^ 29 = omega (arith, few) in
     end_map c.settle.result _ _
-    (λ f h p is.
-    let (q, now, opening, telling, played) = c.in_ok-play.ensures.played p is in
-    let (n, ends, some) = h q now played.is_fused in
-    (n, ends, some.goes.later.opening ∙ opening, some.goes.later.telling ∙ telling, end_ended g.V.Vault c.args.lines.now q.clients q.node n c.play.new.self.lists.items c.play.new.self.text.items played f short some))
-    c.settle.ensures.ended
+    (λ f d. end_ended g.V.Vault (servers_said c.args.lines.now) c.args.lines.now q.parties.clients q.parties.stations c.settle.new.self.parties.stations q.lists.items q.text.items c.in_ok-play.ensures.played f short
+    (some_count g.V.Vault IsSettling (length q.parties.stations.all.items) (servers_said c.args.lines.now) f q.parties.stations c.settle.new.self.parties.stations c.in_ok-play.ensures.played.count d)) c.settle.ensures.ended
+
+pub returns-clause-left : goal.returns-clause-left
+returns-clause-left g c =
+    end_map c.settle.result _ _
+    (λ f d. end_opened g.V.Vault f (course_of g.V.Vault d.at_end) d.due d.at_end c.settle.new.self.parties.stations d.ends d.left ∙ d.goes.later.openings ∙ c.in_ok-play.ensures.openings) c.settle.ensures.ended
+
+pub returns-clause-openings : goal.returns-clause-openings
+returns-clause-openings g c = on_ok_weaker c.settle.result (λ d. d.goes.later.openings ∙ c.in_ok-play.ensures.openings) c.settle.ensures.settled
 
 pub returns-clause-played : goal.returns-clause-played
 returns-clause-played g c =
+    let q = c.play.new.self in
+    let z = c.settle.new.self in
+    let servers = servers_said c.args.lines.now in
     let few : length c.args.lines.now ≤ 200000 = c.requires.accepted.few in
     let short : length c.args.lines.now < 2 ^ 29 = omega (arith, few) in
     on_ok_weaker c.settle.result
-    (λ h p is.
-    let (q, now, opening, telling, played) = c.in_ok-play.ensures.played p is in
-    let (z, then_at, clients, settled) = h q now in
-    let done = settled played.is_fused in (
-      z,
-      then_at,
-      done.goes.later.opening ∙ opening,
-      done.goes.later.telling ∙ telling,
-      subst (λ (vs : Vec (Vec Item Global) Global). HasPlayedOut g.V.Vault c.args.lines.now z.node vs.items c.settle.new.self.text.items) (sym c.settle.ensures.lists)
-          (subst (λ (t : Vec ℕ Global). HasPlayedOut g.V.Vault c.args.lines.now z.node c.play.new.self.lists.items t.items) (sym c.settle.ensures.text)
-          (played_out g.V.Vault c.args.lines.now q.clients q.node z.node c.play.new.self.lists.items c.play.new.self.text.items played short done)),
-    ))
+    (λ d.
+    subst (λ (vs : Vec (Vec Item Global) Global). HasPlayedOut g.V.Vault servers c.args.lines.now z.parties.stations vs.items z.text.items) (sym c.settle.ensures.lists)
+    (subst (λ (t : Vec ℕ Global). HasPlayedOut g.V.Vault servers c.args.lines.now z.parties.stations q.lists.items t.items) (sym c.settle.ensures.text)
+    (played_out g.V.Vault servers c.args.lines.now q.parties.clients q.parties.stations z.parties.stations q.lists.items q.text.items c.in_ok-play.ensures.played short
+    (did_count g.V.Vault IsSettling (length q.parties.stations.all.items) servers q.parties.stations z.parties.stations c.in_ok-play.ensures.played.count d))))
     c.settle.ensures.settled

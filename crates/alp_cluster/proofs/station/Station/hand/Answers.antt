@@ -1,0 +1,33 @@
+use Rattle.std.specs.Prelude.{take, length}
+use Rattle.std.proofs.Common.{◌∙◌, ap}
+use Rattle.std.proofs.lemmas.Result.{IfOk-weaker}
+use Rattle.alp_cluster.proofs.GoneLemmas.{full_map}
+use Rattle.alp_cluster.proofs.StationLemmas.{still_by}
+use Rattle.alp_cluster.proofs.station.Station.hand.Goals as goal
+
+pub hand_here-handed-requires-clause-stands : goal.hand_here-handed-requires-clause-stands
+hand_here-handed-requires-clause-stands g c = (let (n, keeps) = c.requires.stands in (n, c.push_rank.ensures.server ∙ keeps.stands, keeps.on))
+
+pub returns-clause-filled : goal.returns-clause-filled
+returns-clause-filled g c =
+    full_map _ _ c.hand_here-handed.result
+    (λ room n keeps.
+    let (m, stands, spelled, full) = room n (c.push_rank.ensures.server ∙ keeps.stands) in
+    let both = still_by g.V.Vault 0 c.args.self.now c.drop_ranks.new.self n m keeps full (c.drop_ranks.ensures.server ∙ stands) (c.drop_ranks.ensures.fused ∙ c.hand_here-handed.ensures.fused ∙ c.push_rank.ensures.fused)
+    (c.drop_ranks.ensures.dropped m stands ∙ ap (λ v. take (length m.journal) v.items) c.hand_here-handed.ensures.ranks ∙ ap (take (length m.journal)) c.in_ok-push_rank.ensures.pushed) in
+    (spelled, both.0, both.1))
+    c.hand_here-handed.ensures.filled
+
+pub returns-clause-handed : goal.returns-clause-handed
+returns-clause-handed g c =
+    IfOk-weaker c.hand_here-handed.result _ _
+    (λ h handed n keeps.
+    let (m, stands, made) = handed n (c.push_rank.ensures.server ∙ keeps.stands) in
+    record {
+      after = m;
+      stands = c.drop_ranks.ensures.server ∙ stands;
+      fused = c.drop_ranks.ensures.fused ∙ c.hand_here-handed.ensures.fused ∙ c.push_rank.ensures.fused;
+      handed = made;
+      ranks = c.drop_ranks.ensures.dropped m stands ∙ ap (λ v. take (length m.journal) v.items) c.hand_here-handed.ensures.ranks ∙ ap (take (length m.journal)) c.in_ok-push_rank.ensures.pushed;
+    })
+    c.hand_here-handed.ensures.handed

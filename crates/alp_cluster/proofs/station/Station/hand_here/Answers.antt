@@ -1,0 +1,31 @@
+use Rattle.std.specs.Prelude.{Some}
+use Rattle.std.proofs.Common.{◌≡◌, refl, subst, ◌∙◌, ap}
+use Rattle.std.proofs.lemmas.Result.{IfOk-weaker}
+use Rattle.alp_fields.specs.Forms.{whole}
+use Rattle.alp_rpc.specs.Frames.{request}
+use Rattle.alp_node.specs.NodeStates.{NodeState}
+use Rattle.alp_cluster.specs.Exchanges.{IsHanded}
+use Rattle.alp_cluster.specs.Servers.{HasNoRoom}
+use Rattle.alp_cluster.specs.Station.{standing}
+use Rattle.alp_cluster.proofs.GoneLemmas.{full_map}
+use Rattle.alp_cluster.proofs.StationLemmas.{one_of}
+use Rattle.alp_cluster.proofs.station.Station.hand_here.Goals as goal
+
+pub returns-clause-filled : goal.returns-clause-filled
+returns-clause-filled g c =
+    let is : c.args.self.now.server ≡ standing c.in-Some-Up.node = c.in-Some-Up.is ∙ ap Some c.in-Some-Up.field-0-is in
+    full_map _ _ c.hand.result (λ room n stood. (c.hand.new.node, refl, room.0, subst (λ (z : NodeState _). HasNoRoom z c.hand.new.node) (one_of c.args.self.now.server c.in-Some-Up.node n is stood) room.1)) c.hand.ensures.filled
+
+pub returns-clause-handed : goal.returns-clause-handed
+returns-clause-handed g c =
+    let is : c.args.self.now.server ≡ standing c.in-Some-Up.node = c.in-Some-Up.is ∙ ap Some c.in-Some-Up.field-0-is in
+    IfOk-weaker c.hand.result _ _
+    (λ h handed n stood. (
+      c.hand.new.node,
+      refl,
+      subst (λ (z : NodeState _). IsHanded g.V.Vault z c.hand.new.node c.args.client c.args.frame.now (whole request c.args.frame.now) h) (one_of c.args.self.now.server c.in-Some-Up.node n is stood) handed,
+    ))
+    c.hand.ensures.handed
+
+pub returns-clause-stands : goal.returns-clause-stands
+returns-clause-stands g c = (c.hand.new.node, refl)

@@ -1,0 +1,31 @@
+use Rattle.std.specs.Prelude.{Some}
+use Rattle.std.proofs.Common.{◌≡◌, refl, sym, subst, ◌∙◌, ap}
+use Rattle.alp_node.specs.NodeStates.{NodeState}
+use Rattle.alp_cluster.specs.Servers.{Steps, HasNoRoom}
+use Rattle.alp_cluster.specs.Station.{standing}
+use Rattle.alp_cluster.proofs.GoneLemmas.{handed_on, full_then}
+use Rattle.alp_cluster.proofs.StationLemmas.{one_of}
+use Rattle.alp_cluster.proofs.station.Station.step_here.Goals as goal
+
+pub returns-in_err-step-in-Some-Up-clause-filled : goal.returns-in_err-step-in-Some-Up-clause-filled
+returns-in_err-step-in-Some-Up-clause-filled g c =
+    let is : c.args.self.now.server ≡ standing c.in-Some-Up.node = c.in-Some-Up.is ∙ ap Some c.in-Some-Up.field-0-is in
+    full_then _ _ c.in_err-step-in-Some-Up.field-0.0 c.from_residual.result c.in_err-step-in-Some-Up.ensures.filled (handed_on c.in_err-step-in-Some-Up.field-0.0 c.from_residual.result c.from_residual.ensures.0 c.from_residual.ensures.1)
+    (λ room n stood. (c.step.new.node, refl, subst (λ (z : NodeState _). HasNoRoom z c.step.new.node) (one_of c.args.self.now.server c.in-Some-Up.node n is stood) room))
+
+pub returns-clause-came : goal.returns-clause-came
+returns-clause-came g c = λ n stood.
+    let is : c.args.self.now.server ≡ standing c.in-Some-Up.node = c.in-Some-Up.is ∙ ap Some c.in-Some-Up.field-0-is in (
+      c.step.new.node,
+      refl,
+      (
+        c.in_ok-step-in-Some-Up.field-0,
+        subst (λ (z : NodeState _). Steps g.V.Vault z.kept.is_down z c.step.new.node c.args.event c.in_ok-step-in-Some-Up.field-0) (one_of c.args.self.now.server c.in-Some-Up.node n is stood) c.in_ok-step-in-Some-Up.ensures.steps,
+      ),
+    )
+
+pub returns-in_err-step-in-Some-Up-clause-stands : goal.returns-in_err-step-in-Some-Up-clause-stands
+returns-in_err-step-in-Some-Up-clause-stands g c = (c.step.new.node, refl)
+
+pub returns-clause-stands : goal.returns-clause-stands
+returns-clause-stands g c = (c.step.new.node, refl)

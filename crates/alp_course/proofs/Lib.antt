@@ -1,0 +1,12 @@
+pub mod RankLemmas
+pub mod SeatLemmas
+pub mod LinkLemmas
+pub mod LoneLemmas
+pub mod LanguageLemmas
+pub mod WordLemmas
+pub mod RoomLemmas
+pub mod UpLemmas
+pub mod PlayLemmas
+pub mod TurnLemmas
+pub mod ClosedLemmas
+pub mod TakenLemmas

@@ -1,0 +1,10 @@
+pub mod Turns
+pub mod Opens
+pub mod Happens
+pub mod Courses
+pub mod Languages
+pub mod Carries
+pub mod Settles
+pub mod Plays
+pub mod Links
+pub mod Lone
