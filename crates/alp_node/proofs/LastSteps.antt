@@ -5,7 +5,7 @@ use Rattle.std.specs.List.{list_any, list_all, AllByRecursion}
 use Rattle.std.specs.FinMap as map
 use Rattle.std.specs.FinMap.Entries as entries
 use Rattle.std.specs.FinMap.Entries.{put}
-use Rattle.std.proofs.Common.{◌≡◌, ℕ, ◌+◌, ◌*◌, ◌^◌, ◌<◌, ◌≤◌, List, [], ◌∷◌, ◌++◌, append-nil, length, suc, refl, sym, ◌∙◌, ap, subst, arith, eq-eqb}
+use Rattle.std.proofs.Common.{◌≡◌, ℕ, ◌+◌, ◌*◌, ◌^◌, ◌<◌, ◌≤◌, List, [], ◌∷◌, ◌++◌, append-nil, length, refl, sym, ◌∙◌, ap, subst, arith, eq-eqb}
 use Rattle.std.proofs.lemmas.Bool.{and_parts}
 use Rattle.alp_base.specs.Notes.{Notes, noted, notes_after}
 use Rattle.alp_base.specs.declared.allowance.Allowance.{Allowance}
@@ -51,8 +51,6 @@ use Rattle.alp_calls.proofs.PartLaws.{same_change}
 use Rattle.alp_coord.specs.declared.answers.Ballot.TheVariants as ballot
 use Rattle.alp_coord.specs.declared.coordinator.Coordinator.{Coordinator}
 use Rattle.alp_coord.specs.Coordinators.{IsAlong, Comes, ComesLike, ballot_of, count_of, epoch_of, fate_in, server_of}
-use Rattle.alp_locks.specs.Releases.{released}
-use Rattle.alp_locks.proofs.WalkLemmas.{released-length}
 use Rattle.alp_vault.specs.Contents.{Contents}
 use Rattle.alp_vault.specs.Volumes.{AreNoteChanges, is_another, noted_bytes}
 use Rattle.alp_vault.specs.declared.vault.Vault.{Ghosts}
@@ -93,17 +91,6 @@ use Rattle.alp_node.proofs.ReadyLemmas.{LetsPart, own_lets, ready_with, stepped_
 use Rattle.alp_node.proofs.ReleaseLemmas.{let_go_of, let_go_ready, let_go_voters, grants_go_with, grants_caused_with}
 use Rattle.alp_node.proofs.TransactionLemmas.{LetsGo, run_along}
 use Rattle.alp_node.proofs.WriteSteps.{HasCome, IsStop, written_stepped}
-
--- no more are granted than wait
-pub grants_length : (ts : List TransId) → length (grant_acts ts) ≡ length ts
-grants_length [] = refl
-grants_length (t ∷ ts) = ap suc (grants_length ts)
-
-pub few_granted : {V : Type 0} (n : ℕ) (serves : Bool) (k : ServerState V) (t : TransId) → IsReady n serves k → length (granted_behind k t) ≤ length k.locks.waiting
-few_granted n serves k t h =
-    let all : length (released k.locks t).waiting + length (released k.locks t).woken ≤ length k.locks.waiting + length k.locks.woken = released-length k.locks t in
-    let none : length k.locks.woken ≡ 0 = ap (λ (ts : List TransId). length ts) h.taken in
-    omega (arith, all, none)
 
 -- no grant is the word of an end, nor is a commit
 first_behind : (f : Message → Option Cause) (ts : List TransId) (acts : List Act) → first_sent f (grant_acts ts ++ acts) ≡ first_sent f acts
