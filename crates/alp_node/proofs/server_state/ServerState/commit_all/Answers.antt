@@ -1,6 +1,6 @@
 use Rattle.std.specs.Prelude.{false, None, Some, Ok, Err, List, length, max}
 use Rattle.std.specs.FinMap as map
-use Rattle.std.proofs.Common.{◌≡◌, ℕ, ◌+◌, ◌≤◌, ◌++◌, ◌∷◌, [], refl, sym, ap, ◌∙◌, subst, arith, length-append}
+use Rattle.std.proofs.Common.{◌≡◌, ◌+◌, ◌≤◌, ◌++◌, ◌∷◌, [], sym, ap, ◌∙◌, subst, arith, length-append}
 use Rattle.alp_base.specs.declared.bytes.NoteChange.{NoteChange}
 use Rattle.alp_base.specs.declared.ids.JoinNo.{JoinNo}
 use Rattle.alp_base.specs.declared.ids.Stamp.{Stamp}
@@ -16,7 +16,7 @@ use Rattle.alp_journal.specs.Coordinator.{joins_of}
 use Rattle.alp_journal.specs.Deeds.{Hears}
 use Rattle.alp_journal.specs.Messages.{why_not_own}
 use Rattle.alp_coord.specs.declared.coordinator.Coordinator.{Coordinator}
-use Rattle.alp_coord.specs.Coordinators.{ComesLike, IsAlong, fate_in}
+use Rattle.alp_coord.specs.Coordinators.{ComesLike, IsAlong}
 use Rattle.alp_node.specs.Eases.{eased}
 use Rattle.alp_node.specs.Releases.{grant_acts, granted_behind, let_go}
 use Rattle.alp_node.specs.Says.{said_each}
@@ -29,7 +29,7 @@ use Rattle.alp_node.specs.declared.lives.Live.{Live}
 use Rattle.alp_node.specs.declared.server_state.ServerState.{ServerState}
 use Rattle.alp_node.specs.declared.stored.StoreFault.TheVariants as fault
 use Rattle.alp_node.proofs.FinishedFates.{kept_coordinator}
-use Rattle.alp_node.proofs.LastSteps.{last_changes, last_come, last_few, last_joins, last_log, last_low, last_of, last_part, last_stop, last_then, last_written}
+use Rattle.alp_node.proofs.LastSteps.{last_changes, last_come, last_few, last_joins, last_log, last_low, last_of, last_part, last_stop, last_written}
 use Rattle.alp_node.proofs.LastVotes.{hears_from, heard_all, heard_late}
 use Rattle.alp_node.proofs.LetGoWrites.{granted_few}
 use Rattle.alp_node.proofs.ReleaseLemmas.{let_go_of}
