@@ -96,6 +96,7 @@ pub mod StopLemmas
 pub mod PastLemmas
 pub mod DownLemmas
 pub mod RaiseLemmas
+mod RestartTold
 pub mod RestLemmas
 pub mod LeastOpens
 pub mod NoteLemmas
@@ -107,6 +108,16 @@ pub mod EndingLemmas
 pub mod OutcomeLemmas
 pub mod JoinLemmas
 pub mod LogLemmas
+pub mod FoundNotes
+pub mod FoundLives
+pub mod FoundStart
+pub mod FoundReady
+pub mod FinishedFates
+pub mod TickSays
+pub mod PastIds
+pub mod FoundAs
+pub mod FoundNew
+pub mod StartMade
 mod AbortReady
 mod LeftWrites
 mod LetGoWrites
@@ -118,8 +129,6 @@ mod ForgetSteps
 mod CountedLocks
 mod VoteForSteps
 mod VoteNotes
-pub mod FinishedFates
-pub mod TickSays
 pub mod OpenJoins
 pub mod LateTold
 pub mod LateReady

@@ -11,6 +11,7 @@ pub mod ServerState
 pub mod Asks
 pub mod Shapes
 pub mod Covers
+pub mod Found
 pub mod Totals
 pub mod Waits
 pub mod BlockSets
