@@ -1,6 +1,6 @@
 -- a step behind a look into the vault is a step
 use Rattle.std.specs.Prelude.{false, IsTrue, Option, Some, Result, Ok, Err}
-use Rattle.std.proofs.Common.{◌≡◌, ℕ, refl, sym, ◌∙◌, subst, inl, inr, ⊎_elim}
+use Rattle.std.proofs.Common.{◌≡◌, ℕ, refl, sym, ◌∙◌, ap, subst, inl, inr, ⊎_elim}
 use Rattle.alp_base.specs.Allowances.{Spends}
 use Rattle.alp_base.specs.declared.allowance.Allowance.{Allowance}
 use Rattle.alp_base.specs.declared.memory.OutOfMemory.{OutOfMemory}
@@ -12,7 +12,7 @@ use Rattle.alp_journal.specs.declared.event.Event.{Event}
 use Rattle.alp_journal.specs.declared.event.Event.TheVariants as event
 use Rattle.alp_journal.specs.Account.{Account, state_of}
 use Rattle.alp_node.specs.Draws.{IsBackAgain}
-use Rattle.alp_node.specs.Durable.{said_by, Leaves, Besides, NoOther}
+use Rattle.alp_node.specs.Durable.{IsSaidBy, Leaves, Besides, NoOther}
 use Rattle.alp_node.specs.ServerState.{IsAs, IsReady}
 use Rattle.alp_node.specs.Steps.{Stepped, IsGiven, IsSeated, IsStill, IsStep, entry_of}
 use Rattle.alp_node.specs.Turns.{AreTurned, HasTurned}
@@ -22,6 +22,8 @@ use Rattle.alp_node.specs.declared.sessions.CallOrder.TheVariants as order
 use Rattle.alp_node.proofs.KeptLemmas.{as_with, as_back}
 use Rattle.alp_node.proofs.ReadyLemmas.{ready_with, back_ready}
 use Rattle.alp_node.proofs.GivenLemmas.{wanting}
+use Rattle.alp_node.specs.Noted.{decision_kept}
+use Rattle.alp_node.proofs.NotedLemmas.{noted_decided}
 use Rattle.alp_node.proofs.SeatLemmas.{left_noted, left_seated}
 use Rattle.alp_calls.proofs.LookLemmas.{left_same}
 use Rattle.std.specs.Result.{IsErr}
@@ -53,6 +55,7 @@ module _ {V : Type 0} (G : Ghosts V) (k new : ServerState V) (v : V) (left : IsL
   seat_behind : IsSeated G mid new → IsSeated G k new
   seat_behind s = record {
     server = s.server;
+    servers = s.servers;
     sizes = s.sizes;
     epoch = s.epoch;
     same = record { telling = s.same.telling ∙ left.same.telling; sizes = s.same.sizes ∙ left.same.sizes; number = s.same.number ∙ left.same.number; of_all = s.same.of_all ∙ left.same.of_all };
@@ -77,19 +80,19 @@ module _ {V : Type 0} (G : Ghosts V) (k new : ServerState V) (v : V) (left : IsL
   pub step_behind : (e : Event) (r : Result Answer OutOfMemory) → IsStep G mid new e r → IsStep G k new e r
   step_behind e (Ok x) s = record {
     stepped = λ told a h. subst (λ (n : ℕ). Stepped a n (G.faults new.vault) (G.held new.vault) new e x) faults (s.stepped (told_then told) a (as_then a h));
-    given = subst (λ (n : ℕ). IsGiven k.server (Some order.Next) n (G.faults new.vault) (G.allowance new.vault) new.is_down x) faults s.given;
+    given = subst (λ (n : ℕ). IsGiven (Some order.Next) n (G.faults new.vault) (G.allowance new.vault) new.is_down x) faults s.given;
     ready = λ n h. s.ready n (ready_then n h);
-    noted = λ h. s.noted (left_noted G k mid refl refl refl left up h);
+    noted = λ h. s.noted (left_noted G k mid refl refl refl refl left up (λ ns x. x) h);
     still = tt;
     seat = seat_behind s.seat;
     turned = λ now. (let t : HasTurned (Some order.Next) mid new e x.kept = s.turned now in record { later = t.later; times = t.times; sessions = turned_behind e x.kept t.sessions; pages = t.pages });
-    leaves = λ told a h. leaves_behind (λ c. c ≡ said_by (state_of a) (entry_of e x)) (s.leaves (told_then told) a (as_then a h));
+    leaves = λ told a h. leaves_behind (IsSaidBy (state_of a) (entry_of e x)) (s.leaves (told_then told) a (as_then a h));
   }
   step_behind e (Err f) s = record {
     stepped = λ told a h. tt;
     given = tt;
     ready = λ n h. tt;
-    noted = λ h. s.noted (left_noted G k mid refl refl refl left up h);
+    noted = λ h. s.noted (left_noted G k mid refl refl refl refl left up (λ ns x. x) h);
     still = still_behind s.still;
     seat = seat_behind s.seat;
     turned = λ now. tt;
@@ -101,7 +104,7 @@ pub same_without : {V : Type 0} (G : Ghosts V) (k new : ServerState V) (e : Even
 same_without G k new e r same err =
     subst (λ (y : ServerState _). IsStep G k y e r) (sym same)
     (wanting G k k e r err (record { kept = λ a h. h; ready = λ n h. h; up = refl; sessions = refl; clock = refl; vault = record { held = refl; faults = refl; allowance = refl } }) (λ h. h)
-    (left_seated G k k refl refl refl (left_same G k.vault)) (left_same G k.vault))
+    (left_seated G k k refl refl refl refl (left_same G k.vault)) (left_same G k.vault))
 
 pub same_err : {V : Type 0} (G : Ghosts V) (k new : ServerState V) (e : Event) (f : OutOfMemory) → new ≡ k → IsStep G k new e (Err f)
 same_err G k new e f same = same_without G k new e (Err f) same refl
@@ -118,4 +121,5 @@ back_without {V} G k new e r back err =
       sessions = refl;
       clock = refl;
       vault = record { held = refl; faults = refl; allowance = refl };
-    }) (λ h. h) (left_seated G k then refl refl refl (left_same G k.vault)) (left_same G k.vault))
+    }) (λ h on. noted_decided k.server k.servers k.epoch k.lives k.joins k.coordinator new.coordinator (G.held k.vault).notes (λ u. ap decision_kept (back.same u)) (h on))
+    (left_seated G k then refl refl refl refl (left_same G k.vault)) (left_same G k.vault))

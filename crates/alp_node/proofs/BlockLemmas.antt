@@ -1,11 +1,12 @@
 -- calls that are kept waiting: for their locks, or because another call of their part waits
-use Rattle.std.specs.Prelude.{Bool, true, false, ◌&&◌, ◌||◌, is_some, is_none, Option, None, Some}
+use Rattle.std.specs.Prelude.{Bool, true, false, ◌&&◌, is_some, is_none, Option, None, Some}
 use Rattle.std.specs.List.{AllByRecursion}
 use Rattle.std.specs.Option.{option_or}
 use Rattle.std.specs.FinMap as map
 use Rattle.std.proofs.Common.{inl, inr, ◌⊎◌, ◌≡◌, ℕ, ◌+◌, ◌<◌, List, [], ◌∷◌, ◌++◌, length, refl, sym, ◌∙◌, ap, subst, arith, eq-eqb}
 use Rattle.alp_base.specs.declared.choices.Choice.{Choice}
 use Rattle.alp_base.specs.declared.choices.Choice.TheVariants as choice
+use Rattle.alp_base.specs.declared.ids.JoinNo.{JoinNo}
 use Rattle.alp_base.specs.declared.ids.TransId.{TransId}
 use Rattle.alp_base.specs.declared.key.Resource.{Resource}
 use Rattle.alp_files.specs.Holdings.{join_held}
@@ -30,14 +31,14 @@ use Rattle.alp_journal.specs.declared.event.Event.TheVariants as event
 use Rattle.alp_journal.specs.Coordinator.{Running}
 use Rattle.alp_journal.specs.Counts.{request_in}
 use Rattle.alp_journal.specs.Desk.{Session, Waiting, file_trans, waiting_of}
-use Rattle.alp_journal.specs.Holder.{Life}
+use Rattle.alp_journal.specs.Holder.{Life, new_life}
 use Rattle.alp_journal.specs.Laws.{IsFree}
 use Rattle.alp_journal.specs.Answers.{choice_of, shape_refusal, lock_refusal}
 use Rattle.alp_journal.specs.Answered.{IsWaitingFor}
 use Rattle.alp_journal.specs.Account.{Account, state_of, Leads}
 use Rattle.alp_journal.proofs.RefusedCalls.{counted_as}
 use Rattle.alp_journal.proofs.CallLemmas.{call_entry}
-use Rattle.alp_journal.proofs.WaitingCalls.{idle_part, waits_leads, with_wait, busy_leads, busy_finish_leads}
+use Rattle.alp_journal.proofs.WaitingCalls.{waits_leads, with_wait, busy_finish_leads}
 use Rattle.alp_turns.specs.Queues.{AreHeldAlike, request_if, request_for, request_at, queue_of}
 use Rattle.alp_turns.proofs.RequestLemmas.{request, free_there}
 use Rattle.alp_turns.proofs.MoveLemmas.{queue_with}
@@ -46,28 +47,31 @@ use Rattle.alp_node.specs.Asks.{AreGiven, asks_of, plan_of}
 use Rattle.alp_node.specs.Calls.{IsServedCall}
 use Rattle.alp_node.specs.ServerState.{IsAs, IsReady, IsAlike, IsCaller, IsLife, IsAskedAs, IsWaitingAs}
 use Rattle.alp_node.specs.Shapes.{shape_of, counts_then, too_locked, may_wait, ReadsSome}
+use Rattle.alp_node.specs.Standings.{standing_of}
+use Rattle.alp_node.specs.declared.served.Standing.TheVariants as standing
 use Rattle.alp_node.specs.Steps.{Stepped, IsTurn, counted_in, refused_answer}
-use Rattle.alp_node.specs.Waits.{waiting, waiting_calls, is_of, has_waiting, IsWithinLimits, IsFileCall, IsWaitingCall, IsOfOther, IsOfCalls}
+use Rattle.alp_node.specs.Waits.{waiting, waiting_calls, has_waiting, IsWithinLimits, IsFileCall, IsWaitingCall, IsOfOther, IsOfCalls}
 use Rattle.alp_node.specs.declared.answer.Answer.{Answer as Handed}
 use Rattle.alp_node.specs.declared.lives.Live.{Live}
 use Rattle.alp_node.specs.declared.lock_counts.LockCounts.{LockCounts}
 use Rattle.alp_node.specs.declared.server_state.ServerState.{ServerState}
 use Rattle.alp_node.specs.declared.sessions.Turn.{Turn}
 use Rattle.alp_node.specs.declared.waits.WaitingCall.{WaitingCall}
-use Rattle.alp_node.proofs.BesideLemmas.{AreOthers, HasNoCall, idle_told}
+use Rattle.alp_node.proofs.BesideLemmas.{AreOthers, idle_told}
 use Rattle.alp_journal.proofs.WaitLemmas.{turned}
 use Rattle.alp_node.proofs.ConflictLemmas.{held_elsewhere}
-use Rattle.alp_node.proofs.DeadLemmas.{turned_eq}
 use Rattle.alp_node.proofs.FinishLemmas.{turn_session, counts_as}
 use Rattle.alp_node.proofs.GrantLemmas.{asked_below}
 use Rattle.alp_node.proofs.KeptLemmas.{session_of, IsLive, live_there, same_live, stepped_so}
-use Rattle.alp_node.proofs.LiveSums.{live_here}
-use Rattle.alp_node.proofs.TransactionLemmas.{owned_placed}
+use Rattle.alp_node.proofs.NoteCalls.{call_notes}
+use Rattle.alp_node.proofs.NotedLemmas.{HasNoVoter}
+use Rattle.alp_node.proofs.OtherLemmas.{told_last}
+use Rattle.alp_node.proofs.PairedLemmas.{part_begun}
+use Rattle.alp_node.proofs.StandingLemmas.{part_told, unvoted_told}
 use Rattle.alp_node.proofs.LockCallLemmas.{lock_request, lock_choice, not_refused, asked_locks, shut_none, chosen, none_asked_free}
-use Rattle.alp_node.proofs.OneServer.{live_runs, life_works, lone_caller}
 use Rattle.alp_node.proofs.ReadyLemmas.{counted_ready, numbered}
 use Rattle.alp_node.proofs.ShapeLemmas.{IsShut, shape_cases, may_lock}
-use Rattle.alp_node.proofs.WaitLemmas.{named_all, asks_none, idle_in, pushed_each, pushed_apart, pushed_asks, asks_last}
+use Rattle.alp_node.proofs.WaitLemmas.{file_current, idle_pushed, named_all, asks_none, idle_in, pushed_each, pushed_apart, pushed_asks, asks_last}
 use Rattle.alp_node.proofs.WithinLemmas.{MayLock}
 
 -- the parts of the journal hold what the table says
@@ -81,35 +85,21 @@ held_alike a held k h = record {
     nothing t None alike r = alike r
     nothing t (Some l) alike r = absurd alike
 
--- ---- another call of the part waits
+-- ---- a Finish while another call of the part waits
 
-module _ {V : Type 0} (a : Account) (before now : ℕ) (held : Contents) (k : ServerState V) (turn : Turn) (t : TransId) (l : Live) (v : Waiting) (x : Handed) (h : IsAs a held k) (is : IsTurn k.sessions turn) (up : k.is_down ≡ false) (there : map.get k.lives t ≡ Some l) (own : l.client ≡ turn.client)
-    (busy : waiting_of (state_of a).desk turn.client t ≡ Some v) (so : x ≡ refused_answer refusal.NotYet []) where
+module _ {V : Type 0} (a : Account) (before now : ℕ) (held : Contents) (k : ServerState V) (turn : Turn) (t : TransId) (v : Waiting) (x : Handed) (h : IsAs a held k) (is : IsTurn k.sessions turn) (up : k.is_down ≡ false) where
   abbrev kept_back : ServerState V
   kept_back = record k { sessions = counted_in k.sessions turn (reply.Refused refusal.NotYet) }
 
-  mine : IsLive a.holder.cells k.locks.held (a.locked t) t l (a.holder.lives t)
-  mine = live_there a.holder.cells k.locks.held (a.locked t) t (map.get k.lives t) (a.holder.lives t) l there (h.lives t)
-
-  pub busy_stepped : (c : Call) → file_trans c ≡ Some t → Stepped a before now held kept_back (event.Call turn.client k.epoch turn.number c) x
-  busy_stepped c named =
-      stepped_so a before now held held k kept_back turn.client turn.number (session_of turn is) c false (reply.Refused refusal.NotYet) [] (counted_as a turn.client turn.number (session_of turn is) (reply.Refused refusal.NotYet)) x so h
-      (busy_leads a turn.client turn.number (session_of turn is) t mine.life c v h.quiet (h.down ∙ up) (turn_session a held k turn h is) is.number
-      (idle_part a turn.client turn.number (session_of turn is) t mine.life (Some v) busy (life_works a h.lone h.quiet.settled.stands t mine.life turn.client mine.is (mine.alike.client ∙ own))) named busy)
-      (counts_as a held k turn (reply.Refused refusal.NotYet) h is up) (λ e. cc) (omega (arith, h.clock))
-
-  pub busy_finish_stepped : Stepped a before now held kept_back (event.Call turn.client k.epoch turn.number (call.Finish t true)) x
-  busy_finish_stepped =
-      stepped_so a before now held held k kept_back turn.client turn.number (session_of turn is) (call.Finish t true) false (reply.Refused refusal.NotYet) [] (counted_as a turn.client turn.number (session_of turn is) (reply.Refused refusal.NotYet)) x so h
-      (busy_finish_leads a turn.client turn.number (session_of turn is) t mine.life v h.quiet (h.down ∙ up) (turn_session a held k turn h is) is.number (live_here a held k h t l there)
-      (live_runs a h.lone h.quiet.settled.stands t mine.life mine.is ∙ ap (λ (d : ℕ). Running d []) (mine.alike.client ∙ own)) busy)
+  pub busy_finish_stepped : (js : List JoinNo) → t.server ≡ k.server → a.fates t ≡ Running turn.client js → waiting_of (state_of a).desk turn.client t ≡ Some v → x ≡ refused_answer refusal.NotYet []
+      → Stepped a before now held kept_back (event.Call turn.client k.epoch turn.number (call.Finish t true)) x
+  busy_finish_stepped js own runs busy so =
+      let leads : Leads false a (call_entry a turn.client turn.number (session_of turn is) (call.Finish t true) (reply.Refused refusal.NotYet) []) (counted_as a turn.client turn.number (session_of turn is) (reply.Refused refusal.NotYet)) =
+      busy_finish_leads a turn.client turn.number (session_of turn is) t (new_life None turn.client []) v h.quiet (h.down ∙ up) (turn_session a held k turn h is) is.number (own ∙ sym h.server) {js = js} runs busy in
+      stepped_so a before now held held k kept_back turn.client turn.number (session_of turn is) (call.Finish t true) false (reply.Refused refusal.NotYet) [] (counted_as a turn.client turn.number (session_of turn is) (reply.Refused refusal.NotYet)) x so h leads
       (counts_as a held k turn (reply.Refused refusal.NotYet) h is up) (λ e. cc) (omega (arith, h.clock))
 
 -- ---- the call waits for its locks
-
-told_last : (ws : List WaitingCall) (w : WaitingCall) → waiting_calls (ws ++ w ∷ []) ≡ waiting_calls ws ++ waiting w ∷ []
-told_last [] w = refl
-told_last (v ∷ vs) w = ap (λ (ys : List Waiting). waiting v ∷ ys) (told_last vs w)
 
 module _ {V : Type 0} (k : ServerState V) (turn : Turn) (t : TransId) (l : Live) (c : Call) (ns : List Need) where
   abbrev pub plan : Waiter
@@ -136,25 +126,11 @@ module _ {V : Type 0} (k : ServerState V) (turn : Turn) (t : TransId) (l : Live)
   same_counts y z e = cc
 
   -- the call is apart from all that wait
-  others_apart : (ws : List WaitingCall) → AreOthers t ws → has_waiting turn.client t ws ≡ false → AllByRecursion (λ (v : WaitingCall). IsOfOther v new_call) ws
-  others_apart [] away idle = tt
-  others_apart (v ∷ vs) away idle = (
-    record {
-      files = ap (λ (b : Bool). is_some v.counts && b) (turned t v.trans) ∙ away.0;
-      parts = (λ i. turned_eq turn.client v.client i && turned t v.trans i) ∙ left (is_of turn.client t v) (has_waiting turn.client t vs) idle;
-    },
-    others_apart vs away.1 (right (is_of turn.client t v) (has_waiting turn.client t vs) idle),
-  )
-    where
-      left : (b d : Bool) → (b || d) ≡ false → b ≡ false
-      left false d e = refl
-      left true d e = let wrong : true ≡ false = e in cc
+  others_apart : (ws : List WaitingCall) → AreOthers t ws → AllByRecursion (λ (v : WaitingCall). IsOfOther v new_call) ws
+  others_apart [] away = tt
+  others_apart (v ∷ vs) away = (ap (λ (b : Bool). is_some v.counts && b) (turned t v.trans) ∙ away.0, others_apart vs away.1)
 
-      right : (b d : Bool) → (b || d) ≡ false → d ≡ false
-      right false d e = e
-      right true d e = let wrong : true ≡ false = e in cc
-
-  module _ (n : ℕ) (serves : Bool) (is : IsTurn k.sessions turn) (there : map.get k.lives t ≡ Some l) (own : l.client ≡ turn.client) (away : HasNoCall turn.client t k.waits) (named : file_trans c ≡ Some t) (formed : IsFormed c) (some : ReadsSome c)
+  module _ (n : ℕ) (serves : Bool) (is : IsTurn k.sessions turn) (there : map.get k.lives t ≡ Some l) (own : l.client ≡ turn.client) (unvoted : HasNoVoter k.joins.lives t) (away : AreOthers t k.waits) (named : file_trans c ≡ Some t) (formed : IsFormed c) (some : ReadsSome c)
       (shape : shape_of k.server k.epoch k.given (length l.part.opens.items) c ≡ None) (few : too_locked k.sizes.area l.part.counts.cells counts.made ≡ None) (files : AreGiven k.server k.epoch k.given ns) where
     abbrev waiting_kept : ServerState V
     waiting_kept = record k { waits = k.waits ++ new_call ∷ []; locks = blocked_locks }
@@ -162,7 +138,7 @@ module _ {V : Type 0} (k : ServerState V) (turn : Turn) (t : TransId) (l : Live)
     blocked_sound : IsReady n serves k → IsSound blocked_locks
     blocked_sound h =
         subst IsSound (blocked_is (h.known t l there))
-        (refuse-sound k.locks plan choice.Wait refl h.sound (idle_in k.server k.epoch k.given k.lives k.waits t k.locks.waiting (asks_none t k.waits away.others) h.waits.queued))
+        (refuse-sound k.locks plan choice.Wait refl h.sound (idle_in k.server k.epoch k.given k.lives k.waits t k.locks.waiting (asks_none t k.waits away) h.waits.queued))
 
     may : MayLock k.sizes l counts
     may = may_lock k.sizes l (holding k.locks.held t) ns c few
@@ -170,10 +146,11 @@ module _ {V : Type 0} (k : ServerState V) (turn : Turn) (t : TransId) (l : Live)
     new_waiting : IsReady n serves k → IsWaitingCall k.server k.epoch k.given (count_of k.coordinator) k.sizes k.lives new_call
     new_waiting h = record {
       named = named;
+      current = file_current k.epoch t c named;
       file = λ z counted. subst (IsFileCall k.server k.epoch k.given (count_of k.coordinator) k.sizes k.lives new_call) (same_counts counts z counted) (record {
         formed = formed;
         some = some;
-        begun = (owned_placed k.coordinator t (map.get k.lives t) l (h.own t) there).within;
+        begun = λ its. part_begun k.servers k.server k.coordinator k.joins k.lives h.paired t l there its;
         limits = λ x at. subst (IsWithinLimits k.server k.epoch k.given k.sizes new_call counts) (same_live l x (sym there ∙ at)) (record { its = sym own; shape = shape; fewer = may.asked; locks = may.few; log = may.log });
       });
     }
@@ -190,26 +167,25 @@ module _ {V : Type 0} (k : ServerState V) (turn : Turn) (t : TransId) (l : Live)
       taken = h.taken;
       waits = record {
         calls = pushed_each (IsWaitingCall k.server k.epoch k.given (count_of k.coordinator) k.sizes k.lives) k.waits new_call h.waits.calls (new_waiting h);
-        files = pushed_each (λ (v : WaitingCall). is_some v.counts ≡ true) k.waits new_call h.waits.files refl;
-        apart = pushed_apart k.waits new_call h.waits.apart (others_apart k.waits away.others away.idle);
+        apart = pushed_apart k.waits new_call h.waits.apart (others_apart k.waits away);
         queued = each-placed (IsOfCalls k.server k.epoch k.given k.lives (k.waits ++ new_call ∷ [])) k.locks.waiting plan
             (each-more (IsOfCalls k.server k.epoch k.given k.lives k.waits) (IsOfCalls k.server k.epoch k.given k.lives (k.waits ++ new_call ∷ [])) (λ x o. record { live = o.live; asks = pushed_asks k.waits new_call x.trans o.asks; beyond = o.beyond }) k.locks.waiting h.waits.queued)
             (record { live = ap is_some there; asks = asks_last k.waits new_call refl refl; beyond = none_beyond h });
       };
       known = h.known;
-      own = h.own;
+      joins = h.joins;
+      paired = h.paired;
+      idle = idle_pushed k.joins.lives k.waits new_call unvoted h.idle;
       opens = h.opens;
       opened = h.opened;
-      callers = h.callers;
       alive = h.alive;
-      causes = h.causes;
       places = h.places;
       calls = h.calls;
       replies = h.replies;
       drawn = h.drawn;
       given = h.given;
-      few = h.few;
       most = h.most;
+      fits = h.fits;
       within = h.within;
       sized = h.sized;
       clock = h.clock;
@@ -225,7 +201,7 @@ module _ {V : Type 0} (k : ServerState V) (turn : Turn) (t : TransId) (l : Live)
 
   -- ---- as the journal tells it
 
-  module _ (a : Account) (before now : ℕ) (held : Contents) (m : ℕ) (on : Bool) (ready : IsReady m on k) (h : IsAs a held k) (is : IsTurn k.sessions turn) (up : k.is_down ≡ false) (there : map.get k.lives t ≡ Some l) (own : l.client ≡ turn.client) (away : HasNoCall turn.client t k.waits)
+  module _ (a : Account) (before now : ℕ) (held : Contents) (m : ℕ) (on : Bool) (ready : IsReady m on k) (h : IsAs a held k) (is : IsTurn k.sessions turn) (up : k.is_down ≡ false) (there : map.get k.lives t ≡ Some l) (own : l.client ≡ turn.client) (works : standing_of k turn.client t ≡ standing.Work) (idle : has_waiting turn.client t k.waits ≡ false)
       (served : IsServedCall c) (named : file_trans c ≡ Some t) (told : ns ≡ asks_of (holding k.locks.held t) (seen held.cells l.part) (own_of l.part) c)
       (shape : shape_of k.server k.epoch k.given (length l.part.opens.items) c ≡ None) (few : too_locked k.sizes.area l.part.counts.cells counts.made ≡ None) (chooses : may_wait c ≡ true) (holder : TransId) (blocked : blocker k.locks.held t plan.rises ≡ Some holder) where
     abbrev w : Session
@@ -241,7 +217,7 @@ module _ {V : Type 0} (k : ServerState V) (turn : Turn) (t : TransId) (l : Live)
     alike = there_live.alike
 
     abbrev caller : IsCaller l life
-    caller = lone_caller a held k h a.holder.cells k.locks.held (a.locked t) t l life there_live.is alike
+    caller = alike.calls (unvoted_told a held k turn.client t h works life there_live.is).vote
 
     asked_is : request_in a.holder c (Some life) ≡ ns
     asked_is = lock_request a held k t l c ns life h up alike caller served told
@@ -285,18 +261,19 @@ module _ {V : Type 0} (k : ServerState V) (turn : Turn) (t : TransId) (l : Live)
 
     leads : Leads false a (call_entry a turn.client turn.number w c (reply.Refused refusal.NotYet) []) (with_wait a turn.client turn.number w t life c)
     leads = waits_leads a turn.client turn.number w t life c h.quiet (h.down ∙ up) (turn_session a held k turn h is) is.number
-        (life_works a h.lone h.quiet.settled.stands t life turn.client there_live.is (alike.client ∙ own)) there_live.is (alike.client ∙ own) named
-        (idle_told a turn.client t k.waits h.waits (named_all k.server k.epoch k.given (count_of k.coordinator) k.sizes k.lives k.waits ready.waits.calls) away.idle) passed waits_for taken
+        (part_told a held k turn.client t h standing.Work works) there_live.is (alike.client ∙ own) named
+        (idle_told a turn.client t k.waits h.waits (named_all k.server k.epoch k.given (count_of k.coordinator) k.sizes k.lives k.waits ready.waits.calls) idle) passed waits_for taken
 
     waits_as : IsAs (with_wait a turn.client turn.number w t life c) held blocked_kept
     waits_as = record {
       server = h.server;
+      servers = h.servers;
       sizes = h.sizes;
       epoch = h.epoch;
       clock = h.clock;
       cells = h.cells;
       sized = h.sized;
-      notes = h.notes;
+      notes = λ on. call_notes false a (with_wait a turn.client turn.number w t life c) turn.client turn.number w c (reply.Refused refusal.NotYet) [] h.quiet leads refl held.notes (h.notes on);
       places = as_then.places;
       sessions = as_then.sessions;
       dead = h.dead;
@@ -304,8 +281,8 @@ module _ {V : Type 0} (k : ServerState V) (turn : Turn) (t : TransId) (l : Live)
       room = h.room;
       unborn = h.unborn;
       coordinator = h.coordinator;
-      plain = h.plain;
-      lone = h.lone;
+      decided = h.decided;
+      joins = h.joins;
       files = h.files;
       made = h.made;
       born = h.born;

@@ -27,7 +27,7 @@ use Rattle.alp_journal.specs.Ids.{same_trans}
 use Rattle.alp_journal.specs.Holder.{Life, view_in, answer_in}
 use Rattle.alp_journal.specs.Counts.{lock_set, with_resources}
 use Rattle.alp_journal.specs.Desk.{Session, Waiting, file_trans, is_of}
-use Rattle.alp_journal.specs.Account.{Account, IsQuiet}
+use Rattle.alp_journal.specs.Account.{Account, state_of, IsQuiet}
 use Rattle.alp_journal.proofs.IdLemmas.{same_trans-true}
 use Rattle.alp_journal.proofs.FileCalls.{with_call, life_after}
 use Rattle.alp_files.specs.declared.call.Call.{Call}
@@ -52,6 +52,7 @@ use Rattle.alp_node.specs.Rooms.{IsRoomOf, locks_given}
 use Rattle.alp_node.specs.Totals.{LiveMap, totals_of}
 use Rattle.alp_node.specs.declared.lock_counts.LockCounts.{LockCounts}
 use Rattle.alp_node.proofs.TotalLemmas.{AreRoomed, same_room, swapped_room}
+use Rattle.alp_node.specs.Durable.{AreNotesOf}
 use Rattle.alp_node.specs.ServerState.{IsCaller, IsLife, IsAlike, IsAs, IsToCome, SeesNoneToCome, PutNoneBeyond, AreMade, ids_to}
 use Rattle.alp_node.proofs.ToComeLemmas.{next_to_come, comes_later, to_come_kept}
 use Rattle.alp_node.specs.Steps.{IsTurn, counted_in}
@@ -130,6 +131,7 @@ module _ {V : Type 0} (a : Account) (held : Contents) (k : ServerState V) where
   part_still t l p n v then h same there before locks =
       subst (λ (c : Contents). IsAs a c (record k { lives = map.insert k.lives t (record l { part = p; locks = n }); vault = v })) (sym same) (record {
         server = h.server;
+        servers = h.servers;
         sizes = h.sizes;
         epoch = h.epoch;
         clock = h.clock;
@@ -143,8 +145,8 @@ module _ {V : Type 0} (a : Account) (held : Contents) (k : ServerState V) where
         room = same_room k.sizes a.holder.cells k.lives t l (record l { part = p; locks = n }) there before.2 h.room;
         unborn = h.unborn;
         coordinator = h.coordinator;
-        plain = h.plain;
-        lone = h.lone;
+        decided = h.decided;
+        joins = h.joins;
         files = h.files;
         made = h.made;
         born = h.born;
@@ -280,19 +282,20 @@ module _ {V : Type 0} (a : Account) (held : Contents) (k : ServerState V) (turn 
         → IsUnder (with_made under (id_in r)) gave.own (life.edits ++ gave.edits) → AreCountsOf a.holder.cells (life.edits ++ gave.edits) p.counts
         → n ≡ length (with_resources (needs_made (id_in r)) rs) → AreHeld (with_made under (id_in r)) (with_resources (needs_made (id_in r)) rs) → AreRoomed k.sizes a.holder.cells (totals_of k.lives) l.part.counts p.counts
         → AreNamed k.waits → AreOthers t k.waits → locks.waiting ≡ k.locks.waiting → ((u : TransId) → same_trans u t ≡ false → held_of locks.held u ≡ held_of k.locks.held u)
-        → IsQuiet (after_call (session_of turn is)) → IsAs (after_call (session_of turn is)) then done_kept
-    done_as then h same is up there live mine only done holds others kept counts count known roomed named away waiting beside quiet =
+        → (AreNotesOf (state_of a) a.ids.epoch held.notes → AreNotesOf (state_of (after_call (session_of turn is))) a.ids.epoch held.notes) → IsQuiet (after_call (session_of turn is)) → IsAs (after_call (session_of turn is)) then done_kept
+    done_as then h same is up there live mine only done holds others kept counts count known roomed named away waiting beside noted quiet =
         let w : Session = session_of turn is in
         let new : Life = life_after a turn.client turn.number w t life c r under in
         let now : List Resource = with_resources (needs_made (id_in r)) rs in
         subst (λ (x : Contents). IsAs (after_call w) x done_kept) (sym same) (record {
           server = h.server;
+          servers = h.servers;
           sizes = h.sizes;
           epoch = h.epoch;
           clock = h.clock;
           cells = h.cells;
           sized = h.sized;
-          notes = h.notes;
+          notes = λ on. noted (h.notes on);
           places = places_set k.sessions turn.client (session_then turn r) h.places;
           sessions = sessions_as a.sessions k.sessions turn.client (session_then turn r) h.sessions h.places is.client;
           dead = h.dead;
@@ -315,8 +318,8 @@ module _ {V : Type 0} (a : Account) (held : Contents) (k : ServerState V) (turn 
               (λ u x at f comes. h.unborn u x at f (comes_later a.holder.server a.ids.epoch k.given (count_after k.given r) f (count_grows k.given r) comes))
               (λ x at. subst (λ (y : Life). PutNoneBeyond a.holder.server a.ids.epoch (count_after k.given r) y.edits) (same-some new x at) (gave_unborn h live only));
           coordinator = h.coordinator;
-          plain = h.plain;
-          lone = h.lone;
+          decided = h.decided;
+          joins = h.joins;
           files = ap (λ (m : ℕ). m + length (option_to_list (id_in r))) h.files ∙ files_now k.given r;
           made = made_now a.holder.server a.ids.epoch k.given r a.holder.made (subst (λ (f : FileId). GivesOnly f r) (next_same h) only) h.made;
           born = λ f comes. h.born f (comes_later a.holder.server a.ids.epoch k.given (count_after k.given r) f (count_grows k.given r) comes);

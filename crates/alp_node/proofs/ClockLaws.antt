@@ -17,7 +17,7 @@ any_law : IsForm any_form
 unfolding any_form
 any_law = mapped_law _ _ (pair u32 u64) (λ v. refl) (λ x. refl) (pair_law u32 u64 u32_law u64_law)
 
-time_law : IsForm clock_form
+pub time_law : IsForm clock_form
 unfolding clock_form
 time_law = mapped_law _ _ (pair u32 (checked is_time u64)) (λ v. refl) (λ x. refl) (pair_law u32 (checked is_time u64) u32_law (checked_law is_time u64 u64_law))
 

@@ -46,6 +46,8 @@ use Rattle.alp_node.specs.Calls.{name_in, IsServedCall, given_of, next_file}
 use Rattle.alp_node.specs.Rooms.{IsRoomOf, locks_given}
 use Rattle.alp_node.specs.Totals.{totals_of}
 use Rattle.alp_node.specs.ServerState.{IsAs, IsReady, IsAlike, IsCaller, IsLife, IsAskedAs}
+use Rattle.alp_node.specs.Standings.{standing_of}
+use Rattle.alp_node.specs.declared.served.Standing.TheVariants as standing
 use Rattle.alp_node.specs.Steps.{Stepped, IsTurn, counted_in, told_answer}
 use Rattle.alp_node.specs.Waits.{waiting, is_of, call_at, without_calls_of, IsNamed, IsFileCall, IsWaitingCall, IsWithinLimits}
 use Rattle.alp_node.specs.declared.answer.Answer.{Answer as Handed}
@@ -56,7 +58,7 @@ use Rattle.alp_node.specs.declared.sessions.Turn.{Turn}
 use Rattle.alp_node.specs.declared.waits.WaitingCall.{WaitingCall}
 use Rattle.alp_node.proofs.BesideLemmas.{AreNamed, counted_named}
 use Rattle.alp_node.proofs.CallLemmas.{right_as, part_still, done_as}
-use Rattle.alp_node.proofs.CollectLemmas.{call_is, left_off, none_asks, found_here, all_named, its_asked, server_left, left_as}
+use Rattle.alp_node.proofs.CollectLemmas.{call_is, left_off, none_asks, found_here, all_named, its_life_client, its_asked, server_left, left_as}
 use Rattle.alp_node.proofs.ConflictLemmas.{held_elsewhere, none_risen}
 use Rattle.alp_node.proofs.CountedLemmas.{IsCountRefusal, refused_is}
 use Rattle.alp_node.proofs.FinishLemmas.{turn_session, counts_as}
@@ -65,7 +67,9 @@ use Rattle.alp_node.proofs.KeptLemmas.{session_of, IsLive, live_there, stands_ti
 use Rattle.alp_node.proofs.LockLemmas.{taken_own, taken_other, taken_agrees, taken_beside, taken_waiting}
 use Rattle.alp_node.proofs.LockCountLemmas.{held_then, none_more, count_made}
 use Rattle.alp_node.proofs.MadeLemmas.{makes_only}
-use Rattle.alp_node.proofs.OneServer.{lone_caller}
+use Rattle.alp_node.proofs.NoteCalls.{call_notes}
+use Rattle.alp_node.proofs.NotedLemmas.{notes_on}
+use Rattle.alp_node.proofs.StandingLemmas.{unvoted_told}
 use Rattle.alp_node.proofs.RoomLemmas.{refusal_same, allowed_room}
 use Rattle.alp_node.proofs.ShapeLemmas.{shape_given, count_none_done}
 use Rattle.alp_node.proofs.TotalLemmas.{AreRoomed}
@@ -171,11 +175,17 @@ module _ {V : Type 0} (a : Account) (before now : ℕ) (held : Contents) (k : Se
   abbrev left : Reply → ServerState V
   left = collected_left k turn w z l p v
 
-  module _ (m : ℕ) (on : Bool) (ready : IsReady m on k) (found : call_at turn.client n k.waits ≡ Some w) (counted : w.counts ≡ Some z) (granted : w.is_granted ≡ true) (life : Life) (h : IsAs a held k) (up : k.is_down ≡ false) (is : IsTurn k.sessions turn)
+  module _ (m : ℕ) (on : Bool) (ready : IsReady m on k) (found : call_at turn.client n k.waits ≡ Some w) (counted : w.counts ≡ Some z) (granted : w.is_granted ≡ true) (works : standing_of k turn.client w.trans ≡ standing.Work) (life : Life) (h : IsAs a held k) (up : k.is_down ≡ false) (is : IsTurn k.sessions turn)
       (there : map.get k.lives w.trans ≡ Some l) (live : a.holder.lives w.trans ≡ Some life) (mine : IsLife a.holder.cells k.locks.held (a.locked w.trans) w.trans l life)
       (given : Answered true held.cells l.part p (name_in l.who) (next_file k) w.call room r) (of : IsRoomOf true held.cells k z.made room) where
     abbrev caller : IsCaller l life
-    caller = lone_caller a held k h a.holder.cells k.locks.held (a.locked w.trans) w.trans l life live mine
+    caller = mine.calls (unvoted_told a held k turn.client w.trans h works life live).vote
+
+    some : is_some w.counts ≡ true
+    some = ap is_some counted
+
+    own_life : life.client ≡ turn.client
+    own_life = its_life_client a held k turn.client n w m on ready found some h l there life mine
 
     abbrev g : Reply
     g = given.given
@@ -190,7 +200,7 @@ module _ {V : Type 0} (a : Account) (before now : ℕ) (held : Contents) (k : Se
     told = session_of turn is
 
     its : IsWaitingCall k.server k.epoch k.given (count_of k.coordinator) k.sizes k.lives w
-    its = call_is k turn.client n w m on ready found
+    its = call_is k turn.client n w m on ready found some
 
     file : IsFileCall k.server k.epoch k.given (count_of k.coordinator) k.sizes k.lives w z
     file = its.file z counted
@@ -202,7 +212,7 @@ module _ {V : Type 0} (a : Account) (before now : ℕ) (held : Contents) (k : Se
     named = counted_named w z counted its.named
 
     asked : IsAskedAs a.holder a.locked w z life
-    asked = its_asked a held k turn.client n w m on ready found h z life counted live
+    asked = its_asked a held k turn.client n w m on ready found some h z life counted live
 
     covered : HoldsEach life.held (needs_of (view_in a.holder life) life.own w.call)
     covered = asked.covered granted
@@ -233,8 +243,8 @@ module _ {V : Type 0} (a : Account) (before now : ℕ) (held : Contents) (k : Se
     abbrev state_left : Account
     state_left = record a { waits = uncollected a turn.client turn.number told n }
 
-    left_is : IsAs state_left held (server_left a held k turn.client n w m on ready found h)
-    left_is = left_as a held k turn.client n w m on ready found h up granted
+    left_is : IsAs state_left held (server_left a held k turn.client n w m on ready found some h)
+    left_is = left_as a held k turn.client n w m on ready found some h up granted life live own_life
 
     -- ---- the counts refuse it
 
@@ -250,14 +260,14 @@ module _ {V : Type 0} (a : Account) (before now : ℕ) (held : Contents) (k : Se
 
       refused_as : (then : Contents) → then ≡ held → IsAs (record (counted_as a turn.client turn.number told (reply.Refused f)) { waits = uncollected a turn.client turn.number told n }) then (left (reply.Refused f))
       refused_as then same =
-          let k_left : ServerState V = server_left a held k turn.client n w m on ready found h in
+          let k_left : ServerState V = server_left a held k turn.client n w m on ready found some h in
           counts_as state_left then (record k_left { lives = map.insert k.lives w.trans (record l { part = p; locks = z.asked }); vault = v }) turn (reply.Refused f)
           (part_still state_left held k_left w.trans l p z.asked v then left_is same there stands (asked_is ∙ sym mine.count)) is up
 
       refused_stepped : (x : Handed) (then : Contents) → then ≡ held → x ≡ told_answer (Some r) [] → Stepped a before now then (left r) (event.Call turn.client k.epoch turn.number (call.Collect n)) x
       refused_stepped x then same so =
           let leads : Leads false a (call_entry a turn.client turn.number told (call.Collect n) (reply.Refused f) []) (record (counted_as a turn.client turn.number told (reply.Refused f)) { waits = uncollected a turn.client turn.number told n }) =
-          collect_refused_leads a turn.client turn.number told n (waiting w) w.trans life false f h.quiet (h.down ∙ up) (turn_session a held k turn h is) is.number (found_here a held k turn.client n w m on ready found h) named granted live
+          collect_refused_leads a turn.client turn.number told n (waiting w) w.trans life false f h.quiet (h.down ∙ up) (turn_session a held k turn h is) is.number (found_here a held k turn.client n w m on ready found some h) named granted live
           refuses.now (count_none_done a w.trans w.call f refuses) (inr (subst (IsThreads (state_of a) w.trans life w.call) as_refused threads)) in
           subst (λ (y : Reply). Stepped a before now then (left y) (event.Call turn.client k.epoch turn.number (call.Collect n)) x) (sym as_refused)
           (stepped_so a before now held then k (left (reply.Refused f)) turn.client turn.number told (call.Collect n) false (reply.Refused f) []
@@ -302,7 +312,7 @@ module _ {V : Type 0} (a : Account) (before now : ℕ) (held : Contents) (k : Se
       others_held u o at q = held_elsewhere a.holder.cells k.locks.held (a.locked u) u (map.get k.lives u) o (subst (λ (y : Option Life). IsAlike a.holder.cells k.locks.held (a.locked u) u (map.get k.lives u) y) at (h.lives u)) q
 
       idle : waits k.locks.waiting w.trans ≡ false
-      idle = idle_in k.server k.epoch k.given k.lives k.waits w.trans k.locks.waiting (none_asks k turn.client n w m on ready found granted) ready.waits.queued
+      idle = idle_in k.server k.epoch k.given k.lives k.waits w.trans k.locks.waiting (none_asks k turn.client n w m on ready found some granted) ready.waits.queued
 
       agrees : (u : TransId) (o : Life) → a.holder.lives u ≡ Some o → same_trans u w.trans ≡ false → DoAgree (with_made life.held (id_in g)) o.held
       agrees u o at away =
@@ -315,7 +325,7 @@ module _ {V : Type 0} (a : Account) (before now : ℕ) (held : Contents) (k : Se
         up = h.down ∙ up;
         there = turn_session a held k turn h is;
         turn = is.number;
-        found = found_here a held k turn.client n w m on ready found h;
+        found = found_here a held k turn.client n w m on ready found some h;
         granted = granted;
         live = live;
         named = named;
@@ -349,12 +359,12 @@ module _ {V : Type 0} (a : Account) (before now : ℕ) (held : Contents) (k : Se
           omega (arith, more, made, asked_is, one)
 
       left_named : AreNamed (without_calls_of turn.client w.trans k.waits)
-      left_named = each-filter IsNamed (λ (u : WaitingCall). not (is_of turn.client w.trans u)) k.waits (all_named a held k turn.client n w m on ready found h)
+      left_named = each-filter IsNamed (λ (u : WaitingCall). not (is_of turn.client w.trans u)) k.waits (all_named a held k turn.client n w m on ready found some h)
 
       performed_as : (then : Contents) → then ≡ held → IsAs (with_collected a turn.client turn.number told n (waiting w) w.trans life g) then (left g)
       performed_as then same =
           subst (λ (x : Table). IsAs (with_collected a turn.client turn.number told n (waiting w) w.trans life g) then (record (left g) { locks = x })) (sym (table_is k turn w z l p v g))
-          (done_as state_left held (server_left a held k turn.client n w m on ready found h) turn w.trans l p w.call g (locks_given l.locks z (Ok (given_of g []))) table v life life.held (a.locked w.trans) then left_is same is up there live mine given.ids did_so
+          (done_as state_left held (server_left a held k turn.client n w m on ready found some h) turn w.trans l p w.call g (locks_given l.locks z (Ok (given_of g []))) table v life life.held (a.locked w.trans) then left_is same is up there live mine given.ids did_so
           then_holds (λ u q away. taken_other k.locks plan refl u q away)
           (under_call a.holder.server [] life.held (view_in a.holder life) life.own life.who w.call g life.edits (edits_sized a.holder.cells life.edits h.sized mine.sized) file.formed covered
           (record { opens = caller.opens; within = mine.within; intended = mine.intended; sized = mine.sized }))
@@ -362,7 +372,9 @@ module _ {V : Type 0} (a : Account) (before now : ℕ) (held : Contents) (k : Se
           (kept_count l.locks z g (a.locked w.trans) (sym asked_is) made_count)
           (held_then life.held (needs_made (id_in g)) (a.locked w.trans) mine.known)
           (subst (AreRoomed k.sizes a.holder.cells (totals_of k.lives) l.part.counts) (sym counts_are) (allowed_room a held k h up z.made room of w.trans l given.after there passes))
-          left_named (left_off k turn.client n w m on ready found) (taken_waiting k.locks plan) (λ u away. taken_beside k.locks plan u away) leads.quiet)
+          left_named (left_off k turn.client n w m on ready found some) (taken_waiting k.locks plan) (λ u away. taken_beside k.locks plan u away)
+          (λ q. call_notes false a (with_collected a turn.client turn.number told n (waiting w) w.trans life g) turn.client turn.number told (call.Collect n) g [] h.quiet leads refl held.notes
+          (notes_on (state_of state_left) (state_of a) a.ids.epoch held.notes refl refl refl (λ t. refl) (λ j x y. y) q)) leads.quiet)
 
       performed_stepped : (x : Handed) (then : Contents) → then ≡ held → x ≡ told_answer (Some r) [] → Stepped a before now then (left r) (event.Call turn.client k.epoch turn.number (call.Collect n)) x
       performed_stepped x then same so =
@@ -372,13 +384,13 @@ module _ {V : Type 0} (a : Account) (before now : ℕ) (held : Contents) (k : Se
 
   -- ---- either
 
-  pub collect_stepped : (m : ℕ) (on : Bool) (x : Handed) (then : Contents) → IsReady m on k → IsAs a held k → k.is_down ≡ false → then ≡ held → IsTurn k.sessions turn → call_at turn.client n k.waits ≡ Some w → w.counts ≡ Some z → w.is_granted ≡ true → map.get k.lives w.trans ≡ Some l
+  pub collect_stepped : (m : ℕ) (on : Bool) (x : Handed) (then : Contents) → IsReady m on k → IsAs a held k → k.is_down ≡ false → then ≡ held → IsTurn k.sessions turn → call_at turn.client n k.waits ≡ Some w → w.counts ≡ Some z → w.is_granted ≡ true → standing_of k turn.client w.trans ≡ standing.Work → map.get k.lives w.trans ≡ Some l
       → Answered true held.cells l.part p (name_in l.who) (next_file k) w.call room r → IsRoomOf true held.cells k z.made room → x ≡ told_answer (Some r) []
       → Stepped a before now then (left r) (event.Call turn.client k.epoch turn.number (call.Collect n)) x
-  collect_stepped m on x then ready h up same is found counted granted there given of so =
+  collect_stepped m on x then ready h up same is found counted granted works there given of so =
       go (live_there a.holder.cells k.locks.held (a.locked w.trans) w.trans (map.get k.lives w.trans) (a.holder.lives w.trans) l there (h.lives w.trans)) (refused_for room l.part.counts given.after) refl
     where
       go : (y : IsLive a.holder.cells k.locks.held (a.locked w.trans) w.trans l (a.holder.lives w.trans)) → (o : Option Refusal) → refused_for room l.part.counts given.after ≡ o
           → Stepped a before now then (left r) (event.Call turn.client k.epoch turn.number (call.Collect n)) x
-      go y None e = performed_stepped m on ready found counted granted y.life h up is there y.is y.alike given of e x then same so
-      go y (Some f) e = refused_stepped m on ready found counted granted y.life h up is there y.is y.alike given of f e x then same so
+      go y None e = performed_stepped m on ready found counted granted works y.life h up is there y.is y.alike given of e x then same so
+      go y (Some f) e = refused_stepped m on ready found counted granted works y.life h up is there y.is y.alike given of f e x then same so

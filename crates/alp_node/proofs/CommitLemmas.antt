@@ -1,30 +1,30 @@
--- commits and halts, as the server keeps them
-use Rattle.std.specs.Prelude.{cond, Bool, true, false, ◌==◌, ◌&&◌, max, nat_lt, flat_map, Option, None, Some, is_none, is_some}
-use Rattle.std.specs.List.{AllByRecursion}
+-- commits of transactions without parts on other servers, and halts in them, as the server keeps them
+use Rattle.std.specs.Prelude.{cond, Bool, true, false, ◌==◌, ◌&&◌, max, nat_le, nat_lt, flat_map, Option, None, Some, is_none, is_some}
+use Rattle.std.specs.List.{list_any, AllByRecursion}
+use Rattle.std.specs.FinMap.Entries as entries
 use Rattle.std.specs.FinMap.Entries.{put}
 use Rattle.std.specs.FinMap as map
-use Rattle.std.proofs.Common.{◌⊎◌, ◌≡◌, ℕ, ◌+◌, ◌-◌, ◌*◌, ◌^◌, ◌<◌, ◌≤◌, List, [], ◌∷◌, ◌++◌, append-nil, refl, sym, ◌∙◌, ap, subst, arith, eq-eqb}
-use Rattle.std.proofs.lemmas.Bool.{ne_eqb, ltb-true}
+use Rattle.std.proofs.Common.{◌⊎◌, ◌≡◌, ℕ, ◌+◌, ◌-◌, ◌^◌, ◌<◌, ◌≤◌, List, [], ◌∷◌, ◌++◌, append-nil, refl, sym, ◌∙◌, ap, subst, arith, eq-eqb, inl, inr}
+use Rattle.std.proofs.lemmas.Bool.{leb-false, ltb-false}
+use Rattle.alp_base.specs.Notes.{noted, notes_after}
 use Rattle.alp_base.specs.declared.ids.Stamp.{Stamp}
 use Rattle.alp_base.specs.declared.ids.TransId.{TransId}
 use Rattle.alp_base.specs.declared.key.Key.{Key}
 use Rattle.alp_base.specs.declared.key.Key.TheVariants.{Leader}
-use Rattle.alp_base.specs.Notes.{Notes}
 use Rattle.alp_fields.specs.ClockNote.{clock_name, clock_form}
 use Rattle.alp_files.specs.Cells.{Cells, View}
 use Rattle.alp_files.specs.Changes.{edits_of}
 use Rattle.alp_files.specs.Edits.{Edit, edits_at, edits_map}
 use Rattle.alp_files.specs.Needs.{Intents, intents_of}
-use Rattle.alp_locks.specs.Releases.{released}
-use Rattle.alp_files.proofs.HistoryLemmas.{get-edits_map}
 use Rattle.alp_files.specs.History.{Decided}
-use Rattle.alp_files.specs.declared.call.Call.{Call}
 use Rattle.alp_files.specs.declared.call.Call.TheVariants as call
 use Rattle.alp_files.specs.declared.reply.Reply.{Reply}
 use Rattle.alp_files.specs.declared.reply.Reply.TheVariants as reply
 use Rattle.alp_files.specs.declared.refusal.Refusal.TheVariants as refusal
 use Rattle.alp_files.specs.declared.refusal.Why.{Why}
 use Rattle.alp_files.specs.declared.refusal.Why.TheVariants as why
+use Rattle.alp_files.proofs.HistoryLemmas.{get-edits_map}
+use Rattle.alp_locks.specs.Releases.{released}
 use Rattle.alp_trans.specs.Parts.{change_of}
 use Rattle.alp_calls.proofs.PartLaws.{same_change}
 use Rattle.alp_vault.specs.Contents.{Contents}
@@ -34,63 +34,64 @@ use Rattle.alp_journal.specs.declared.act.Act.TheVariants as act
 use Rattle.alp_journal.specs.declared.event.Event.{Event}
 use Rattle.alp_journal.specs.declared.event.Event.TheVariants as event
 use Rattle.alp_journal.specs.declared.entry.Entry.{Entry}
-use Rattle.alp_journal.specs.Along.{state_after}
+use Rattle.alp_journal.specs.Along.{Along, state_after}
 use Rattle.alp_journal.specs.Ids.{same_trans, stamp_cmp}
-use Rattle.alp_journal.specs.Deeds.{Deed, Finishes, Decides}
-use Rattle.alp_journal.specs.Holder.{Holder, Life, commits, holder_after, grants}
-use Rattle.alp_journal.specs.Moves.{tried, act_deeds, finishes, ends_by, grants_to, asks_for}
-use Rattle.alp_journal.specs.State.{State}
+use Rattle.alp_journal.specs.Deeds.{Deed, Finishes, Decides, Releases}
+use Rattle.alp_journal.specs.Holder.{Holder, Life, commits}
+use Rattle.alp_journal.specs.Laws.{IsLawfulDeed}
+use Rattle.alp_journal.specs.Moves.{tried, act_deeds, finishes, ends_by, stops}
+use Rattle.alp_journal.specs.State.{State, state_deed}
 use Rattle.alp_journal.specs.Coordinator.{Fate, Running, joins_of}
 use Rattle.alp_journal.specs.Coordinator as fate
-use Rattle.alp_journal.specs.Desk.{Session, Waiting, file_trans, waiting_of}
-use Rattle.alp_journal.specs.Messages.{why_not_own, first_why, full_or, no_room, clock_end, part_cells, weights, applying}
-use Rattle.alp_journal.specs.Counts.{ready_sum}
-use Rattle.alp_journal.specs.Answers.{at_part, part_at, part_refusal}
+use Rattle.alp_journal.specs.Desk.{Session, Waiting, waiting_of}
+use Rattle.alp_journal.specs.Messages.{why_not_own, first_why, clock_end}
 use Rattle.alp_journal.specs.Answered.{IsWalk, in_turn}
 use Rattle.alp_journal.specs.Account.{Account, state_of, AreEarlier, IsQuiet, Leads, with_granted, granted_calls, holder_granted, grant_acts}
 use Rattle.alp_journal.proofs.StampLemmas.{put-last, AreEarlier-push}
 use Rattle.alp_journal.proofs.CallLemmas.{call_entry, call_tried}
 use Rattle.alp_journal.proofs.CommitCalls.{with_commit, with_commit_given, commit_leads}
-use Rattle.alp_journal.proofs.HaltedCalls.{with_halt, commit_halt_leads, file_halt_leads}
+use Rattle.alp_journal.proofs.HaltedCalls.{with_halt, commit_halt_leads}
 use Rattle.alp_turns.specs.Laws.{trans_in}
 use Rattle.alp_turns.specs.Queues.{queue_of}
-use Rattle.alp_node.specs.Dead.{cause_in}
 use Rattle.alp_coord.specs.declared.coordinator.Coordinator.{Coordinator}
 use Rattle.alp_coord.specs.Coordinators.{IsAlong, Comes, count_of, fate_in}
 use Rattle.alp_coord.specs.Likeness.{IsFateOf}
-use Rattle.alp_node.specs.Durable.{clock_notes, stored_by, said_by, Leaves, Besides, IsWritten}
+use Rattle.alp_worker.specs.Rooms.{applying_of, own_room}
+use Rattle.alp_node.specs.Durable.{AreNotesOf, IsStoredBy, IsSaidBy, Leaves, Besides, IsWritten}
 use Rattle.alp_node.specs.Eases.{new_blocks, eased}
+use Rattle.alp_node.specs.Noted.{ready_room, size_in}
 use Rattle.alp_node.specs.Releases.{granted_if, granted_one, granted_all, granted_behind, let_go}
-use Rattle.alp_node.specs.Waits.{has_waiting, locks_of}
+use Rattle.alp_node.specs.Sessions.{session_at}
 use Rattle.alp_node.specs.ServerState.{IsAs, IsReady, IsAlike, IsWaitingAs, PutNoneBeyond}
+use Rattle.alp_node.specs.Steps.{Stepped, IsTurn, counted_in, told_answer, refused_answer, entry_of}
 use Rattle.alp_node.specs.Totals.{LiveMap}
 use Rattle.alp_node.specs.Transactions.{IsCoordinatorBy}
-use Rattle.alp_node.specs.Standings.{standing_of}
-use Rattle.alp_node.specs.Steps.{Stepped, IsTurn, counted_in, seen_in, told_answer, refused_answer, entry_of}
+use Rattle.alp_node.specs.Votes.{own_why}
+use Rattle.alp_node.specs.Waits.{has_waiting, locks_of}
+use Rattle.alp_node.specs.Writes.{decision_changes}
 use Rattle.alp_node.specs.declared.answer.Answer.{Answer}
 use Rattle.alp_node.specs.declared.lives.Live.{Live}
 use Rattle.alp_node.specs.declared.server_state.ServerState.{ServerState}
-use Rattle.alp_node.specs.declared.served.Standing.TheVariants as standing
 use Rattle.alp_node.specs.declared.sessions.Turn.{Turn}
-use Rattle.alp_node.specs.Rooms.{IsWithin}
-use Rattle.alp_node.specs.Sessions.{session_at}
 use Rattle.alp_node.specs.declared.waits.WaitingCall.{WaitingCall}
 use Rattle.alp_node.proofs.BesideLemmas.{idle_told}
-use Rattle.alp_node.proofs.DecisionLemmas.{plain_moved, decided_plain}
+use Rattle.alp_node.proofs.ClearLemmas.{running_told}
+use Rattle.alp_node.proofs.ClockLaws.{time_fits}
+use Rattle.alp_node.proofs.CommitNotes.{commit_notes, decided_now, grants_cells, notes_told, put_found, put_there}
 use Rattle.alp_node.proofs.EaseLemmas.{eased_room}
+use Rattle.alp_node.proofs.FinishLemmas.{turn_session}
 use Rattle.alp_node.proofs.GiveOnLemmas.{IsAlikeApart}
 use Rattle.alp_node.proofs.GoneLemmas.{HasLetGo, has_let_go, state_gone, gone_of, granted_rest, holder_rest, lives_then}
-use Rattle.alp_node.proofs.SpaceLemmas.{blocks_then, StandsBeside, stands_beside, needs_beside, room_beside, eased_alike}
-use Rattle.alp_node.proofs.FinishLemmas.{turn_session}
+use Rattle.alp_node.proofs.HaltLemmas.{halted_as}
 use Rattle.alp_node.proofs.KeptLemmas.{sessions_as, session_of, session_then, stands_timely, IsLive, live_there, earlier_more, stepped_so}
 use Rattle.alp_node.proofs.MapLemmas.{places_set}
-use Rattle.alp_node.proofs.NoteLemmas.{put_again}
-use Rattle.alp_node.proofs.OneServer.{none_ready_here, lone_runs}
+use Rattle.alp_node.proofs.NoteLaw.{IsUnkept, acts_free, is_write, stands_voted}
+use Rattle.alp_node.proofs.ReleaseLemmas.{grants_go_on}
 use Rattle.alp_node.proofs.SeatLemmas.{leaves_as}
-use Rattle.alp_node.proofs.StandingLemmas.{part_of, part_is}
-use Rattle.alp_node.proofs.WaitLemmas.{named_all}
+use Rattle.alp_node.proofs.SpaceLemmas.{blocks_then, StandsBeside, stands_beside, needs_beside, room_beside, eased_alike}
 use Rattle.alp_node.proofs.TransactionLemmas.{run_along, known_decided}
 use Rattle.alp_node.proofs.UnderLemmas.{edits_sized}
+use Rattle.alp_node.proofs.WaitLemmas.{named_all}
 
 -- ---- who has no call that waits
 
@@ -102,111 +103,107 @@ waits_none a held k client t l n serves h ready live own idle =
 
 -- ---- this server's own vote
 
-no_room_fits : (area before after : ℕ) → after ≤ area → no_room area before after ≡ None
-no_room_fits area before after fits = go (nat_lt area after) refl
+-- the clock is not at its end
+pub own_early : {V : Type 0} (k : ServerState V) (t : TransId) → own_why k t ≡ None → k.clock < 2 ^ 62
+own_early k t may = go (nat_le clock_end k.clock) refl (own_room k.sizes.area (ready_room k.lives k.joins.lives) (size_in k.lives t)) may
   where
-    go : (b : Bool) → nat_lt area after ≡ b → cond {A = Option Why} b (Some (why.LogFull (area - before) (after - before))) None ≡ None
-    go false e = refl
-    go true e = (let wrong : area < after = ltb-true area after e in absurd (omega (arith, wrong, fits)))
+    go : (b : Bool) → nat_le clock_end k.clock ≡ b → (full : Option Why) → first_why false false b full ≡ None → k.clock < 2 ^ 62
+    go true e full is = let wrong : Some why.ClockEnd ≡ None = is in cc
+    go false e full is = leb-false clock_end k.clock e
 
-module _ {V : Type 0} (a : Account) (held : Contents) (k : ServerState V) (t : TransId) (l : Live) where
-  -- the log has room
-  room_then : IsAs a held k → map.get k.lives t ≡ Some l → IsWithin k.sizes l → no_room a.sizes.area (24 + 0 + 0) (24 + 0 + (4 * part_cells (a.holder.lives t) + 4)) ≡ None
-  room_then h live within =
-      let y : IsLive a.holder.cells k.locks.held (a.locked t) t l (a.holder.lives t) = live_there a.holder.cells k.locks.held (a.locked t) t (map.get k.lives t) (a.holder.lives t) l live (h.lives t) in
-      let cells : part_cells (a.holder.lives t) ≡ l.part.counts.cells = ap part_cells y.is ∙ sym y.alike.counts.cells in
-      let area : a.sizes.area ≡ k.sizes.area = ap (λ s. s.area) h.sizes in
-      no_room_fits a.sizes.area (24 + 0 + 0) (24 + 0 + (4 * part_cells (a.holder.lives t) + 4)) (omega (arith, cells, area, within.log))
-
-  early_clock : IsAs a held k → k.clock < 2 ^ 62 → (a.holder.clock == clock_end) ≡ false
-  early_clock h early = ne_eqb a.holder.clock clock_end (λ e. absurd (omega (arith, e, h.clock, early)))
-
-  -- no part is ready
-  own_why : IsAs a held k → why_not_own false (state_of a) t ≡ first_why false false (a.holder.clock == clock_end) (no_room a.sizes.area (24 + 0 + 0) (24 + 0 + (4 * part_cells (a.holder.lives t) + 4)))
-  own_why h =
-      ap (λ (ts : List TransId). first_why false false (a.holder.clock == clock_end) (no_room a.sizes.area (ready_sum (weights (state_of a) ts) 0) (ready_sum (weights (state_of a) ts) (applying (state_of a) t))))
-      (none_ready_here a h.lone h.quiet.settled.stands)
-
-  pub votes_for : IsAs a held k → k.clock < 2 ^ 62 → map.get k.lives t ≡ Some l → IsWithin k.sizes l → why_not_own false (state_of a) t ≡ None
-  votes_for h early live room = own_why h ∙ (λ i. first_why false false (early_clock h early i) (no_room a.sizes.area (24 + 0 + 0) (24 + 0 + (4 * part_cells (a.holder.lives t) + 4)))) ∙ ap (full_or false) (room_then h live room)
-
-  pub votes_at_end : IsAs a held k → k.clock ≡ 2 ^ 62 → why_not_own false (state_of a) t ≡ Some why.ClockEnd
-  votes_at_end h last = own_why h ∙ ap (λ (b : Bool). first_why false false b (no_room a.sizes.area (24 + 0 + 0) (24 + 0 + (4 * part_cells (a.holder.lives t) + 4)))) (eq-eqb a.holder.clock clock_end (h.clock ∙ last))
+-- and the log has room
+pub own_log : {V : Type 0} (k : ServerState V) (t : TransId) → own_why k t ≡ None → 24 + (ready_room k.lives k.joins.lives).weights + applying_of (size_in k.lives t) ≤ k.sizes.area
+own_log k t may =
+    go (24 + (ready_room k.lives k.joins.lives).weights + 0) (24 + (ready_room k.lives k.joins.lives).weights + applying_of (size_in k.lives t)) (nat_le clock_end k.clock)
+    (nat_lt k.sizes.area (24 + (ready_room k.lives k.joins.lives).weights + applying_of (size_in k.lives t))) refl may
+  where
+    go : (before after : ℕ) (b c : Bool) → nat_lt k.sizes.area after ≡ c → first_why false false b (cond {A = Option Why} c (Some (why.LogFull (k.sizes.area - before) (after - before))) None) ≡ None → after ≤ k.sizes.area
+    go before after true c e is = let wrong : Some why.ClockEnd ≡ None = is in cc
+    go before after false true e is = let wrong : Some (why.LogFull (k.sizes.area - before) (after - before)) ≡ None = is in cc
+    go before after false false e is = ltb-false k.sizes.area after e
 
 -- ---- a commit
 
--- a later clock takes the place of the one that was kept
-put_more : {V : Type 0} (a : Account) (held : Contents) (k : ServerState V) (clock : ℕ) → IsAs a held k → k.is_down ≡ false
-    → map.insert held.notes clock_name (clock_form.spell (record { epoch = k.epoch; clock = clock })) ≡ clock_notes (record { epoch = k.epoch; clock = clock })
-put_more a held k clock h up =
-    ap (λ (n : Notes). map.insert n clock_name (clock_form.spell (record { epoch = k.epoch; clock = clock }))) (h.notes up)
-    ∙ put_again (record { epoch = a.ids.epoch; clock = a.holder.kept }) (record { epoch = k.epoch; clock = clock })
-
 module _ {V : Type 0} (a : Account) (held : Contents) (k : ServerState V) (turn : Turn) (t : TransId) (l : Live) where
-  module _ (h : IsAs a held k) (is : IsTurn k.sessions turn) (up : k.is_down ≡ false) (live : map.get k.lives t ≡ Some l) (own : l.client ≡ turn.client) (idle : waiting_of (state_of a).desk turn.client t ≡ None) (r : Reply) (none : ends_by t turn.client r ≡ []) where
+  module _ (h : IsAs a held k) (is : IsTurn k.sessions turn) (up : k.is_down ≡ false) (live : map.get k.lives t ≡ Some l) (runs : fate_in k.coordinator t ≡ Running turn.client []) (here : t.server ≡ k.server) (idle : waiting_of (state_of a).desk turn.client t ≡ None)
+      (early : k.clock < 2 ^ 62) (epoch : k.epoch < 2 ^ 32) (r : Reply) (none : ends_by t turn.client r ≡ []) where
     abbrev finish_entry : List Act → Entry
     finish_entry acts = call_entry a turn.client turn.number (session_of turn is) (call.Finish t true) r acts
 
+    abbrev finish_event : Event
+    finish_event = event.Call turn.client a.ids.epoch turn.number (call.Finish t true)
+
+    abbrev write_stamp : Stamp
+    write_stamp = record { ts = a.holder.clock + 1; trans = t }
+
+    its : IsLive a.holder.cells k.locks.held (a.locked t) t l (a.holder.lives t)
+    its = live_there a.holder.cells k.locks.held (a.locked t) t (map.get k.lives t) (a.holder.lives t) l live (h.lives t)
+
+    told_runs : a.fates t ≡ Running turn.client []
+    told_runs = running_told a.ids.epoch t (fate_in k.coordinator t) (a.fates t) turn.client [] (h.coordinator.fates t) runs
+
     -- what the entry tries
-    write_tried : (stamp : Stamp) (acts : List Act) (ds : List Deed) → flat_map (act_deeds (state_of a) (event.Call turn.client a.ids.epoch turn.number (call.Finish t true))) acts ≡ Decides stamp [] ∷ ds
-        → tried (state_of a) (finish_entry acts) ≡ Finishes t ∷ Decides stamp [] ∷ ds
-    write_tried stamp acts ds brings =
-        let y : IsLive a.holder.cells k.locks.held (a.locked t) t l (a.holder.lives t) = live_there a.holder.cells k.locks.held (a.locked t) t (map.get k.lives t) (a.holder.lives t) l live (h.lives t) in
-        let runs : a.fates t ≡ Running turn.client [] = lone_runs a held k h t y.life y.is ∙ ap (λ (n : ℕ). Running n []) (y.alike.client ∙ own) in
+    write_tried : (acts : List Act) (ds : List Deed) → flat_map (act_deeds (state_of a) finish_event) acts ≡ Decides write_stamp [] ∷ ds → tried (state_of a) (finish_entry acts) ≡ Finishes t ∷ Decides write_stamp [] ∷ ds
+    write_tried acts ds brings =
         call_tried a turn.client turn.number (session_of turn is) (call.Finish t true) r acts (turn_session a held k turn h is) is.number
         ∙ ap (λ (ws : List Deed). finishes (state_of a).desk turn.client t true r (a.fates t) ++ ws ++ []) brings
-        ∙ ap (λ (f : Fate). finishes (state_of a).desk turn.client t true r f ++ (Decides stamp [] ∷ ds) ++ []) runs
-        ∙ ap (λ (b : Bool). cond {A = List Deed} (b && is_none (waiting_of (state_of a).desk turn.client t)) (Finishes t ∷ ends_by t turn.client r) [] ++ (Decides stamp [] ∷ ds) ++ []) (eq-eqb turn.client turn.client refl)
-        ∙ ap (λ (x : Option Waiting). cond {A = List Deed} (is_none x) (Finishes t ∷ ends_by t turn.client r) [] ++ (Decides stamp [] ∷ ds) ++ []) idle
-        ∙ ap (λ (ws : List Deed). (Finishes t ∷ ws) ++ (Decides stamp [] ∷ ds) ++ []) none
-        ∙ ap (λ (ws : List Deed). Finishes t ∷ Decides stamp [] ∷ ws) (append-nil ds)
+        ∙ ap (λ (f : Fate). finishes (state_of a).desk turn.client t true r f ++ (Decides write_stamp [] ∷ ds) ++ []) told_runs
+        ∙ ap (λ (b : Bool). cond {A = List Deed} (b && is_none (waiting_of (state_of a).desk turn.client t)) (Finishes t ∷ ends_by t turn.client r) [] ++ (Decides write_stamp [] ∷ ds) ++ []) (eq-eqb turn.client turn.client refl)
+        ∙ ap (λ (x : Option Waiting). cond {A = List Deed} (is_none x) (Finishes t ∷ ends_by t turn.client r) [] ++ (Decides write_stamp [] ∷ ds) ++ []) idle
+        ∙ ap (λ (ws : List Deed). (Finishes t ∷ ws) ++ (Decides write_stamp [] ∷ ds) ++ []) none
+        ∙ ap (λ (ws : List Deed). Finishes t ∷ Decides write_stamp [] ∷ ws) (append-nil ds)
 
-    -- the one write of a commit is what the journal says of it
-    pub write_said : (acts : List Act) (ds : List Deed) (c : Contents)
-        → flat_map (act_deeds (state_of a) (event.Call turn.client a.ids.epoch turn.number (call.Finish t true))) acts ≡ Decides (record { ts = k.clock + 1; trans = t }) [] ∷ ds
-        → ((o : Holder) → stored_by a.ids.epoch (state_after holder_after o ds) ≡ stored_by a.ids.epoch o)
-        → IsWritten l.part.intents (record { epoch = k.epoch; clock = k.clock + 1 }) held c
-        → c ≡ said_by (state_of a) (finish_entry acts)
-    write_said acts ds c brings still w =
-        let y : IsLive a.holder.cells k.locks.held (a.locked t) t l (a.holder.lives t) = live_there a.holder.cells k.locks.held (a.locked t) t (map.get k.lives t) (a.holder.lives t) l live (h.lives t) in
-        let es : List Edit = y.life.edits in
-        let stamp : Stamp = record { ts = k.clock + 1; trans = t } in
-        let clock : max a.holder.clock (k.clock + 1) ≡ k.clock + 1 = omega (arith, h.clock) in
-        let cells : c.cells ≡ edits_map es a.holder.cells =
-        w.cells ∙ same_change held.cells l.part es y.alike.intents ∙ ap (edits_map es) (h.cells up) in
-        let notes : c.notes ≡ clock_notes (record { epoch = a.ids.epoch; clock = max a.holder.clock (k.clock + 1) }) =
-        w.notes ∙ put_more a held k (k.clock + 1) h up ∙ (λ i. clock_notes (record { epoch = sym h.epoch i; clock = sym clock i })) in
-        let made : c ≡ stored_by a.ids.epoch (commits a.holder stamp (Some y.life)) = (λ i. record { cells = cells i; notes = notes i }) in
-        made ∙ ap (λ (x : Option Life). stored_by a.ids.epoch (commits a.holder stamp x)) (sym y.is) ∙ sym (still (commits a.holder stamp (a.holder.lives t)))
-        ∙ ap (λ (ws : List Deed). stored_by a.ids.epoch (state_after holder_after a.holder ws)) (sym (write_tried stamp acts ds brings))
+    write_clock : max a.holder.clock (a.holder.clock + 1) ≡ k.clock + 1
+    write_clock = omega (arith, h.clock)
 
-    -- so a crash leaves no more of it
-    pub write_leaves : (G : Ghosts V) (v : V) (x : Answer) (acts : List Act) (ds : List Deed) → G.held k.vault ≡ held → x ≡ told_answer (Some r) acts
-        → flat_map (act_deeds (state_of a) (event.Call turn.client a.ids.epoch turn.number (call.Finish t true))) acts ≡ Decides (record { ts = k.clock + 1; trans = t }) [] ∷ ds
-        → ((o : Holder) → stored_by a.ids.epoch (state_after holder_after o ds) ≡ stored_by a.ids.epoch o)
-        → Leaves G k.vault v (Besides G k.vault (IsWritten l.part.intents (record { epoch = k.epoch; clock = k.clock + 1 }) (G.held k.vault)))
-        → Leaves G k.vault v (Besides G k.vault (λ c. c ≡ said_by (state_of a) (entry_of (event.Call turn.client k.epoch turn.number (call.Finish t true)) x)))
-    write_leaves G v x acts ds same so brings still leaves =
-        leaves_as G k.vault v (IsWritten l.part.intents (record { epoch = k.epoch; clock = k.clock + 1 }) (G.held k.vault))
-        (λ c. c ≡ said_by (state_of a) (entry_of (event.Call turn.client k.epoch turn.number (call.Finish t true)) x))
-        (λ c w. write_said acts ds c brings still (subst (λ (b : Contents). IsWritten l.part.intents (record { epoch = k.epoch; clock = k.clock + 1 }) b c) same w)
-        ∙ ap (λ (n : ℕ). said_by (state_of a) (record { event = event.Call turn.client n turn.number (call.Finish t true); reply = Some r; acts = acts })) h.epoch
-        ∙ ap (λ (z : Answer). said_by (state_of a) (entry_of (event.Call turn.client k.epoch turn.number (call.Finish t true)) z)) (sym so))
-        leaves
+    fits : clock_form.Fits (record { epoch = a.ids.epoch; clock = max a.holder.clock (a.holder.clock + 1) })
+    fits = time_fits (record { epoch = a.ids.epoch; clock = max a.holder.clock (a.holder.clock + 1) }) (omega (arith, h.epoch, epoch)) (omega (arith, h.clock, early))
 
--- grants leave what a restart finds
-pub still_stored : (epoch : ℕ) (s : State) (e : Event) (ts : List TransId) (o : Holder) → stored_by epoch (state_after holder_after o (flat_map (act_deeds s e) (grant_acts ts))) ≡ stored_by epoch o
-still_stored epoch s e [] o = refl
-still_stored epoch s e (t ∷ ts) o = go (still_stored epoch s e ts) (asks_for s e t (s.holder.lives t))
-  where
-    kept : (c : Call) (z : Option Life) → stored_by epoch (grants o t c z) ≡ stored_by epoch o
-    kept c None = refl
-    kept c (Some l) = refl
+    -- the notes that are written are those with the clock of the journal
+    notes_are : (c : Contents) → c.notes ≡ notes_after (decision_changes k.epoch (record { ts = k.clock + 1; trans = t }) []) held.notes
+        → c.notes ≡ noted clock_name (Some (clock_form.spell (record { epoch = a.ids.epoch; clock = max a.holder.clock (a.holder.clock + 1) }))) held.notes
+    notes_are c so = so ∙ (λ i. noted clock_name (Some (clock_form.spell (record { epoch = sym h.epoch i; clock = sym write_clock i }))) held.notes)
 
-    go : ((p : Holder) → stored_by epoch (state_after holder_after p (flat_map (act_deeds s e) (grant_acts ts))) ≡ stored_by epoch p)
-        → (x : Option Call) → stored_by epoch (state_after holder_after o (grants_to t x ++ flat_map (act_deeds s e) (grant_acts ts))) ≡ stored_by epoch o
-    go rest None = rest o
-    go rest (Some c) = rest (grants o t c (o.lives t)) ∙ kept c (o.lives t)
+    module _ (m : Account) (acts : List Act) (ds : List Deed) (brings : flat_map (act_deeds (state_of a) finish_event) acts ≡ Decides write_stamp [] ∷ ds) (free : AllByRecursion IsUnkept ds) (leads : Leads false a (finish_entry acts) m) where
+      law : Along state_deed (IsLawfulDeed finish_event) (state_of a) (Finishes t ∷ Decides write_stamp [] ∷ ds)
+      law = subst (Along state_deed (IsLawfulDeed finish_event) (state_of a)) (write_tried acts ds brings) leads.lawful.deeds
+
+      written_notes : AreNotesOf (state_after state_deed (state_of a) (Finishes t ∷ Decides write_stamp [] ∷ ds)) a.ids.epoch (noted clock_name (Some (clock_form.spell (record { epoch = a.ids.epoch; clock = max a.holder.clock (a.holder.clock + 1) }))) held.notes)
+      written_notes =
+          commit_notes finish_event (state_of a) t (a.holder.clock + 1) its.life ds (stands_voted a h.quiet) (eq-eqb t.server a.holder.server (here ∙ sym h.server)) its.is free law a.ids.epoch held.notes fits (h.notes up)
+
+      -- so the notes are those of the journal
+      pub write_notes : stops (finish_entry acts) ≡ false → (c : Contents) → c.notes ≡ notes_after (decision_changes k.epoch (record { ts = k.clock + 1; trans = t }) []) held.notes → AreNotesOf (state_of m) a.ids.epoch c.notes
+      write_notes on c so =
+          subst (AreNotesOf (state_of m) a.ids.epoch) (sym (notes_are c so))
+          (notes_told (state_of a) (state_of m) (finish_entry acts) a.ids.epoch (noted clock_name (Some (clock_form.spell (record { epoch = a.ids.epoch; clock = max a.holder.clock (a.holder.clock + 1) }))) held.notes) on leads.leaves
+          (subst (λ (ws : List Deed). AreNotesOf (state_after state_deed (state_of a) ws) a.ids.epoch (noted clock_name (Some (clock_form.spell (record { epoch = a.ids.epoch; clock = max a.holder.clock (a.holder.clock + 1) }))) held.notes))
+          (sym (write_tried acts ds brings)) written_notes))
+
+      -- the one write of a commit is what the journal says of it
+      pub write_said : ((n : State) → (state_after state_deed n ds).holder.cells ≡ n.holder.cells) → (c : Contents) → IsWritten l.part.intents (decision_changes k.epoch (record { ts = k.clock + 1; trans = t }) []) held c → IsSaidBy (state_of a) (finish_entry acts) c
+      write_said still c w =
+          let es : List Edit = its.life.edits in
+          let second : State = state_deed (state_deed (state_of a) (Finishes t)) (Decides write_stamp []) in
+          let cells : c.cells ≡ edits_map es a.holder.cells = w.cells ∙ same_change held.cells l.part es its.alike.intents ∙ ap (edits_map es) (h.cells up) in
+          let made : c.cells ≡ second.holder.cells = cells ∙ ap (λ (x : Option Life). (commits a.holder write_stamp x).cells) (sym its.is) in
+          subst (λ (ws : List Deed). IsStoredBy a.ids.epoch (state_after state_deed (state_of a) ws) c) (sym (write_tried acts ds brings)) (record {
+            cells = made ∙ sym (still second);
+            notes = subst (AreNotesOf (state_after state_deed (state_of a) (Finishes t ∷ Decides write_stamp [] ∷ ds)) a.ids.epoch) (sym (notes_are c w.notes)) written_notes;
+          })
+
+      -- so a crash leaves no more of it
+      pub write_leaves : (G : Ghosts V) (v : V) (x : Answer) → G.held k.vault ≡ held → x ≡ told_answer (Some r) acts → ((n : State) → (state_after state_deed n ds).holder.cells ≡ n.holder.cells)
+          → Leaves G k.vault v (Besides G k.vault (IsWritten l.part.intents (decision_changes k.epoch (record { ts = k.clock + 1; trans = t }) []) (G.held k.vault)))
+          → Leaves G k.vault v (Besides G k.vault (IsSaidBy (state_of a) (entry_of (event.Call turn.client k.epoch turn.number (call.Finish t true)) x)))
+      write_leaves G v x same so still leaves =
+          leaves_as G k.vault v (IsWritten l.part.intents (decision_changes k.epoch (record { ts = k.clock + 1; trans = t }) []) (G.held k.vault))
+          (IsSaidBy (state_of a) (entry_of (event.Call turn.client k.epoch turn.number (call.Finish t true)) x))
+          (λ c w. subst (λ (e : Entry). IsSaidBy (state_of a) e c)
+          (ap (λ (n : ℕ). record { event = event.Call turn.client n turn.number (call.Finish t true); reply = Some r; acts = acts }) h.epoch
+          ∙ ap (λ (z : Answer). entry_of (event.Call turn.client k.epoch turn.number (call.Finish t true)) z) (sym so))
+          (write_said still c (subst (λ (b : Contents). IsWritten l.part.intents (decision_changes k.epoch (record { ts = k.clock + 1; trans = t }) []) b c) same w)))
+          leaves
 
 -- locks go alike, whatever the vault is
 granted_vault : {V : Type 0} (k : ServerState V) (v : V) (ts : List TransId) → granted_all (record k { vault = v }) ts ≡ record (granted_all k ts) { vault = v }
@@ -237,8 +234,8 @@ module _ {V : Type 0} (a : Account) (before now : ℕ) (held then : Contents) (k
   abbrev pub commit_acts : List Act
   commit_acts = act.Decided stamp_at [] ∷ act.Released t ∷ grant_acts (granted_behind k t)
 
-  module _ (m : ℕ) (on : Bool) (h : IsAs a held k) (ready : IsReady m on k) (is : IsTurn k.sessions turn) (up : k.is_down ≡ false) (early : k.clock < 2 ^ 62) (here : t.server ≡ k.server) (live : map.get k.lives t ≡ Some l) (own : l.client ≡ turn.client)
-      (idle : waiting_of (state_of a).desk turn.client t ≡ None) (fits : IsWithin k.sizes l)
+  module _ (m : ℕ) (on : Bool) (h : IsAs a held k) (ready : IsReady m on k) (is : IsTurn k.sessions turn) (up : k.is_down ≡ false) (early : k.clock < 2 ^ 62) (here : t.server ≡ k.server) (live : map.get k.lives t ≡ Some l) (runs : fate_in k.coordinator t ≡ Running turn.client [])
+      (idle : waiting_of (state_of a).desk turn.client t ≡ None) (may : why_not_own false (state_of a) t ≡ None)
       (first : IsAlong k.coordinator mid) (finished : Comes (Finishes t) k.coordinator mid) (second : IsAlong mid z) (decided : Comes (Decides stamp_at (joins_of (fate_in mid t))) mid z) where
     abbrev w : Session
     w = session_of turn is
@@ -269,7 +266,7 @@ module _ {V : Type 0} (a : Account) (before now : ℕ) (held then : Contents) (k
 
     commit_gone : Commit
     commit_gone = has_let_go a held k t cells_now clock_now clock_now applied_now left_now (StandsBeside a held k h t l live y.life y.is y.alike) cells_now m on h ready
-        (λ u z c lives away. needs_beside a held k h t l live y.life y.is y.alike u z c lives away)
+        (λ u z c lives unvoted away. needs_beside a held k h t l live y.life y.is y.alike u z c lives unvoted away)
         (stands_beside a held k h t l live y.life y.is y.alike) (room_beside a held k h t l live y.life y.is y.alike)
 
     module _ (g : Commit) where
@@ -298,7 +295,7 @@ module _ {V : Type 0} (a : Account) (before now : ℕ) (held then : Contents) (k
       each_then u =
           eased_alike a held k h t l live y.life y.is y.alike (released k.locks t).held (state_commit.locked u) u server_commit.lives (map.get server_commit.lives u) (state_commit.holder.lives u) refl (λ x z at lives. g.all.parts u x z at lives)
           (lives_then a held k t cells_now clock_now clock_now applied_now left_now (StandsBeside a held k h t l live y.life y.is y.alike) cells_now m on h ready
-          (λ u z c lives away. needs_beside a held k h t l live y.life y.is y.alike u z c lives away)
+          (λ u z c lives unvoted away. needs_beside a held k h t l live y.life y.is y.alike u z c lives unvoted away)
           (stands_beside a held k h t l live y.life y.is y.alike) (room_beside a held k h t l live y.life y.is y.alike) g u)
 
       unborn_then : (u : TransId) (z : Life) (o : Option Live) → map.get server_commit.lives u ≡ o → state_commit.holder.lives u ≡ Some z → IsAlikeApart a.holder.cells (state_commit.locked u) o (state_commit.holder.lives u)
@@ -329,31 +326,32 @@ module _ {V : Type 0} (a : Account) (before now : ℕ) (held then : Contents) (k
       clock_is : clock_now ≡ k.clock + 1
       clock_is = omega (arith, h.clock)
 
-      runs : a.fates t ≡ Running turn.client []
-      runs = lone_runs a held k h t y.life y.is ∙ ap (λ (n : ℕ). Running n []) (y.alike.client ∙ own)
+      told : a.fates t ≡ Running turn.client []
+      told = running_told a.ids.epoch t (fate_in k.coordinator t) (a.fates t) turn.client [] (h.coordinator.fates t) runs
 
       -- it keeps the decision
       coordinated : IsCoordinatorBy a.holder.server a.ids.epoch a.ids.transactions (λ (u : TransId). cond {A = Fate} (same_trans t u) (fate.decided stamp [] (fate.finishing (a.fates u))) (a.fates u)) z
       coordinated = record {
         run = run_along a.holder.server a.ids.epoch a.ids.transactions mid z (run_along a.holder.server a.ids.epoch a.ids.transactions k.coordinator mid h.coordinator.run first) second;
         fates = subst (λ (n : ℕ). (u : TransId) → IsFateOf a.ids.epoch u (fate_in z u) (cond {A = Fate} (same_trans t u) (fate.decided (record { ts = n + 1; trans = t }) [] (fate.finishing (a.fates u))) (a.fates u))) (sym h.clock)
-            (known_decided a.ids.epoch t turn.client (k.clock + 1) k.coordinator mid z a.fates runs h.coordinator.fates finished decided);
+            (known_decided a.ids.epoch t turn.client (k.clock + 1) k.coordinator mid z a.fates told h.coordinator.fates finished decided);
       }
 
-      commit_as : then.cells ≡ cells_now → then.notes ≡ map.insert held.notes clock_name (clock_form.spell (record { epoch = k.epoch; clock = k.clock + 1 }))
+      commit_as : then.cells ≡ cells_now → AreNotesOf (state_of (with_commit_given a turn.client turn.number w t y.life (granted_behind k t))) a.ids.epoch then.notes
           → IsQuiet (with_commit_given a turn.client turn.number w t y.life (granted_behind k t))
           → IsAs (with_commit_given a turn.client turn.number w t y.life (granted_behind k t)) then (kept_with server_commit.lives server_commit.waits (blocks_then a held k h t l live y.life y.is y.alike))
       commit_as same notes quiet =
-          let told : Account = with_granted (with_commit a turn.client turn.number w t y.life) g.given in
+          let all : Account = with_granted (with_commit a turn.client turn.number w t y.life) g.given in
           subst (λ (x : Account). IsAs x then (kept_with server_commit.lives server_commit.waits (blocks_then a held k h t l live y.life y.is y.alike))) state_is
-          (subst (λ (x : Holder). IsAs (record told { holder = x }) then (kept_with server_commit.lives server_commit.waits (blocks_then a held k h t l live y.life y.is y.alike))) (sym rest) (record {
+          (subst (λ (x : Holder). IsAs (record all { holder = x }) then (kept_with server_commit.lives server_commit.waits (blocks_then a held k h t l live y.life y.is y.alike))) (sym rest) (record {
             server = h.server;
+            servers = h.servers;
             sizes = h.sizes;
             epoch = h.epoch;
             clock = clock_is;
             cells = λ _. same;
             sized = edits_sized a.holder.cells es h.sized y.alike.sized;
-            notes = λ _. notes ∙ put_more a held k (k.clock + 1) h up ∙ (λ i. clock_notes (record { epoch = sym h.epoch i; clock = sym clock_is i }));
+            notes = λ _. subst (λ (x : Holder). AreNotesOf (state_of (record all { holder = x })) a.ids.epoch then.notes) rest (subst (λ (x : Account). AreNotesOf (state_of x) a.ids.epoch then.notes) (sym state_is) notes);
             places = places_set k.sessions turn.client (session_then turn (reply.Committed stamp_at)) h.places;
             sessions = subst (λ (z : Stamp). (c : ℕ) → cond {A = Option Session} (c == turn.client) (Some (session_then turn (reply.Committed z))) (a.sessions c) ≡ session_at (counted_in k.sessions turn (reply.Committed stamp_at)) c) same_stamp
                 (sessions_as a.sessions k.sessions turn.client (session_then turn (reply.Committed stamp_at)) h.sessions h.places is.client);
@@ -365,112 +363,125 @@ module _ {V : Type 0} (a : Account) (before now : ℕ) (held then : Contents) (k
             room = eased_room (blocks_then a held k h t l live y.life y.is y.alike) k.sizes cells_now server_commit.lives (map.keys k.lives) g.all.fits;
             unborn = λ u z lives. unborn_then u z (map.get server_commit.lives u) refl lives (g.all.lives u);
             coordinator = coordinated;
-            plain = plain_moved a.fates t (λ f. fate.decided stamp [] (fate.finishing f)) (decided_plain stamp) h.plain;
-            lone = h.lone;
+            decided = λ u s js here at. decided_now stamp s js (same_trans t u) (a.fates u) at (is_some (entries.find stamp_cmp s applied_now) ≡ true)
+                (λ was. put_there s stamp (record { stamp = stamp; who = y.life.who; calls = y.life.calls }) a.holder.applied (h.decided u s js here was))
+                (λ same_one. subst (λ (x : Stamp). is_some (entries.find stamp_cmp x applied_now) ≡ true) same_one (put_found stamp (record { stamp = stamp; who = y.life.who; calls = y.life.calls }) a.holder.applied));
+            joins = h.joins;
             files = h.files;
             made = h.made;
             born = λ f comes. ap (λ (view : View). view (Leader f)) (get-edits_map es a.holder.cells) ∙ ap (edits_at es (Leader f)) (h.born f comes) ∙ h.unborn t y.life y.is f comes;
             earlier = subst (AreEarlier clock_now) (sym last)
                 (subst (λ (n : ℕ). AreEarlier n (a.holder.applied ++ (stamp, record { stamp = stamp; who = y.life.who; calls = y.life.calls }) ∷ [])) (omega arith)
                 (AreEarlier-push a.holder.applied stamp (record { stamp = stamp; who = y.life.who; calls = y.life.calls }) a.holder.clock before_now (omega arith)));
-            quiet = subst (λ (x : Holder). IsQuiet (record told { holder = x })) rest (subst IsQuiet (sym state_is) quiet);
+            quiet = subst (λ (x : Holder). IsQuiet (record all { holder = x })) rest (subst IsQuiet (sym state_is) quiet);
             down = sym up;
           }))
 
-    pub commit_stepped : (x : Answer) (blocks : List Key) → blocks ≡ new_blocks held.cells l.part.intents.puts
-        → then.cells ≡ edits_map (edits_of (change_of l.part.intents)) held.cells → then.notes ≡ map.insert held.notes clock_name (clock_form.spell (record { epoch = k.epoch; clock = k.clock + 1 }))
-        → x ≡ told_answer (Some (reply.Committed stamp_at)) commit_acts
-        → Stepped a before now then (committed_kept blocks) (event.Call turn.client k.epoch turn.number (call.Finish t true)) x
-    commit_stepped x blocks opened cells notes so = go commit_gone
-      where
-        go : Commit → Stepped a before now then (committed_kept blocks) (event.Call turn.client k.epoch turn.number (call.Finish t true)) x
-        go g =
-            let sent = commit_leads a turn.client turn.number w t y.life h.quiet (h.down ∙ up) (turn_session a held k turn h is) is.number y.is (lone_runs a held k h t y.life y.is ∙ ap (λ (n : ℕ). Running n []) (y.alike.client ∙ own)) idle
-            (votes_for a held k t l h early live fits) (granted_behind k t)
-            (subst (λ (ts : List TransId). IsWalk (with_commit a turn.client turn.number w t y.life).holder (in_turn (with_commit a turn.client turn.number w t y.life).holder a.waits) ts) (sym g.woken) g.walk) in
-            let leads : Leads false a (call_entry a turn.client turn.number w (call.Finish t true) (reply.Committed stamp) (act.Decided stamp [] ∷ act.Released t ∷ grant_acts (granted_behind k t))) (with_commit_given a turn.client turn.number w t y.life (granted_behind k t)) =
-            subst (λ (acts : List Act). Leads false a (call_entry a turn.client turn.number w (call.Finish t true) (reply.Committed stamp) acts) (with_commit_given a turn.client turn.number w t y.life (granted_behind k t)))
-            (append-nil (act.Decided stamp [] ∷ act.Released t ∷ grant_acts (granted_behind k t))) sent in
-            let same : then.cells ≡ cells_now = cells ∙ same_change held.cells l.part es y.alike.intents ∙ ap (edits_map es) (h.cells up) in
-            let same_blocks : blocks ≡ blocks_then a held k h t l live y.life y.is y.alike = opened ∙ ap (λ (i : Intents). new_blocks held.cells i.puts) y.alike.intents ∙ ap (λ (m : Cells). new_blocks m (intents_of es).puts) (h.cells up) in
-            let kept_is : committed_kept blocks ≡ kept_with g (server_commit g).lives (server_commit g).waits (blocks_then a held k h t l live y.life y.is y.alike) =
-            ap committed_kept same_blocks
-            ∙ ap (λ (q : ServerState V). record q {
-              lives = eased (blocks_then a held k h t l live y.life y.is y.alike) q.lives (map.keys k.lives);
-              sessions = counted_in k.sessions turn (reply.Committed stamp_at);
-              clock = k.clock + 1;
-              coordinator = z;
-              vault = v;
-            }) (let_go_commit g) in
-            subst (λ (z : ServerState V). Stepped a before now then z (event.Call turn.client k.epoch turn.number (call.Finish t true)) x) (sym kept_is)
-            (stepped_so a before now held then k (kept_with g (server_commit g).lives (server_commit g).waits (blocks_then a held k h t l live y.life y.is y.alike)) turn.client turn.number w (call.Finish t true) false (reply.Committed stamp) (act.Decided stamp [] ∷ act.Released t ∷ grant_acts (granted_behind k t))
-            (with_commit_given a turn.client turn.number w t y.life (granted_behind k t)) x
-            (so ∙ ap (λ (z : Stamp). told_answer (Some (reply.Committed z)) (act.Decided z [] ∷ act.Released t ∷ grant_acts (granted_behind k t))) (same_stamp g)) h leads
-            (commit_as g same notes leads.quiet)
-            (λ e. cc) (omega (arith, h.clock)))
+    -- ---- its step
 
--- ---- the vault was stopped or failed
+    module _ (x : Answer) (so : x ≡ told_answer (Some (reply.Committed stamp_at)) commit_acts) where
+      abbrev told_acts : List Act
+      told_acts = act.Decided stamp [] ∷ act.Released t ∷ grant_acts (granted_behind k t)
 
--- a server that is down keeps all but what its vault has
-pub halted_as : {V : Type 0} (a m : Account) (held then : Contents) (k : ServerState V) (v : V) (ds : List Deed) → m ≡ record a { is_down = true; pending = ds } → IsQuiet m → IsAs a held k → IsAs m then (record k { is_down = true; vault = v })
-halted_as a m held then k v ds is quiet h =
-    let never : true ≡ false → ⊥ = λ e. cc in
-    subst (λ (x : Account). IsAs x then (record k { is_down = true; vault = v })) (sym is) (record {
-      server = h.server;
-      sizes = h.sizes;
-      epoch = h.epoch;
-      clock = h.clock;
-      cells = λ e. absurd (never e);
-      sized = h.sized;
-      notes = λ e. absurd (never e);
-      places = h.places;
-      sessions = h.sessions;
-      dead = h.dead;
-      waits = h.waits;
-      queue = h.queue;
-      asked = h.asked;
-      lives = h.lives;
-      room = h.room;
-      unborn = h.unborn;
-      coordinator = h.coordinator;
-      plain = h.plain;
-      lone = h.lone;
-      files = h.files;
-      made = h.made;
-      born = h.born;
-      earlier = h.earlier;
-      quiet = subst IsQuiet is quiet;
-      down = refl;
-    })
+      abbrev next_state : Account
+      next_state = with_commit_given a turn.client turn.number w t y.life (granted_behind k t)
 
--- a read is stopped, in a call of a part at work
-module _ {V : Type 0} (a : Account) (before now : ℕ) (held then : Contents) (k : ServerState V) (turn : Turn) (t : TransId) (v : V) where
-  pub file_halt_stepped : (c : Call) (x : Answer) → IsAs a held k → IsTurn k.sessions turn → k.is_down ≡ false → file_trans c ≡ Some t → standing_of turn.client (map.get k.lives t) (cause_in k.dead turn.client t) ≡ standing.Work → waiting_of (state_of a).desk turn.client t ≡ None
-      → x ≡ refused_answer refusal.Down (act.Stopped ∷ [])
-      → Stepped a before now then (record k { is_down = true; vault = v }) (event.Call turn.client k.epoch turn.number c) x
-  file_halt_stepped c x h is up named own idle so =
-      let w : Session = session_of turn is in
-      let e : Entry = call_entry a turn.client turn.number w c (reply.Refused refusal.Down) (act.Stopped ∷ []) in
-      let works : part_refusal (state_of a) turn.client t ≡ None = ap (λ (x : Option Waiting). at_part (is_some x) (part_at (state_of a) turn.client t)) idle ∙ ap (at_part false) (part_is a held k turn.client t h ∙ ap part_of own) in
-      let leads = file_halt_leads a turn.client turn.number w t c h.quiet (h.down ∙ up) (turn_session a held k turn h is) is.number named works in
-      stepped_so a before now held then k (record k { is_down = true; vault = v }) turn.client turn.number w c false (reply.Refused refusal.Down) (act.Stopped ∷ []) (with_halt a turn.client turn.number w e) x so h
-      leads (halted_as a (with_halt a turn.client turn.number w e) held then k v (tried (state_of a) e) refl leads.quiet h) (λ w. cc) (stands_timely a.holder.clock (seen_in (event.Call turn.client k.epoch turn.number c)) k.clock h.clock)
+      abbrev finish_at : Event
+      finish_at = event.Call turn.client a.ids.epoch turn.number (call.Finish t true)
 
+      abbrev other_deeds : List Deed
+      other_deeds = flat_map (act_deeds (state_of a) finish_at) (act.Released t ∷ grant_acts (granted_behind k t))
+
+      says : x ≡ told_answer (Some (reply.Committed stamp)) told_acts
+      says = so ∙ (λ i. told_answer (Some (reply.Committed (record { ts = sym h.clock i + 1; trans = t }))) (act.Decided (record { ts = sym h.clock i + 1; trans = t }) [] ∷ act.Released t ∷ grant_acts (granted_behind k t)))
+
+      leads : Commit → Leads false a (call_entry a turn.client turn.number w (call.Finish t true) (reply.Committed stamp) told_acts) next_state
+      leads g =
+          subst (λ (acts : List Act). Leads false a (call_entry a turn.client turn.number w (call.Finish t true) (reply.Committed stamp) acts) next_state) (append-nil told_acts)
+          (commit_leads a turn.client turn.number w t y.life h.quiet (h.down ∙ up) (turn_session a held k turn h is) is.number y.is
+          (running_told a.ids.epoch t (fate_in k.coordinator t) (a.fates t) turn.client [] (h.coordinator.fates t) runs) idle may (granted_behind k t)
+          (subst (λ (ts : List TransId). IsWalk (with_commit a turn.client turn.number w t y.life).holder (in_turn (with_commit a turn.client turn.number w t y.life).holder a.waits) ts) (sym g.woken) g.walk))
+
+      free_deeds : AllByRecursion IsUnkept other_deeds
+      free_deeds = (tt, acts_free (state_of a) finish_at (grant_acts (granted_behind k t)) (none_write (granted_behind k t)))
+        where
+          none_write : (ts : List TransId) → list_any is_write (grant_acts ts) ≡ false
+          none_write [] = refl
+          none_write (u ∷ us) = none_write us
+
+      -- a crash leaves no more of it
+      pub commit_leaves : (G : Ghosts V) → G.held k.vault ≡ held → Leaves G k.vault v (Besides G k.vault (IsWritten l.part.intents (decision_changes k.epoch stamp_at []) (G.held k.vault)))
+          → Leaves G k.vault v (Besides G k.vault (IsSaidBy (state_of a) (entry_of (event.Call turn.client k.epoch turn.number (call.Finish t true)) x)))
+      commit_leaves G same leaves =
+          write_leaves a held k turn t l h is up live runs here idle early ready.last (reply.Committed stamp) refl next_state told_acts other_deeds refl free_deeds (leads commit_gone) G v x same says
+          (λ n. grants_cells (state_of a) finish_at (granted_behind k t) (state_deed n (Releases t))) leaves
+
+      pub commit_stepped : (blocks : List Key) → blocks ≡ new_blocks held.cells l.part.intents.puts → then.cells ≡ edits_map (edits_of (change_of l.part.intents)) held.cells
+          → then.notes ≡ notes_after (decision_changes k.epoch stamp_at []) held.notes
+          → Stepped a before now then (committed_kept blocks) (event.Call turn.client k.epoch turn.number (call.Finish t true)) x
+      commit_stepped blocks opened cells notes = go commit_gone
+        where
+          go : Commit → Stepped a before now then (committed_kept blocks) (event.Call turn.client k.epoch turn.number (call.Finish t true)) x
+          go g =
+              let same : then.cells ≡ cells_now = cells ∙ same_change held.cells l.part es y.alike.intents ∙ ap (edits_map es) (h.cells up) in
+              let same_blocks : blocks ≡ blocks_then a held k h t l live y.life y.is y.alike = opened ∙ ap (λ (i : Intents). new_blocks held.cells i.puts) y.alike.intents ∙ ap (λ (m : Cells). new_blocks m (intents_of es).puts) (h.cells up) in
+              let kept_is : committed_kept blocks ≡ kept_with g (server_commit g).lives (server_commit g).waits (blocks_then a held k h t l live y.life y.is y.alike) =
+              ap committed_kept same_blocks
+              ∙ ap (λ (q : ServerState V). record q {
+                lives = eased (blocks_then a held k h t l live y.life y.is y.alike) q.lives (map.keys k.lives);
+                sessions = counted_in k.sessions turn (reply.Committed stamp_at);
+                clock = k.clock + 1;
+                coordinator = z;
+                vault = v;
+              }) (let_go_commit g) in
+              let kept_notes : AreNotesOf (state_of next_state) a.ids.epoch then.notes =
+              write_notes a held k turn t l h is up live runs here idle early ready.last (reply.Committed stamp) refl next_state told_acts other_deeds refl free_deeds (leads g) (grants_go_on (granted_behind k t)) then notes in
+              subst (λ (z : ServerState V). Stepped a before now then z (event.Call turn.client k.epoch turn.number (call.Finish t true)) x) (sym kept_is)
+              (stepped_so a before now held then k (kept_with g (server_commit g).lives (server_commit g).waits (blocks_then a held k h t l live y.life y.is y.alike)) turn.client turn.number w (call.Finish t true) false (reply.Committed stamp) told_acts
+              next_state x says h (leads g) (commit_as g same kept_notes (leads g).quiet) (λ e. cc) (omega (arith, h.clock)))
+
+-- the vault was stopped or failed in it
 module _ {V : Type 0} (a : Account) (before now : ℕ) (held then : Contents) (k : ServerState V) (turn : Turn) (t : TransId) (v : V) (z : Act) where
   abbrev pub IsStopAct : Type 0
   IsStopAct = (z ≡ act.Stopped) ⊎ (z ≡ act.Failed)
 
-  pub commit_halt_stepped : (l : Live) (x : Answer) → IsStopAct → IsAs a held k → IsTurn k.sessions turn → k.is_down ≡ false → k.clock < 2 ^ 62 → t.server ≡ k.server → map.get k.lives t ≡ Some l → l.client ≡ turn.client → waiting_of (state_of a).desk turn.client t ≡ None
-      → IsWithin k.sizes l
-      → x ≡ refused_answer refusal.Down (act.Decided (record { ts = k.clock + 1; trans = t }) [] ∷ z ∷ [])
-      → Stepped a before now then (record k { is_down = true; vault = v }) (event.Call turn.client k.epoch turn.number (call.Finish t true)) x
-  commit_halt_stepped l x stop h is up early here live own idle room so =
-      let w : Session = session_of turn is in
-      let y : IsLive a.holder.cells k.locks.held (a.locked t) t l (a.holder.lives t) = live_there a.holder.cells k.locks.held (a.locked t) t (map.get k.lives t) (a.holder.lives t) l live (h.lives t) in
-      let acts : List Act = act.Decided (record { ts = a.holder.clock + 1; trans = t }) [] ∷ z ∷ [] in
-      let e : Entry = call_entry a turn.client turn.number w (call.Finish t true) (reply.Refused refusal.Down) acts in
-      let leads = commit_halt_leads a turn.client turn.number w t y.life z stop h.quiet (h.down ∙ up) (turn_session a held k turn h is) is.number y.is (lone_runs a held k h t y.life y.is ∙ ap (λ (n : ℕ). Running n []) (y.alike.client ∙ own)) idle
-      (votes_for a held k t l h early live room) in
-      stepped_so a before now held then k (record k { is_down = true; vault = v }) turn.client turn.number w (call.Finish t true) false (reply.Refused refusal.Down) acts (with_halt a turn.client turn.number w e) x
-      (so ∙ ap (λ (n : ℕ). refused_answer refusal.Down (act.Decided (record { ts = n + 1; trans = t }) [] ∷ z ∷ [])) (sym h.clock)) h
-      leads (halted_as a (with_halt a turn.client turn.number w e) held then k v (tried (state_of a) e) refl leads.quiet h) (λ w. cc) (stands_timely a.holder.clock 0 k.clock h.clock)
+  module _ (l : Live) (m : ℕ) (on : Bool) (stop : IsStopAct) (h : IsAs a held k) (ready : IsReady m on k) (is : IsTurn k.sessions turn) (up : k.is_down ≡ false) (early : k.clock < 2 ^ 62) (here : t.server ≡ k.server) (live : map.get k.lives t ≡ Some l)
+      (runs : fate_in k.coordinator t ≡ Running turn.client []) (idle : waiting_of (state_of a).desk turn.client t ≡ None) (may : why_not_own false (state_of a) t ≡ None)
+      (x : Answer) (so : x ≡ refused_answer refusal.Down (act.Decided (record { ts = k.clock + 1; trans = t }) [] ∷ z ∷ [])) where
+    abbrev halt_session : Session
+    halt_session = session_of turn is
+
+    abbrev halt_acts : List Act
+    halt_acts = act.Decided (record { ts = a.holder.clock + 1; trans = t }) [] ∷ z ∷ []
+
+    abbrev halt_entry : Entry
+    halt_entry = call_entry a turn.client turn.number halt_session (call.Finish t true) (reply.Refused refusal.Down) halt_acts
+
+    life_there : IsLive a.holder.cells k.locks.held (a.locked t) t l (a.holder.lives t)
+    life_there = live_there a.holder.cells k.locks.held (a.locked t) t (map.get k.lives t) (a.holder.lives t) l live (h.lives t)
+
+    halt_says : x ≡ refused_answer refusal.Down halt_acts
+    halt_says = so ∙ ap (λ (n : ℕ). refused_answer refusal.Down (act.Decided (record { ts = n + 1; trans = t }) [] ∷ z ∷ [])) (sym h.clock)
+
+    halt_leads : Leads false a halt_entry (with_halt a turn.client turn.number halt_session halt_entry)
+    halt_leads =
+        commit_halt_leads a turn.client turn.number halt_session t life_there.life z stop h.quiet (h.down ∙ up) (turn_session a held k turn h is) is.number life_there.is
+        (running_told a.ids.epoch t (fate_in k.coordinator t) (a.fates t) turn.client [] (h.coordinator.fates t) runs) idle may
+
+    pub commit_halt_stepped : Stepped a before now then (record k { is_down = true; vault = v }) (event.Call turn.client k.epoch turn.number (call.Finish t true)) x
+    commit_halt_stepped =
+        stepped_so a before now held then k (record k { is_down = true; vault = v }) turn.client turn.number halt_session (call.Finish t true) false (reply.Refused refusal.Down) halt_acts (with_halt a turn.client turn.number halt_session halt_entry) x halt_says h
+        halt_leads (halted_as a (with_halt a turn.client turn.number halt_session halt_entry) held then k v (tried (state_of a) halt_entry) refl halt_leads.quiet h) (λ w. cc) (stands_timely a.holder.clock 0 k.clock h.clock)
+
+    -- a crash leaves no more of it
+    pub halt_leaves : (G : Ghosts V) → G.held k.vault ≡ held → Leaves G k.vault v (Besides G k.vault (IsWritten l.part.intents (decision_changes k.epoch (record { ts = k.clock + 1; trans = t }) []) (G.held k.vault)))
+        → Leaves G k.vault v (Besides G k.vault (IsSaidBy (state_of a) (entry_of (event.Call turn.client k.epoch turn.number (call.Finish t true)) x)))
+    halt_leaves G same leaves =
+        write_leaves a held k turn t l h is up live runs here idle early ready.last (reply.Refused refusal.Down) refl (with_halt a turn.client turn.number halt_session halt_entry) halt_acts [] (brings z stop) tt halt_leads G v x same halt_says (λ n. refl) leaves
+      where
+        brings : (z : Act) → (z ≡ act.Stopped) ⊎ (z ≡ act.Failed)
+            → flat_map (act_deeds (state_of a) (event.Call turn.client a.ids.epoch turn.number (call.Finish t true))) (act.Decided (record { ts = a.holder.clock + 1; trans = t }) [] ∷ z ∷ []) ≡ Decides (record { ts = a.holder.clock + 1; trans = t }) [] ∷ []
+        brings z s = elim s [
+          | inl e ↦ ap (λ (b : Act). Decides (record { ts = a.holder.clock + 1; trans = t }) [] ∷ (act_deeds (state_of a) (event.Call turn.client a.ids.epoch turn.number (call.Finish t true)) b ++ [])) e
+          | inr e ↦ ap (λ (b : Act). Decides (record { ts = a.holder.clock + 1; trans = t }) [] ∷ (act_deeds (state_of a) (event.Call turn.client a.ids.epoch turn.number (call.Finish t true)) b ++ [])) e
+        ]

@@ -1,8 +1,8 @@
 -- what live transactions come to, and what all come to that began
-use Rattle.std.specs.Prelude.{cond, Bool, true, false, not, ◌||◌, Option, None, Some, sum_by, filter}
+use Rattle.std.specs.Prelude.{cond, Bool, true, false, not, ◌||◌, Option, None, Some, sum_by}
 use Rattle.std.specs.FinMap as map
 use Rattle.std.specs.FinMap.{same_map}
-use Rattle.std.proofs.Common.{◌≡◌, ℕ, ◌+◌, List, [], ◌∷◌, ◌++◌, refl, sym, ◌∙◌, ap, arith}
+use Rattle.std.proofs.Common.{◌≡◌, ℕ, ◌+◌, List, [], ◌∷◌, refl, sym, ◌∙◌, ap, arith}
 use Rattle.std.proofs.lemmas.Bool.{and_parts}
 use Rattle.alp_base.specs.declared.ids.TransId.{TransId}
 use Rattle.alp_base.specs.Orders.{trans_cmp, transactions_total, exact_transactions}
@@ -44,25 +44,12 @@ abbrev pub sum_list : (TransId → ℕ) → List TransId → ℕ
 sum_list f [] = 0
 sum_list f (t ∷ ts) = f t + sum_list f ts
 
-pub sum_append : (f : TransId → ℕ) (ts us : List TransId) → sum_list f (ts ++ us) ≡ sum_list f ts + sum_list f us
-sum_append f [] us = omega arith
-sum_append f (t ∷ ts) us = omega (arith, sum_append f ts us)
-
 sum_same : (f g : TransId → ℕ) (ts : List TransId) → ((t : TransId) → has_trans t ts ≡ true → f t ≡ g t) → sum_list f ts ≡ sum_list g ts
 sum_same f g [] same = refl
 sum_same f g (t ∷ ts) same =
     let here : f t ≡ g t = same t (ap (λ (b : Bool). b || has_trans t ts) (same_trans-itself t)) in
     let rest : sum_list f ts ≡ sum_list g ts = sum_same f g ts (λ u e. same u (later (same_trans t u) (has_trans u ts) e)) in
     omega (arith, here, rest)
-
--- where those that do not pass come to nothing, those that pass come to all
-sum_pass : (f : TransId → ℕ) (p : TransId → Bool) (ts : List TransId) → ((t : TransId) → p t ≡ false → f t ≡ 0) → sum_list f (filter p ts) ≡ sum_list f ts
-sum_pass f p [] light = refl
-sum_pass f p (t ∷ ts) light = go (p t) refl (sum_pass f p ts light)
-  where
-    go : (b : Bool) → p t ≡ b → sum_list f (filter p ts) ≡ sum_list f ts → sum_list f (cond {A = List TransId} b (t ∷ filter p ts) (filter p ts)) ≡ f t + sum_list f ts
-    go true e h = omega (arith, h)
-    go false e h = omega (arith, h, light t e)
 
 -- what ids that are named once come to, where just they are there
 sum_once : {X : Type 0} (g : X → ℕ) (ts : List TransId) (m : map.FinMap trans_cmp X) → are_trans_apart ts ≡ true → ((t : TransId) (x : X) → map.get m t ≡ Some x → has_trans t ts ≡ true) → sum_list (λ t. weigh g (map.get m t)) ts ≡ all_in g m
@@ -109,7 +96,7 @@ sum_once {X} g (t ∷ ts) m apart only = go (sum_once g ts) (map.get m t) refl
         narrow u y true f is = let wrong : None ≡ Some y = is in cc
         narrow u y false f is = named u f (only u y is)
 
--- what those come to that pass, of whom just they are there
-pub sum_there : {X : Type 0} (g : X → ℕ) (f : TransId → ℕ) (p : TransId → Bool) (ts : List TransId) (m : map.FinMap trans_cmp X) → are_trans_apart ts ≡ true → ((t : TransId) (x : X) → map.get m t ≡ Some x → has_trans t ts ≡ true)
-    → ((t : TransId) → p t ≡ false → f t ≡ 0) → ((t : TransId) → f t ≡ weigh g (map.get m t)) → sum_list f (filter p ts) ≡ all_in g m
-sum_there {X} g f p ts m apart only light same = sum_pass f p ts light ∙ sum_same f (λ t. weigh g (map.get m t)) ts (λ t there. same t) ∙ sum_once g ts m apart only
+-- what they come to, by another measure
+pub sum_there : {X : Type 0} (g : X → ℕ) (f : TransId → ℕ) (ts : List TransId) (m : map.FinMap trans_cmp X) → are_trans_apart ts ≡ true → ((t : TransId) (x : X) → map.get m t ≡ Some x → has_trans t ts ≡ true)
+    → ((t : TransId) → f t ≡ weigh g (map.get m t)) → sum_list f ts ≡ all_in g m
+sum_there {X} g f ts m apart only same = sum_same f (λ t. weigh g (map.get m t)) ts (λ t there. same t) ∙ sum_once g ts m apart only

@@ -20,7 +20,7 @@ use Rattle.alp_trans.specs.Counting.{AreCountsOf}
 use Rattle.alp_trans.specs.declared.counts.Counts.{Counts}
 use Rattle.alp_trans.specs.declared.part.Part.{Part}
 use Rattle.alp_base.specs.declared.ids.TransId.{TransId}
-use Rattle.alp_journal.specs.Answered.{is_fault_reply, grants_by}
+use Rattle.alp_journal.specs.Answered.{is_read_fault, grants_by}
 use Rattle.alp_journal.specs.Answers.{if_over, unless_counts}
 use Rattle.alp_journal.specs.Counts.{log_need}
 use Rattle.alp_journal.specs.Desk.{is_not_yet}
@@ -35,7 +35,7 @@ pub record IsCountRefusal (f : Refusal) : Type 0 where
   pub passes : is_passing_refusal f ≡ true
   pub now : is_not_yet (reply.Refused f) ≡ false
   pub granted : (t : TransId) → grants_by true t (reply.Refused f) ≡ t ∷ []
-  pub quiet : (here : ℕ) → (is_fault_reply here (Some (reply.Refused f)) || says_shut (Some (reply.Refused f))) ≡ false
+  pub quiet : (is_read_fault (Some (reply.Refused f)) || says_shut (Some (reply.Refused f))) ≡ false
   pub inside : IsInSession (reply.Refused f)
 
 pub over_is : (b : Bool) (r : Refusal) → IsCountRefusal r → (f : Refusal) → if_over b r ≡ Some f → IsCountRefusal f
@@ -50,13 +50,13 @@ either_is None y first second f e = second f e
 either_is (Some x) y first second f e = first f e
 
 pub too_many_is : (w : What) (n : ℕ) → IsCountRefusal (refusal.TooMany w n)
-too_many_is w n = record { passes = refl; now = refl; granted = λ t. refl; quiet = λ here. refl; inside = tt }
+too_many_is w n = record { passes = refl; now = refl; granted = λ t. refl; quiet = refl; inside = tt }
 
 full_is : (left asked : ℕ) → IsCountRefusal (refusal.VolumeFull left asked)
-full_is left asked = record { passes = refl; now = refl; granted = λ t. refl; quiet = λ here. refl; inside = tt }
+full_is left asked = record { passes = refl; now = refl; granted = λ t. refl; quiet = refl; inside = tt }
 
 pub log_is : (room asked : ℕ) → IsCountRefusal (refusal.LogFull room asked)
-log_is room asked = record { passes = refl; now = refl; granted = λ t. refl; quiet = λ here. refl; inside = tt }
+log_is room asked = record { passes = refl; now = refl; granted = λ t. refl; quiet = refl; inside = tt }
 
 pub refused_is : (room : Room) (now later : Counts) (f : Refusal) → refused_for room now later ≡ Some f → IsCountRefusal f
 refused_is room now later f e =
@@ -82,17 +82,17 @@ same_counts m es fs now later none before after =
     let same : AreCountsOf m es later = subst (λ (xs : List Edit). AreCountsOf m xs later) (ap (λ (xs : List Edit). es ++ xs) none ∙ append-nil es) after in
     (λ i. record { cells = (same.cells ∙ sym before.cells) i; places = (same.places ∙ sym before.places) i; files = (same.files ∙ sym before.files) i; owners = (same.owners ∙ sym before.owners) i })
 
-pub unless_quiet : (here : ℕ) (room : Room) (now later : Counts) (given : Reply) (o : Option Refusal) → refused_for room now later ≡ o → (is_fault_reply here (Some given) || says_shut (Some given)) ≡ false
-    → (is_fault_reply here (Some (unless_counts given o)) || says_shut (Some (unless_counts given o))) ≡ false
-unless_quiet here room now later given None e h = h
-unless_quiet here room now later given (Some f) e h = (refused_is room now later f e).quiet here
+pub unless_quiet : (room : Room) (now later : Counts) (given : Reply) (o : Option Refusal) → refused_for room now later ≡ o → (is_read_fault (Some given) || says_shut (Some given)) ≡ false
+    → (is_read_fault (Some (unless_counts given o)) || says_shut (Some (unless_counts given o))) ≡ false
+unless_quiet room now later given None e h = h
+unless_quiet room now later given (Some f) e h = (refused_is room now later f e).quiet
 
 -- what is answered tells of no fault, whatever the vault tells
-pub answered_quiet : (here : ℕ) (tells : Bool) (cells : Cells) (old new : Part) (who : List ℕ) (id : FileId) (c : Call) (room : Room) (r : Reply) → Answered tells cells old new who id c room r
-    → (is_fault_reply here (Some r) || says_shut (Some r)) ≡ false
-answered_quiet here tells cells old new who id c room r h =
-    subst (λ (x : Reply). (is_fault_reply here (Some x) || says_shut (Some x)) ≡ false) (sym h.said)
-    (unless_quiet here room old.counts h.after h.given (refused_for room old.counts h.after) refl (shows_none here h.given h.own h.kind.1))
+pub answered_quiet : (tells : Bool) (cells : Cells) (old new : Part) (who : List ℕ) (id : FileId) (c : Call) (room : Room) (r : Reply) → Answered tells cells old new who id c room r
+    → (is_read_fault (Some r) || says_shut (Some r)) ≡ false
+answered_quiet tells cells old new who id c room r h =
+    subst (λ (x : Reply). (is_read_fault (Some x) || says_shut (Some x)) ≡ false) (sym h.said)
+    (unless_quiet room old.counts h.after h.given (refused_for room old.counts h.after) refl (shows_none h.given h.own h.kind.1))
 
 -- it is in its session, and tells no time
 unless_inside : (room : Room) (now later : Counts) (given : Reply) (o : Option Refusal) → refused_for room now later ≡ o → IsInSession given → IsInSession (unless_counts given o)

@@ -18,16 +18,16 @@ use Rattle.alp_node.specs.Rooms.{IsWithin}
 use Rattle.alp_node.specs.ServerState.{IsReady}
 use Rattle.alp_node.specs.declared.server_state.ServerState.{ServerState}
 use Rattle.alp_node.specs.Totals.{LiveMap, totals_of, HaveRoom}
-use Rattle.alp_node.specs.Transactions.{owner_of}
+use Rattle.alp_node.specs.Noted.{size_of, size_in, HasReadyRoom}
 use Rattle.alp_node.specs.declared.lives.Live.{Live}
 use Rattle.alp_node.specs.declared.waits.WaitingCall.{WaitingCall}
-use Rattle.alp_node.specs.Dead.{cause_in}
 use Rattle.alp_node.proofs.WaitLemmas.{IsLikePart, IsLikeThen, like_itself, waiting_parts}
 use Rattle.alp_node.proofs.KeysOnce.{AreOnce}
 use Rattle.alp_node.proofs.KeptLemmas.{same_live}
 use Rattle.alp_node.proofs.MapLemmas.{get_put, put_length}
 use Rattle.alp_node.proofs.TotalLemmas.{among, swapped_room}
-use Rattle.alp_node.proofs.TransactionLemmas.{own_alike}
+use Rattle.alp_node.proofs.NotedLemmas.{voters_same, room_on}
+use Rattle.alp_node.proofs.PairedLemmas.{AreTheirs, whose_of, paired_on, alive_on}
 
 -- ---- one part
 
@@ -86,18 +86,26 @@ module _ (blocks : List Key) where
       go true None e = e
       go true (Some l) e = refl
 
-  -- each is its client's as before
-  if_owner : (m : LiveMap) (t u : TransId) → owner_of (map.get (eased_if blocks m t (map.get m t)) u) ≡ owner_of (map.get m u)
-  if_owner m t u = ap owner_of (if_get m t (map.get m t) u refl) ∙ go (same_trans u t) (map.get m u)
-    where
-      go : (b : Bool) (x : Option Live) → owner_of (cond {A = Option Live} b (option_map (eased_live blocks) x) x) ≡ owner_of x
-      go false x = refl
-      go true None = refl
-      go true (Some l) = refl
+  -- what does not look at places is as before
+  module _ {X : Type 0} (f : Option Live → X) (same : (l : Live) → f (Some (eased_live blocks l)) ≡ f (Some l)) where
+    if_same : (m : LiveMap) (t u : TransId) → f (map.get (eased_if blocks m t (map.get m t)) u) ≡ f (map.get m u)
+    if_same m t u = ap f (if_get m t (map.get m t) u refl) ∙ go (same_trans u t) (map.get m u)
+      where
+        go : (b : Bool) (x : Option Live) → f (cond {A = Option Live} b (option_map (eased_live blocks) x) x) ≡ f x
+        go false x = refl
+        go true None = refl
+        go true (Some l) = same l
 
-  pub eased_owner : (m : LiveMap) (ts : List TransId) (u : TransId) → owner_of (map.get (eased blocks m ts) u) ≡ owner_of (map.get m u)
-  eased_owner m [] u = refl
-  eased_owner m (t ∷ ts) u = eased_owner (eased_if blocks m t (map.get m t)) ts u ∙ if_owner m t u
+    pub eased_same : (m : LiveMap) (ts : List TransId) (u : TransId) → f (map.get (eased blocks m ts) u) ≡ f (map.get m u)
+    eased_same m [] u = refl
+    eased_same m (t ∷ ts) u = eased_same (eased_if blocks m t (map.get m t)) ts u ∙ if_same m t u
+
+  -- each part is whose it was, and has its size
+  pub eased_theirs : (m : LiveMap) (ts : List TransId) → AreTheirs m (eased blocks m ts)
+  eased_theirs m ts u = eased_same whose_of (λ l. refl) m ts u
+
+  pub eased_sizes : (m : LiveMap) (ts : List TransId) (u : TransId) → size_in (eased blocks m ts) u ≡ size_in m u
+  eased_sizes m ts u = eased_same size_of (λ l. refl) m ts u
 
   -- whoever was live is so still
   pub eased_live_still : (m : LiveMap) (ts : List TransId) (u : TransId) → is_some (map.get m u) ≡ true → is_some (map.get (eased blocks m ts) u) ≡ true
@@ -152,19 +160,19 @@ eased_ready n serves k blocks ts h = record {
   waits = waiting_parts k.server k.epoch k.given k.given (le_refl k.given) (count_of k.coordinator) k.sizes k.lives (eased blocks k.lives ts) k.waits k.locks.waiting
       (eased_like k.waits) (λ t live. eased_live_still blocks k.lives ts t live) h.waits;
   known = λ t l is. each_eased blocks (λ x. is_some (map.get k.locks.held t) ≡ true) (λ x so. so) k.lives ts t (h.known t) l is;
-  own = own_alike k.coordinator k.lives (eased blocks k.lives ts) (λ t. eased_owner blocks k.lives ts t) h.own;
+  joins = h.joins;
+  paired = paired_on k.servers k.server k.coordinator k.joins k.lives (eased blocks k.lives ts) (eased_theirs blocks k.lives ts) h.paired;
+  idle = h.idle;
   opens = λ t l is. each_eased blocks (λ x. x.part.last ≤ n) (λ x so. so) k.lives ts t (h.opens t) l is;
   opened = λ t l is. each_eased blocks (λ x. list_all (λ o. is_given k.server k.epoch k.given o.file) x.part.opens.items ≡ true) (λ x so. so) k.lives ts t (h.opened t) l is;
-  callers = λ t l is. each_eased blocks (λ x. is_some x.who ≡ true) (λ x so. so) k.lives ts t (h.callers t) l is;
-  alive = λ t l is. each_eased blocks (λ x. cause_in k.dead x.client t ≡ None) (λ x so. so) k.lives ts t (h.alive t) l is;
-  causes = h.causes;
+  alive = alive_on k.servers k.server k.coordinator k.joins k.lives (eased blocks k.lives ts) (eased_theirs blocks k.lives ts) k.dead h.alive;
   places = h.places;
   calls = h.calls;
   replies = h.replies;
   drawn = h.drawn;
   given = h.given;
-  few = (let same : map.len (eased blocks k.lives ts) ≡ map.len k.lives = eased_length blocks k.lives ts in omega (arith, same, h.few));
-  most = (let same : map.len (eased blocks k.lives ts) ≡ map.len k.lives = eased_length blocks k.lives ts in omega (arith, same, h.most));
+  most = h.most;
+  fits = subst (HasReadyRoom k.sizes) (sym (room_on k.lives (eased blocks k.lives ts) k.joins.lives h.joins.once (voters_same k.lives (eased blocks k.lives ts) k.joins.lives (eased_sizes blocks k.lives ts)))) h.fits;
   within = λ t l is. each_eased blocks (IsWithin k.sizes) (eased_within k.sizes blocks) k.lives ts t (h.within t) l is;
   sized = h.sized;
   clock = h.clock;

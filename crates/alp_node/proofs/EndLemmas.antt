@@ -3,7 +3,7 @@ use Rattle.std.specs.Prelude.{cond, Bool, true, false, ◌==◌, ◌&&◌, ◌||
 use Rattle.std.specs.List.{AllByRecursion}
 use Rattle.std.specs.FinMap as map
 use Rattle.std.proofs.Common.{◌≡◌, ℕ, ◌+◌, ◌<◌, ◌≤◌, List, [], ◌∷◌, length, refl, sym, ◌∙◌, ap, subst, arith, eq-eqb}
-use Rattle.std.proofs.lemmas.Bool.{leb-false, eqb-true}
+use Rattle.std.proofs.lemmas.Bool.{leb-false, lt-leb, eqb-true}
 use Rattle.alp_base.specs.declared.ids.JoinNo.{JoinNo}
 use Rattle.alp_base.specs.declared.ids.Stamp.{Stamp}
 use Rattle.alp_base.specs.declared.ids.TransId.{TransId}
@@ -33,7 +33,8 @@ use Rattle.alp_journal.specs.declared.act.Act.TheVariants as act
 use Rattle.alp_journal.specs.declared.event.Event.TheVariants as event
 use Rattle.alp_journal.specs.Ids.{same_trans}
 use Rattle.alp_journal.specs.Deeds.{Begins}
-use Rattle.alp_journal.specs.Coordinator.{Fate, decision_in}
+use Rattle.alp_journal.specs.Coordinator.{Fate, client_of, decision_in}
+use Rattle.alp_journal.specs.State.{is_this}
 use Rattle.alp_journal.specs.Participant.{live_in}
 use Rattle.alp_journal.specs.Coordinator as fate
 use Rattle.alp_journal.specs.Holder.{Life, new_life}
@@ -42,14 +43,17 @@ use Rattle.alp_journal.specs.Moves.{next_trans}
 use Rattle.alp_journal.specs.Answers.{too_many, is_counted, count_of_transactions, if_over}
 use Rattle.alp_journal.specs.Account.{Account, state_of, IsQuiet, IsPartOf, IsOfPart, Leads}
 use Rattle.alp_journal.proofs.IdLemmas.{all-filter, same_trans-true}
-use Rattle.alp_journal.proofs.StandLemmas.{live_undecided}
-use Rattle.alp_journal.proofs.WaitLemmas.{all-stay}
-use Rattle.alp_journal.proofs.BeginCalls.{hello_entry, with_hello, hello_leads, with_begun, begin_leads, is_buried, unburied, is_decided, undecided, with_buried_as, buried_quiet, with_buried, begin_refused_leads}
+use Rattle.alp_journal.proofs.StandLemmas.{live_undecided, next_new}
+use Rattle.alp_journal.proofs.PartLemmas.{none_waits}
+use Rattle.alp_journal.proofs.WaitLemmas.{turned}
+use Rattle.alp_journal.proofs.BeginCalls.{hello_entry, with_hello, hello_leads, with_begun, begin_leads, is_buried, unburied, is_decided, undecided, not_dead, with_buried_as, buried_quiet, with_buried, begin_refused_leads}
 use Rattle.alp_journal.proofs.CollectCalls.{none_dead}
 use Rattle.alp_node.specs.Dead.{cause_in, without_client}
 use Rattle.alp_coord.specs.declared.coordinator.Coordinator.{Coordinator}
 use Rattle.alp_coord.specs.Coordinators.{IsOf, Comes, server_of, epoch_of, count_of, next_id, fate_in, counted_of}
 use Rattle.alp_coord.specs.Likeness.{IsFateOf}
+use Rattle.alp_worker.specs.Lives.{part_of}
+use Rattle.alp_worker.proofs.WalkLemmas.{live_count}
 use Rattle.alp_node.specs.Sessions.{session_at, with_session}
 use Rattle.alp_node.specs.ServerState.{IsAs, IsAlike, IsWaitingAs, PutNoneBeyond}
 use Rattle.alp_node.specs.Steps.{Stepped, told_answer, refused_answer, entry_of}
@@ -58,19 +62,18 @@ use Rattle.alp_node.specs.declared.lives.Live.{Live}
 use Rattle.alp_node.specs.Waits.{waiting, waiting_calls, is_file_on, outlives, without_dead, has_part, stays, live_calls, IsCallBy, IsNamed}
 use Rattle.alp_node.specs.declared.server_state.ServerState.{ServerState}
 use Rattle.alp_node.specs.declared.waits.WaitingCall.{WaitingCall}
-use Rattle.alp_node.specs.Totals.{LiveMap}
 use Rattle.alp_node.specs.declared.lock_counts.LockCounts.{LockCounts}
-use Rattle.alp_node.proofs.BesideLemmas.{AreNamed, AreFileCalls, AreOthers, counted_named, others_told, part_named, filter_told, queue_beside, asked_beside}
-use Rattle.alp_journal.specs.Desk.{Session, Waiting, file_trans, part_trans, is_of, is_on}
+use Rattle.alp_node.proofs.BesideLemmas.{AreNamed, AreOthers, counted_named, others_told, part_named, filter_told, queue_beside, asked_beside}
+use Rattle.alp_journal.specs.Desk.{Session, Waiting, file_trans, part_trans, is_of, is_on, without}
 use Rattle.alp_node.proofs.TotalLemmas.{added_room}
 use Rattle.alp_calls.proofs.CountLaws.{counts_begin}
 use Rattle.alp_node.proofs.DeadLemmas.{dead_buried}
-use Rattle.alp_node.proofs.DecisionLemmas.{plain_moved, begun_plain}
-use Rattle.alp_node.proofs.KeptLemmas.{sessions_as, stands_timely, alike_set, each_set, none_held, stepped_so}
+use Rattle.alp_node.proofs.ClearLemmas.{KeepsParts, cleared_told}
+use Rattle.alp_node.proofs.NoteCalls.{call_notes}
+use Rattle.alp_node.proofs.NotedLemmas.{notes_on}
+use Rattle.alp_node.proofs.KeptLemmas.{applied_fated, begun_decision, sessions_as, stands_timely, alike_set, each_set, none_held, stepped_so}
 use Rattle.alp_node.proofs.MapLemmas.{places_set, get_put}
-use Rattle.alp_node.proofs.OneServer.{none_join_counts, told_undecided}
 use Rattle.alp_node.proofs.TransactionLemmas.{next_told, known_begun, count_told}
-use Rattle.alp_node.proofs.WaitLemmas.{counts_there}
 
 -- ---- a greeting
 
@@ -94,7 +97,7 @@ hello_stepped a before now held k client name x h le up first is =
         clock = h.clock;
         cells = h.cells;
         sized = h.sized;
-        notes = h.notes;
+        notes = λ on. notes_on (state_of a) (state_of (with_hello a client name)) a.ids.epoch held.notes refl refl refl (λ t. refl) (λ j x q. q) (h.notes on);
         places = places_set k.sessions client w h.places;
         sessions = subst (λ (n : ℕ). (c : ℕ) → cond {A = Option Session} (c == client) (Some (record { who = name; last = 1; reply = reply.Welcome n })) (a.sessions c) ≡ session_at (with_session k.sessions client w) c) (sym h.epoch)
             (sessions_as a.sessions k.sessions client w h.sessions h.places le);
@@ -103,8 +106,9 @@ hello_stepped a before now held k client name x h le up first is =
         room = h.room;
         unborn = h.unborn;
         coordinator = h.coordinator;
-        plain = h.plain;
-        lone = h.lone;
+        decided = h.decided;
+        servers = h.servers;
+        joins = h.joins;
         files = h.files;
         made = h.made;
         born = h.born;
@@ -121,24 +125,18 @@ hello_stepped a before now held k client name x h le up first is =
 -- ---- a transaction begins
 
 -- that as many count as may be
-abbrev pub many_of : Coordinator → Option Refusal
-many_of c = if_over (nat_le 64 (counted_of c)) (refusal.TooMany what.Transactions 64)
+abbrev pub many_of : {V : Type 0} → ServerState V → Option Refusal
+many_of k = if_over (nat_le 64 (counted_of k.coordinator + length k.joins.lives)) (refusal.TooMany what.Transactions 64)
 
-kept_live : (cells : Cells) (locks : Holders) (rs : List Resource) (t : TransId) (o : Option Live) (x : Option Life) → IsAlike cells locks rs t o x → is_some x ≡ is_some o
-kept_live cells locks rs t None None h = refl
-kept_live cells locks rs t (Some l) (Some life) h = refl
-kept_live cells locks rs t None (Some life) h = absurd h
-kept_live cells locks rs t (Some l) None h = absurd h
-
--- so many count as the coordinator counts
-count_counted : {V : Type 0} (a : Account) (held : Contents) (k : ServerState V) → IsAs a held k → count_of_transactions (state_of a) ≡ counted_of k.coordinator
+-- so many count as the coordinator counts, and the live joins besides
+count_counted : {V : Type 0} (a : Account) (held : Contents) (k : ServerState V) → IsAs a held k → count_of_transactions (state_of a) ≡ counted_of k.coordinator + length k.joins.lives
 count_counted a held k h =
     let own : length (filter (λ t. is_counted (a.fates t)) a.begun) ≡ counted_of k.coordinator = count_told a h.quiet.settled.stands k.coordinator h.coordinator in
-    let joins : length (filter (λ j. is_some (live_in (a.phases j))) a.joined) ≡ 0 = ap (λ (js : List JoinNo). length js) (none_join_counts a h.lone h.quiet.settled.stands) in
+    let joins : length k.joins.lives ≡ length (filter (λ j. is_some (live_in (a.phases j))) a.joined) = live_count a.holder.server a.ids.epoch a.ids.joins a.phases a.joined k.joins h.joins in
     omega (arith, own, joins)
 
 -- and where these are as many as may be, that is said
-pub many_told : {V : Type 0} (a : Account) (held : Contents) (k : ServerState V) → IsAs a held k → too_many (state_of a) ≡ many_of k.coordinator
+pub many_told : {V : Type 0} (a : Account) (held : Contents) (k : ServerState V) → IsAs a held k → too_many (state_of a) ≡ many_of k
 many_told a held k h = ap (λ (n : ℕ). if_over (nat_le 64 n) (refusal.TooMany what.Transactions 64)) (count_counted a held k h)
 
 pub over_is : (b : Bool) (f g : Refusal) → if_over b f ≡ Some g → g ≡ f
@@ -149,12 +147,16 @@ over_is true f g e = sym (one f g e)
 over_is false f g e = let wrong : None ≡ Some g = e in cc
 
 -- else there are fewer
-pub few_of : (c : Coordinator) → many_of c ≡ None → counted_of c < 64
-few_of c none = go (nat_le 64 (counted_of c)) refl none
+pub few_of : {V : Type 0} (k : ServerState V) → many_of k ≡ None → counted_of k.coordinator + length k.joins.lives < 64
+few_of k none = go (nat_le 64 (counted_of k.coordinator + length k.joins.lives)) refl none
   where
-    go : (b : Bool) → nat_le 64 (counted_of c) ≡ b → if_over b (refusal.TooMany what.Transactions 64) ≡ None → counted_of c < 64
+    go : (b : Bool) → nat_le 64 (counted_of k.coordinator + length k.joins.lives) ≡ b → if_over b (refusal.TooMany what.Transactions 64) ≡ None → counted_of k.coordinator + length k.joins.lives < 64
     go true e over = let wrong : Some (refusal.TooMany what.Transactions 64) ≡ None = over in cc
-    go false e over = leb-false 64 (counted_of c) e
+    go false e over = leb-false 64 (counted_of k.coordinator + length k.joins.lives) e
+
+-- and the other way
+pub many_none : {V : Type 0} (k : ServerState V) → counted_of k.coordinator + length k.joins.lives < 64 → many_of k ≡ None
+many_none k few = ap (λ (b : Bool). if_over b (refusal.TooMany what.Transactions 64)) (lt-leb 64 (counted_of k.coordinator + length k.joins.lives) few)
 
 -- ---- calls of dead parts go
 
@@ -225,69 +227,56 @@ module _ {V : Type 0} (a : Account) (held : Contents) (k : ServerState V) (clien
       each [] p = tt
       each (v ∷ vs) p = (goes_idle v p.0, each vs p.1)
 
-  -- and no file call is of a transaction that was decided
-  decided_none : (v : WaitingCall) → IsPartHere v → is_some v.counts ≡ true → is_decided a client (waiting v) ≡ false
-  decided_none v here some =
-      let n = counts_there v.counts some in
-      ap (λ (x : Option TransId). v.client == client && is_on (λ t. is_some (decision_in (a.fates t))) x) (part_named v here.0)
-      ∙ ap (λ (x : Option (Stamp × List JoinNo)). v.client == client && is_some x) (go (a.holder.lives v.trans) refl (here.1 n.0 n.1)) ∙ neither (v.client == client)
+  -- and those go that are of what was decided
+  pub undecided_left : (c : Coordinator) → AreNamed k.waits → KeepsParts a held k client h c k.waits → undecided a client ≡ waiting_calls (live_calls client c k.joins (without_dead client k.dead k.waits))
+  undecided_left c named same = cleared_told a held k client h c named same (each-more IsNamed (λ v. not (is_buried a client (waiting v)) ≡ outlives client k.dead v) goes_alike k.waits named)
+
+  -- where no part is another than before
+  pub parts_kept : KeepsParts a held k client h k.coordinator k.waits
+  parts_kept = each k.waits
     where
-      neither : (b : Bool) → (b && false) ≡ false
-      neither true = refl
-      neither false = refl
+      each : (ws : List WaitingCall) → KeepsParts a held k client h k.coordinator ws
+      each [] = tt
+      each (v ∷ vs) = (refl, each vs)
 
-      go : (x : Option Life) → a.holder.lives v.trans ≡ x → IsPartOf v.client x (a.dead v.client v.trans) → decision_in (a.fates v.trans) ≡ None
-      go (Some life) e p = live_undecided a h.quiet.settled.stands v.trans life e
-      go None e p = told_undecided a held k h v.client v.trans p
-
-  pub undecided_is : AreNamed k.waits → AreFileCalls k.waits → undecided a client ≡ unburied a client
-  undecided_is named files =
-      all-stay (is_decided a client) (unburied a client)
-      (all-filter (λ (v : Waiting). is_decided a client v ≡ false) (λ v. not (is_buried a client v)) a.waits (subst (AllByRecursion (λ (v : Waiting). is_decided a client v ≡ false)) (sym h.waits) (each k.waits (parts_here named) files)))
+  -- a file call that goes on is of no decided transaction
+  decided_idle : (v : WaitingCall) → IsPartHere v → is_buried a client (waiting v) ≡ false → GoesIdle a.holder k.locks.held (is_decided a client) (waiting v)
+  decided_idle v here off gone = by v.counts refl here.0
     where
-      each : (ws : List WaitingCall) → AllByRecursion IsPartHere ws → AreFileCalls ws → AllByRecursion (λ (v : Waiting). is_decided a client v ≡ false) (waiting_calls ws)
-      each [] p f = tt
-      each (v ∷ vs) p f = (decided_none v p.0 f.0, each vs p.1 f.1)
+      left : (b c : Bool) → (b && c) ≡ true → (b ≡ true) × (c ≡ true)
+      left true c e = (refl, e)
+      left false c e = let wrong : false ≡ true = e in cc
 
-  -- a file call of the client that is of no dead part is of a live one
-  live_stays : (lives : LiveMap) → ((t : TransId) (l : Live) → map.get k.lives t ≡ Some l → map.get lives t ≡ Some l) → (v : WaitingCall) → IsPartHere v → is_some v.counts ≡ true → outlives client k.dead v ≡ true → stays client lives v ≡ true
-  live_stays lives kept v here some out = by (v.client == client) refl out
+      both : (v.client ≡ client) × (is_some (decision_in (a.fates v.trans)) ≡ true)
+      both =
+          let parts = left (v.client == client) (is_on (λ t. is_some (decision_in (a.fates t))) (part_trans v.call)) gone in
+          (eqb-true v.client client parts.0, sym (ap (is_on (λ t. is_some (decision_in (a.fates t)))) (part_named v here.0)) ∙ parts.1)
+
+      never : IsPartOf v.client (a.holder.lives v.trans) (a.dead v.client v.trans) → (x : Option Life) → a.holder.lives v.trans ≡ x → ⊥
+      never part None e = not_dead a client (waiting v) v.trans (part_named v here.0) off both.0 (subst (λ (y : Option Life). IsPartOf v.client y (a.dead v.client v.trans)) e part)
+      never part (Some life) e =
+          let wrong : false ≡ true = ap (λ (x : Option (Stamp × List JoinNo)). is_some x) (sym (live_undecided a h.quiet.settled.stands v.trans life e)) ∙ both.1 in
+          cc
+
+      by : (x : Option LockCounts) → v.counts ≡ x → IsCallBy v.call v.trans x → request_at a.holder k.locks.held (waiting v) (file_trans v.call) ≡ []
+      by None e named = ap (request_at a.holder k.locks.held (waiting v)) named.0
+      by (Some n) e named = absurd (never (here.1 n e) (a.holder.lives v.trans) refl)
+
+  -- so the table's queue stays
+  pub queue_undecided : AreNamed k.waits → queue_of a.holder k.locks.held (undecided a client) ≡ queue_of a.holder k.locks.held a.waits
+  queue_undecided named =
+      queue_without a.holder k.locks.held (is_decided a client) (unburied a client)
+      (subst (λ (ws : List Waiting). AllByRecursion (GoesIdle a.holder k.locks.held (is_decided a client)) (without (is_buried a client) ws)) (sym h.waits) (each k.waits (parts_here named)))
+      ∙ queue_left named
     where
-      its_part : (life : Life) (o : Option Live) (x : Option Life) → x ≡ Some life → IsAlike a.holder.cells k.locks.held (a.locked v.trans) v.trans o x → (l : Live) × (o ≡ Some l) × (l.client ≡ life.client)
-      its_part life None None is alike = let wrong : None ≡ Some life = is in cc
-      its_part life (Some l) (Some y) is alike = (l, refl, sym alike.client ∙ ap (λ (z : Life). z.client) (same-some y life is))
-      its_part life None (Some y) is alike = absurd alike
-      its_part life (Some l) None is alike = absurd alike
-
-      told : (x : Option Cause) → is_none x ≡ true → IsSome x → ⊥
-      told None e s = let wrong : false ≡ true = s in cc
-      told (Some c) e s = let wrong : false ≡ true = e in cc
-
-      its : (l : Live) → map.get k.lives v.trans ≡ Some l → l.client ≡ client → has_part client (map.get lives v.trans) ≡ true
-      its l there own = ap (has_part client) (kept v.trans l there) ∙ eq-eqb l.client client own
-
-      live : (x : Option Life) → a.holder.lives v.trans ≡ x → IsPartOf v.client x (a.dead v.client v.trans) → v.client ≡ client → is_none (cause_in k.dead client v.trans) ≡ true → has_part client (map.get lives v.trans) ≡ true
-      live (Some life) at p own none =
-          let part : (l : Live) × (map.get k.lives v.trans ≡ Some l) × (l.client ≡ life.client) = its_part life (map.get k.lives v.trans) (a.holder.lives v.trans) at (h.lives v.trans) in
-          its part.0 part.1 (part.2 ∙ (sym p ∙ own))
-      live None at p own none = absurd (told (cause_in k.dead client v.trans) none (subst (λ (x : Option Cause). IsSome x) (ap (λ (n : ℕ). a.dead n v.trans) own ∙ h.dead client v.trans) p))
-
-      by : (b : Bool) → (v.client == client) ≡ b → (not b || is_none (cause_in k.dead client v.trans)) ≡ true → (not b || has_part client (map.get lives v.trans)) ≡ true
-      by false e none = refl
-      by true e none = let n = counts_there v.counts some in live (a.holder.lives v.trans) refl (here.1 n.0 n.1) (eqb-true v.client client e) none
-
-  -- so no other call goes
-  pub others_stay : (lives : LiveMap) → ((t : TransId) (l : Live) → map.get k.lives t ≡ Some l → map.get lives t ≡ Some l) → AreNamed k.waits → AreFileCalls k.waits → live_calls client lives (without_dead client k.dead k.waits) ≡ without_dead client k.dead k.waits
-  others_stay lives kept named files = each k.waits (parts_here named) files
-    where
-      each : (ws : List WaitingCall) → AllByRecursion IsPartHere ws → AreFileCalls ws → live_calls client lives (without_dead client k.dead ws) ≡ without_dead client k.dead ws
-      each [] p f = refl
-      each (v ∷ vs) p f = go (outlives client k.dead v) refl (each vs p.1 f.1)
+      each : (ws : List WaitingCall) → AllByRecursion IsPartHere ws → AllByRecursion (GoesIdle a.holder k.locks.held (is_decided a client)) (without (is_buried a client) (waiting_calls ws))
+      each [] p = tt
+      each (v ∷ vs) p = go (is_buried a client (waiting v)) refl (each vs p.1)
         where
-          go : (b : Bool) → outlives client k.dead v ≡ b → live_calls client lives (without_dead client k.dead vs) ≡ without_dead client k.dead vs
-              → live_calls client lives (cond {A = List WaitingCall} b (v ∷ without_dead client k.dead vs) (without_dead client k.dead vs)) ≡ cond {A = List WaitingCall} b (v ∷ without_dead client k.dead vs) (without_dead client k.dead vs)
-          go false e rest = rest
-          go true e rest = (λ i. cond {A = List WaitingCall} (live_stays lives kept v p.0 f.0 e i) (v ∷ rest i) (rest i))
+          go : (b : Bool) → is_buried a client (waiting v) ≡ b → AllByRecursion (GoesIdle a.holder k.locks.held (is_decided a client)) (without (is_buried a client) (waiting_calls vs))
+              → AllByRecursion (GoesIdle a.holder k.locks.held (is_decided a client)) (cond {A = List Waiting} (not b) (waiting v ∷ without (is_buried a client) (waiting_calls vs)) (without (is_buried a client) (waiting_calls vs)))
+          go true e rest = rest
+          go false e rest = (decided_idle v p.0 e, rest)
 
 module _ {V : Type 0} (a : Account) (held : Contents) (k : ServerState V) (client number : ℕ) (w : Session) (r : Reply) where
   -- the client's dead parts go as it is answered
@@ -302,7 +291,7 @@ module _ {V : Type 0} (a : Account) (held : Contents) (k : ServerState V) (clien
     clock = h.clock;
     cells = h.cells;
     sized = h.sized;
-    notes = h.notes;
+    notes = λ on. notes_on (state_of a) (state_of (with_buried_as a client number w r)) a.ids.epoch held.notes refl refl refl (λ t. refl) (λ j x q. q) (h.notes on);
     places = places_set k.sessions client (record w { last = number; reply = r }) h.places;
     sessions = sessions_as a.sessions k.sessions client (record w { last = number; reply = r }) h.sessions h.places le;
     dead = λ d u. ap (cond {A = Option Cause} (d == client) None) (h.dead d u) ∙ dead_buried client k.dead d u;
@@ -310,8 +299,9 @@ module _ {V : Type 0} (a : Account) (held : Contents) (k : ServerState V) (clien
     room = h.room;
     unborn = h.unborn;
     coordinator = h.coordinator;
-    plain = h.plain;
-    lone = h.lone;
+    decided = h.decided;
+    servers = h.servers;
+    joins = h.joins;
     files = h.files;
     made = h.made;
     born = h.born;
@@ -326,19 +316,49 @@ module _ {V : Type 0} (a : Account) (held : Contents) (k : ServerState V) (clien
 module _ {V : Type 0} (a : Account) (held : Contents) (k : ServerState V) (client number : ℕ) (w : Session) (seen : Stamp) where
   -- and the calls of the client that are of no live part
   abbrev pub cleared_kept : Reply → ServerState V
-  cleared_kept r = record k { sessions = with_session k.sessions client (record w { last = number; reply = r }); dead = without_client client k.dead; waits = live_calls client k.lives (without_dead client k.dead k.waits) }
+  cleared_kept r = record k {
+    sessions = with_session k.sessions client (record w { last = number; reply = r });
+    dead = without_client client k.dead;
+    waits = live_calls client k.coordinator k.joins (without_dead client k.dead k.waits);
+  }
 
   -- as many count as may be: the begin is refused, and the client's dead parts go
-  pub begin_refused_stepped : (before now : ℕ) (x : Answer) → IsAs a held k → client ≤ 16 → k.is_down ≡ false → session_at k.sessions client ≡ Some w → number ≡ w.last + 1 → many_of k.coordinator ≡ Some (refusal.TooMany what.Transactions 64) → AreNamed k.waits → AreFileCalls k.waits
+  pub begin_refused_stepped : (before now : ℕ) (x : Answer) → IsAs a held k → client ≤ 16 → k.is_down ≡ false → session_at k.sessions client ≡ Some w → number ≡ w.last + 1 → many_of k ≡ Some (refusal.TooMany what.Transactions 64) → AreNamed k.waits
       → x ≡ refused_answer (refusal.TooMany what.Transactions 64) []
       → Stepped a before now held (cleared_kept (reply.Refused (refusal.TooMany what.Transactions 64))) (event.Call client k.epoch number (call.Begin seen)) x
-  begin_refused_stepped before now x h le up there turn many named files is =
+  begin_refused_stepped before now x h le up there turn many named is =
       let f : Refusal = refusal.TooMany what.Transactions 64 in
       let leads = begin_refused_leads a client number w seen f h.quiet (h.down ∙ up) (h.sessions client ∙ there) turn (many_told a held k h ∙ many) in
-      stepped_so a before now held held k (cleared_kept (reply.Refused f)) client number w (call.Begin seen) false (reply.Refused f) [] (with_buried a client number w f) x is h leads
-      (subst (λ (ws : List Waiting). IsAs (record (with_buried_as a client number w (reply.Refused f)) { waits = ws }) held (cleared_kept (reply.Refused f))) (sym (undecided_is a held k client h named files))
-      (subst (λ (vs : List WaitingCall). IsAs (with_buried_as a client number w (reply.Refused f)) held (record (buried_kept a held k client number w (reply.Refused f)) { waits = vs })) (sym (others_stay a held k client h k.lives (λ t l at. at) named files))
-      (buried_as a held k client number w (reply.Refused f) h le up named (buried_quiet a client number w (reply.Refused f) h.quiet (h.sessions client ∙ there) turn)))) (λ e. cc) (omega (arith, h.clock))
+      let told : IsAs (with_buried_as a client number w (reply.Refused f)) held (buried_kept a held k client number w (reply.Refused f)) =
+      buried_as a held k client number w (reply.Refused f) h le up named (buried_quiet a client number w (reply.Refused f) h.quiet (h.sessions client ∙ there) turn) in
+      stepped_so a before now held held k (cleared_kept (reply.Refused f)) client number w (call.Begin seen) false (reply.Refused f) [] (with_buried a client number w f) x is h leads (record {
+        server = h.server;
+        servers = h.servers;
+        sizes = h.sizes;
+        epoch = h.epoch;
+        clock = h.clock;
+        cells = h.cells;
+        sized = h.sized;
+        notes = λ on. call_notes false a (with_buried a client number w f) client number w (call.Begin seen) (reply.Refused f) [] h.quiet leads refl held.notes (h.notes on);
+        places = told.places;
+        sessions = told.sessions;
+        dead = told.dead;
+        lives = h.lives;
+        room = h.room;
+        unborn = h.unborn;
+        coordinator = h.coordinator;
+        decided = h.decided;
+        joins = h.joins;
+        files = h.files;
+        made = h.made;
+        born = h.born;
+        earlier = h.earlier;
+        waits = undecided_left a held k client h k.coordinator named (parts_kept a held k client h);
+        queue = h.queue ∙ sym (queue_undecided a held k client h named);
+        asked = each-filter (IsWaitingAs a.holder a.locked) (stays client k.coordinator k.joins) (without_dead client k.dead k.waits) told.asked;
+        quiet = leads.quiet;
+        down = sym up;
+      }) (λ e. cc) (omega (arith, h.clock))
 
 module _ {V : Type 0} (a : Account) (held : Contents) (k : ServerState V) (client number : ℕ) (w : Session) (seen : Stamp) (p : Part) (c : Coordinator) where
   abbrev pub begun_trans : TransId
@@ -354,7 +374,7 @@ module _ {V : Type 0} (a : Account) (held : Contents) (k : ServerState V) (clien
     coordinator = c;
     dead = without_client client k.dead;
     lives = map.insert k.lives begun_trans begun_live;
-    waits = live_calls client (map.insert k.lives begun_trans begun_live) (without_dead client k.dead k.waits);
+    waits = live_calls client c k.joins (without_dead client k.dead k.waits);
     locks = locks;
   }
 
@@ -380,20 +400,25 @@ module _ {V : Type 0} (a : Account) (held : Contents) (k : ServerState V) (clien
         known = λ r. refl;
       }) u)
 
-  -- who was live is so still
-  lives_on : map.get k.lives begun_trans ≡ None → (t : TransId) (l : Live) → map.get k.lives t ≡ Some l → map.get (map.insert k.lives begun_trans begun_live) t ≡ Some l
-  lives_on new t l there = get_put k.lives begun_trans begun_live t ∙ go (same_trans t begun_trans) refl
+  -- the client has the parts that it had
+  parts_on : (h : IsAs a held k) → AreNamed k.waits → Comes (Begins begun_trans client w.who seen.ts) k.coordinator c → KeepsParts a held k client h c k.waits
+  parts_on h named comes = each k.waits named (subst (AllByRecursion (λ (v : Waiting). is_of (next_trans (state_of a)) (part_trans v.call) ≡ false)) h.waits (none_waits a h.quiet.settled (next_trans (state_of a)) refl (next_new a h.quiet.settled.stands)))
     where
-      go : (b : Bool) → same_trans t begun_trans ≡ b → cond {A = Option Live} b (Some begun_live) (map.get k.lives t) ≡ Some l
-      go false e = there
-      go true e = let wrong : None ≡ Some l = sym new ∙ sym (ap (map.get k.lives) (same_trans-true t begun_trans e)) ∙ there in cc
+      apart : (t : TransId) → same_trans (next_trans (state_of a)) t ≡ false → has_part client c k.joins t ≡ has_part client k.coordinator k.joins t
+      apart t away =
+          ap (λ (f : Fate). is_this client (client_of f) || is_some (part_of client t k.joins.lives))
+          (comes t ∙ ap (λ (b : Bool). cond {A = Fate} b (fate.begun client (fate_in k.coordinator t)) (fate_in k.coordinator t)) (ap (λ (u : TransId). same_trans u t) (sym (trans_same h)) ∙ away))
 
-  pub begin_stepped : (before now : ℕ) (x : Answer) (locks : Table) → IsAs a held k → client ≤ 16 → k.is_down ≡ false → session_at k.sessions client ≡ Some w → number ≡ w.last + 1 → 0 < k.epoch → many_of k.coordinator ≡ None → map.get k.lives begun_trans ≡ None
+      each : (ws : List WaitingCall) → AreNamed ws → AllByRecursion (λ (v : Waiting). is_of (next_trans (state_of a)) (part_trans v.call) ≡ false) (waiting_calls ws) → KeepsParts a held k client h c ws
+      each [] n p = tt
+      each (v ∷ vs) n p = (apart v.trans (turned (next_trans (state_of a)) v.trans ∙ ap (is_of (next_trans (state_of a))) (sym (part_named v n.0)) ∙ p.0), each vs n.1 p.1)
+
+  pub begin_stepped : (before now : ℕ) (x : Answer) (locks : Table) → IsAs a held k → client ≤ 16 → k.is_down ≡ false → session_at k.sessions client ≡ Some w → number ≡ w.last + 1 → 0 < k.epoch → many_of k ≡ None → map.get k.lives begun_trans ≡ None
       → ((u : TransId) (r : Resource) → holding locks.held u r ≡ holding k.locks.held u r) → own_of p ≡ no_opens → p.intents ≡ no_intents → p.counts ≡ no_counts
-      → IsOf (server_of k.coordinator) (epoch_of k.coordinator) (count_of k.coordinator + 1) c → Comes (Begins begun_trans client w.who seen.ts) k.coordinator c → AreNamed k.waits → AreFileCalls k.waits → AreOthers begun_trans k.waits → locks.waiting ≡ k.locks.waiting → ((u : TransId) → held_of locks.held u ≡ held_of k.locks.held u)
+      → IsOf (server_of k.coordinator) (epoch_of k.coordinator) (count_of k.coordinator + 1) c → Comes (Begins begun_trans client w.who seen.ts) k.coordinator c → AreNamed k.waits → AreOthers begun_trans k.waits → locks.waiting ≡ k.locks.waiting → ((u : TransId) → held_of locks.held u ≡ held_of k.locks.held u)
       → x ≡ told_answer (Some (reply.Begun begun_trans)) (act.Drawn begun_trans ∷ [])
       → Stepped a before now held (with_begun_kept locks) (event.Call client k.epoch number (call.Begin seen)) x
-  begin_stepped before now x locks h le up there turn raised few new same opens none idle one comes named files away waiting beside is =
+  begin_stepped before now x locks h le up there turn raised few new same opens none idle one comes named away waiting beside is =
       let next : next_trans (state_of a) ≡ begun_trans = trans_same h in
       let leads = begin_leads a client number w seen (subst (λ (n : ℕ). 0 < n) (sym h.epoch) raised) h.quiet (h.down ∙ up) (h.sessions client ∙ there) turn (many_told a held k h ∙ few) in
       let m : Account = with_begun a client number w seen in
@@ -406,7 +431,7 @@ module _ {V : Type 0} (a : Account) (held : Contents) (k : ServerState V) (clien
         clock = ap (λ (n : ℕ). max n seen.ts) h.clock;
         cells = h.cells;
         sized = h.sized;
-        notes = h.notes;
+        notes = λ on. call_notes false a m client number w (call.Begin seen) (reply.Begun (next_trans (state_of a))) (act.Drawn (next_trans (state_of a)) ∷ []) h.quiet leads refl held.notes (h.notes on);
         places = places_set k.sessions client counted h.places;
         sessions = subst (λ (t : TransId). (c : ℕ) → cond {A = Option Session} (c == client) (Some (record w { last = number; reply = reply.Begun t })) (a.sessions c) ≡ session_at (with_session k.sessions client counted) c) (sym next)
             (sessions_as a.sessions k.sessions client counted h.sessions h.places le);
@@ -425,23 +450,24 @@ module _ {V : Type 0} (a : Account) (held : Contents) (k : ServerState V) (clien
           fates = subst (λ (t : TransId). (u : TransId) → IsFateOf a.ids.epoch u (fate_in c u) (cond {A = Fate} (same_trans t u) (fate.begun client (a.fates u)) (a.fates u))) (sym next)
               (known_begun a.ids.epoch begun_trans client seen.ts w.who k.coordinator c a.fates h.coordinator.run.epoch_same comes h.coordinator.fates);
         };
-        plain = plain_moved a.fates (next_trans (state_of a)) (fate.begun client) (λ f p. begun_plain client f p) h.plain;
-        lone = h.lone;
+        decided = applied_fated a m refl refl (λ u. begun_decision (same_trans (next_trans (state_of a)) u) client (a.fates u)) h.decided;
+        servers = h.servers;
+        joins = h.joins;
         files = h.files;
         made = h.made;
         born = h.born;
         earlier = h.earlier;
-        waits = undecided_is a held k client h named files ∙ waits_left a held k client h named ∙ ap waiting_calls (sym (others_stay a held k client h (map.insert k.lives begun_trans begun_live) (lives_on new) named files));
-        queue = waiting ∙ h.queue ∙ sym (queue_left a held k client h named)
-            ∙ sym (queue_beside a.holder m.holder k.locks.held locks.held (next_trans (state_of a)) refl (λ u apart. ap (λ (b : Bool). cond {A = Option Life} b (Some (new_life None client w.who)) (a.holder.lives u)) apart) (λ u apart. beside u) (unburied a client)
+        waits = undecided_left a held k client h c named (parts_on h named comes);
+        queue = waiting ∙ h.queue ∙ sym (queue_undecided a held k client h named)
+            ∙ sym (queue_beside a.holder m.holder k.locks.held locks.held (next_trans (state_of a)) refl (λ u apart. ap (λ (b : Bool). cond {A = Option Life} b (Some (new_life None client w.who)) (a.holder.lives u)) apart) (λ u apart. beside u) (undecided a client)
+            (each-filter (λ (v : Waiting). is_of (next_trans (state_of a)) (file_trans v.call) ≡ false) (λ v. not (is_decided a client v)) (unburied a client)
             (each-filter (λ (v : Waiting). is_of (next_trans (state_of a)) (file_trans v.call) ≡ false) (λ v. not (is_buried a client v)) a.waits
-            (subst (AllByRecursion (λ (v : Waiting). is_of (next_trans (state_of a)) (file_trans v.call) ≡ false)) (sym h.waits) (others_told (next_trans (state_of a)) k.waits named away_next))))
-            ∙ ap (λ (ws : List Waiting). queue_of m.holder locks.held ws) (sym (undecided_is a held k client h named files));
+            (subst (AllByRecursion (λ (v : Waiting). is_of (next_trans (state_of a)) (file_trans v.call) ≡ false)) (sym h.waits) (others_told (next_trans (state_of a)) k.waits named away_next)))));
         asked = asked_beside a.holder m.holder k.locks.held locks.held (next_trans (state_of a)) refl (λ u apart. ap (λ (b : Bool). cond {A = Option Life} b (Some (new_life None client w.who)) (a.holder.lives u)) apart) (λ u apart. beside u)
-            a.locked (lock_set a.locked (next_trans (state_of a)) []) (λ u apart. ap (λ (b : Bool). cond {A = List Resource} b [] (a.locked u)) apart) (live_calls client (map.insert k.lives begun_trans begun_live) (without_dead client k.dead k.waits))
-            (each-filter (λ (v : WaitingCall). is_file_on (next_trans (state_of a)) v ≡ false) (stays client (map.insert k.lives begun_trans begun_live)) (without_dead client k.dead k.waits)
+            a.locked (lock_set a.locked (next_trans (state_of a)) []) (λ u apart. ap (λ (b : Bool). cond {A = List Resource} b [] (a.locked u)) apart) (live_calls client c k.joins (without_dead client k.dead k.waits))
+            (each-filter (λ (v : WaitingCall). is_file_on (next_trans (state_of a)) v ≡ false) (stays client c k.joins) (without_dead client k.dead k.waits)
             (each-filter (λ (v : WaitingCall). is_file_on (next_trans (state_of a)) v ≡ false) (outlives client k.dead) k.waits away_next))
-            (each-filter (IsWaitingAs a.holder a.locked) (stays client (map.insert k.lives begun_trans begun_live)) (without_dead client k.dead k.waits)
+            (each-filter (IsWaitingAs a.holder a.locked) (stays client c k.joins) (without_dead client k.dead k.waits)
             (each-filter (IsWaitingAs a.holder a.locked) (outlives client k.dead) k.waits h.asked));
         quiet = leads.quiet;
         down = sym up;

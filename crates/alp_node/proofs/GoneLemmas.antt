@@ -25,21 +25,26 @@ use Rattle.alp_queue.specs.Order.{without as without_of}
 use Rattle.alp_queue.specs.declared.waiter.Waiter.{Waiter}
 use Rattle.alp_trans.specs.declared.part.Part.{Part}
 use Rattle.alp_vault.specs.Contents.{Contents}
-use Rattle.alp_journal.specs.Account.{Account, AreApart, AreTwo, IsQuiet, with_granted, granted_calls, call_on, is_on_trans, holder_granted}
+use Rattle.alp_base.specs.declared.ids.JoinNo.{JoinNo}
+use Rattle.alp_journal.specs.Participant.{Phase}
+use Rattle.alp_worker.specs.Joins.{AreJoins}
+use Rattle.alp_worker.specs.declared.joins.Joins.{Joins}
+use Rattle.alp_journal.specs.Account.{Account, state_of, AreApart, AreTwo, IsQuiet, with_granted, granted_calls, call_on, is_on_trans, holder_granted}
 use Rattle.alp_journal.specs.Answered.{in_turn, IsWalk}
 use Rattle.alp_journal.specs.Counts.{lock_set, request_in, with_resources}
-use Rattle.alp_journal.specs.Coordinator.{Fate}
+use Rattle.alp_journal.specs.Coordinator.{Fate, decision_in}
 use Rattle.alp_journal.specs.Desk.{Session, Waiting, file_trans, is_of_part, without}
 use Rattle.alp_journal.specs.Holder.{Holder, Life, with_life, view_in, grants, held_for}
 use Rattle.alp_journal.specs.Ids.{same_trans}
 use Rattle.alp_journal.specs.Moves.{call_of}
+use Rattle.alp_journal.proofs.GivenLemmas.{IsOpenCall, open_calls}
 use Rattle.alp_journal.proofs.IdLemmas.{same_trans-itself, same_trans-true}
 use Rattle.alp_turns.specs.Laws.{GivesOnAlike, trans_in}
 use Rattle.alp_turns.specs.Queues.{AreHeldAlike, AreCallsApart, IsOnOther, request_for, request_at, queue_of}
 use Rattle.alp_turns.proofs.MoveLemmas.{GoesIdle, IsGone, StandsStill, queue_gone, queue_without}
 use Rattle.alp_turns.proofs.QueueLemmas.{gives_on}
 use Rattle.alp_turns.proofs.RequestLemmas.{tied_same}
-use Rattle.alp_node.specs.Decisions.{IsPlain}
+use Rattle.alp_node.specs.Durable.{AreNotesOf}
 use Rattle.alp_node.specs.Dead.{cause_in}
 use Rattle.alp_coord.specs.declared.coordinator.Coordinator.{Coordinator}
 use Rattle.alp_coord.specs.Coordinators.{count_of}
@@ -55,8 +60,9 @@ use Rattle.alp_node.specs.declared.server_state.ServerState.{ServerState}
 use Rattle.alp_node.specs.declared.dead.DeadPart.{DeadPart}
 use Rattle.alp_node.specs.declared.sessions.Sessions.{Sessions}
 use Rattle.alp_node.specs.declared.waits.WaitingCall.{WaitingCall}
-use Rattle.alp_node.proofs.BesideLemmas.{AreNamed, file_named, part_alike}
+use Rattle.alp_node.proofs.BesideLemmas.{AreNamed, counted_named, file_named, part_alike}
 use Rattle.alp_node.proofs.GiveOnLemmas.{IsAlikeApart, alike_apart, alike_with_held, AreKept, HasCall, all_granted}
+use Rattle.alp_node.proofs.KeptLemmas.{applied_fated}
 use Rattle.alp_node.proofs.MapLemmas.{get_gone}
 use Rattle.alp_node.proofs.TotalLemmas.{gone_room}
 use Rattle.alp_node.proofs.WaitLemmas.{counts_there, file_counts, file_at}
@@ -84,7 +90,7 @@ others_only : (t : TransId) (c : Call) (w : WaitingCall) (ws : List WaitingCall)
 others_only t c w [] at all = tt
 others_only t c w (v ∷ vs) at all = (
   λ e. let both : (is_some w.counts && is_file_on w.trans v) ≡ is_file_on t v = (λ i. file_counts t w at i && is_file_on (file_at t w at i) v) in
-      let wrong : true ≡ false = sym (both ∙ e) ∙ all.0.files in cc,
+      let wrong : true ≡ false = sym (both ∙ e) ∙ all.0 in cc,
   others_only t c w vs at all.1,
 )
 
@@ -223,9 +229,9 @@ module _ {V : Type 0} (a : Account) (held : Contents) (k : ServerState V) (t : T
   abbrev pub table_gone : Holders
   table_gone = map.remove k.locks.held t
 
-  -- what a call needs of a part that lives on stands
+  -- what a call needs of a part that lives on and did not vote stands
   abbrev pub NeedsStand : Type 0
-  NeedsStand = (u : TransId) (l : Life) (c : Call) → a.holder.lives u ≡ Some l → same_trans u t ≡ false → needs_of (view_in holder_gone l) l.own c ≡ needs_of (view_in a.holder l) l.own c
+  NeedsStand = (u : TransId) (l : Life) (c : Call) → a.holder.lives u ≡ Some l → l.vote ≡ None → same_trans u t ≡ false → needs_of (view_in holder_gone l) l.own c ≡ needs_of (view_in a.holder l) l.own c
 
   -- what is left behind the grants
   pub record HasLetGo (P : TransId → Part → List Edit → Type 0) (room : Cells) : Type 0 where
@@ -271,9 +277,13 @@ module _ {V : Type 0} (a : Account) (held : Contents) (k : ServerState V) (t : T
 
     -- ---- the queue
 
-    stays_still : (ws : List Waiting) → AllByRecursion (StandsStill a.holder holder_gone k.locks.held t) ws
-    stays_still [] = tt
-    stays_still (w ∷ ws) = ((λ u l for away. ap (request_of l.held) (stand u l w.call for.live away)), stays_still ws)
+    -- the parts of calls that wait did not vote
+    open_waits : AllByRecursion (IsOpenCall a) a.waits
+    open_waits = open_calls a h.quiet.settled
+
+    stays_still : (ws : List Waiting) → AllByRecursion (IsOpenCall a) ws → AllByRecursion (StandsStill a.holder holder_gone k.locks.held t) ws
+    stays_still [] opens = tt
+    stays_still (w ∷ ws) opens = ((λ u l for away. ap (request_of l.held) (stand u l w.call for.live ((opens.0 u l for.call for.live).1 l for.live) away)), stays_still ws opens.1)
 
     is_gone : IsGone a.holder holder_gone k.locks.held t
     is_gone = record {
@@ -282,7 +292,7 @@ module _ {V : Type 0} (a : Account) (held : Contents) (k : ServerState V) (t : T
     }
 
     queue_then : without_of k.locks.waiting t ≡ queue_of holder_gone table_gone a.waits
-    queue_then = ap (λ (qs : List Waiter). without_of qs t) h.queue ∙ sym (queue_gone a.holder holder_gone k.locks.held t a.waits is_gone (stays_still a.waits))
+    queue_then = ap (λ (qs : List Waiter). without_of qs t) h.queue ∙ sym (queue_gone a.holder holder_gone k.locks.held t a.waits is_gone (stays_still a.waits open_waits))
 
     walks : GivesOnAlike holder_gone a.waits (walked (record { held = table_gone; waiting = []; woken = [] }) (queue_of holder_gone table_gone a.waits))
     walks = gives_on holder_gone table_gone a.waits held_gone (remove_agrees k.locks.held t ready.sound.agreeing) (calls_apart a.waits h.quiet.settled.tells.apart)
@@ -299,15 +309,15 @@ module _ {V : Type 0} (a : Account) (held : Contents) (k : ServerState V) (t : T
         go true = tt
         go false = alike_apart a.holder.cells k.locks.held (a.locked u) u (map.get k.lives u) (a.holder.lives u) (h.lives u)
 
-    kept_asked : (ws : List WaitingCall) → AllByRecursion (IsWaitingAs a.holder a.locked) ws → AllByRecursion (IsWaitingAs state_gone.holder state_gone.locked) ws
-    kept_asked [] all = tt
-    kept_asked (w ∷ ws) all = ((λ n l counted is. go n l counted (same_trans w.trans t) refl is), kept_asked ws all.1)
+    kept_asked : (ws : List WaitingCall) → AreNamed ws → AllByRecursion (IsOpenCall a) (waiting_calls ws) → AllByRecursion (IsWaitingAs a.holder a.locked) ws → AllByRecursion (IsWaitingAs state_gone.holder state_gone.locked) ws
+    kept_asked [] named opens all = tt
+    kept_asked (w ∷ ws) named opens all = ((λ n l counted is. go n l counted (same_trans w.trans t) refl is), kept_asked ws named.1 opens.1 all.1)
       where
         go : (n : LockCounts) (l : Life) → w.counts ≡ Some n → (b : Bool) → same_trans w.trans t ≡ b → cond {A = Option Life} b None (a.holder.lives w.trans) ≡ Some l → IsAskedAs state_gone.holder state_gone.locked w n l
         go n l counted true e is = let wrong : None ≡ Some l = is in cc
         go n l counted false e is =
             let was : IsAskedAs a.holder a.locked w n l = all.0 n l counted is in
-            let same : needs_of (view_in holder_gone l) l.own w.call ≡ needs_of (view_in a.holder l) l.own w.call = stand w.trans l w.call is e in
+            let same : needs_of (view_in holder_gone l) l.own w.call ≡ needs_of (view_in a.holder l) l.own w.call = stand w.trans l w.call is ((opens.0 w.trans l (counted_named w n counted named.0) is).1 l is) e in
             record {
               asked = was.asked ∙ (λ i. length (with_resources (request_of l.held (sym same i)) (a.locked w.trans)))
                   ∙ ap (λ (x : Bool). length (with_resources (request_in holder_gone w.call (Some l)) (cond {A = List Resource} x [] (a.locked w.trans)))) (sym e);
@@ -327,7 +337,7 @@ module _ {V : Type 0} (a : Account) (held : Contents) (k : ServerState V) (t : T
       lives = kept_lives;
       waits = h.waits;
       named = named_each k.server k.epoch k.given (count_of k.coordinator) k.sizes k.lives k.waits ready.waits.calls;
-      asked = kept_asked k.waits h.asked;
+      asked = kept_asked k.waits (named_each k.server k.epoch k.given (count_of k.coordinator) k.sizes k.lives k.waits ready.waits.calls) (subst (AllByRecursion (IsOpenCall a)) h.waits open_waits) h.asked;
       fits = fits;
       parts = kept_parts;
     }
@@ -383,7 +393,7 @@ module _ {V : Type 0} (a : Account) (held : Contents) (k : ServerState V) (t : T
   module _ (m : ℕ) (on : Bool) (h : IsAs a held k) (ready : IsReady m on k) where
     -- what its locks left to others
     pub gone : Gone
-    gone = has_let_go a held k t a.holder.cells a.holder.clock a.holder.kept a.holder.applied a.holder.left none_beyond a.holder.cells m on h ready (λ u l c live away. refl) (λ u l life there live away. h.unborn u life live)
+    gone = has_let_go a held k t a.holder.cells a.holder.clock a.holder.kept a.holder.applied a.holder.left none_beyond a.holder.cells m on h ready (λ u l c live unvoted away. refl) (λ u l life there live away. h.unborn u life live)
         (gone_room k.sizes a.holder.cells k.lives t h.room)
 
     module _ (g : Gone) where
@@ -396,44 +406,45 @@ module _ {V : Type 0} (a : Account) (held : Contents) (k : ServerState V) (t : T
       pub let_go_is : let_go k t ≡ record k { lives = server_then.lives; waits = server_then.waits; locks = record (released k.locks t) { woken = [] } }
       let_go_is = ap (granted_all (gone_of k t)) g.woken ∙ granted_rest (trans_in g.given) (gone_of k t)
 
-      -- with these fates, sessions, ends that are to be told, and waiting calls
-      module _ (fates : TransId → Fate) (sessions : ℕ → Option Session) (dead : ℕ → TransId → Option Cause) (waits : List Waiting) (kept_sessions : Sessions) (kept_dead : List DeadPart) (kept_waits : List WaitingCall) (c : Coordinator) where
-        abbrev pub state_told : Account
-        state_told = record state_then { fates = fates; sessions = sessions; dead = dead; waits = waits; is_down = false; pending = [] }
+      -- with these fates, joins, sessions, ends that are to be told, and waiting calls
+      module _ (fates : TransId → Fate) (phases : JoinNo → Phase) (sessions : ℕ → Option Session) (dead : ℕ → TransId → Option Cause) (waits : List Waiting) (kept_sessions : Sessions) (kept_dead : List DeadPart) (kept_waits : List WaitingCall) (c : Coordinator) (js : Joins) where
+        abbrev pub state_left : Account
+        state_left = record state_then { fates = fates; phases = phases; sessions = sessions; dead = dead; waits = waits; is_down = false; pending = [] }
 
-        abbrev pub server_told : ServerState V
-        server_told = record k { lives = server_then.lives; locks = record (released k.locks t) { woken = [] }; sessions = kept_sessions; dead = kept_dead; waits = kept_waits; coordinator = c }
+        abbrev pub server_left : ServerState V
+        server_left = record k { lives = server_then.lives; locks = record (released k.locks t) { woken = [] }; sessions = kept_sessions; dead = kept_dead; waits = kept_waits; coordinator = c; joins = js }
 
-        pub gone_as : k.is_down ≡ false → IsCoordinatorBy a.holder.server a.ids.epoch a.ids.transactions fates c → ((u : TransId) → IsPlain (fates u))
+        pub left_as : k.is_down ≡ false → IsCoordinatorBy a.holder.server a.ids.epoch a.ids.transactions fates c → AreJoins a.holder.server a.ids.epoch a.ids.joins phases a.joined js → ((u : TransId) → decision_in (fates u) ≡ decision_in (a.fates u)) → (AreNotesOf (state_of a) a.ids.epoch held.notes → AreNotesOf (state_of state_left) a.ids.epoch held.notes)
             → length kept_sessions.places ≡ 17 → ((client : ℕ) → sessions client ≡ session_at kept_sessions client) → ((client : ℕ) (u : TransId) → dead client u ≡ cause_in kept_dead client u)
             → waits ≡ waiting_calls kept_waits → AllByRecursion (IsWaitingAs state_then.holder state_then.locked) kept_waits → (released k.locks t).waiting ≡ queue_of state_then.holder (released k.locks t).held waits
-            → IsQuiet state_told → IsAs state_told held server_told
-        gone_as up coordinated plain places same_sessions same_dead same_waits asked queue quiet = subst (λ (x : Holder). IsAs (record state_told { holder = x }) held server_told) (sym rest) (record {
+            → IsQuiet state_left → IsAs state_left held server_left
+        left_as up coordinated joined none_decided noted places same_sessions same_dead same_waits asked queue quiet = subst (λ (x : Holder). IsAs (record state_left { holder = x }) held server_left) (sym rest) (record {
           server = h.server;
+          servers = h.servers;
           sizes = h.sizes;
           epoch = h.epoch;
           clock = h.clock;
           cells = h.cells;
           sized = h.sized;
-          notes = h.notes;
+          notes = λ on. subst (λ (x : Holder). AreNotesOf (state_of (record state_left { holder = x })) a.ids.epoch held.notes) rest (noted (h.notes on));
           places = places;
           sessions = same_sessions;
           dead = same_dead;
           waits = same_waits;
           queue = subst (λ (x : Holder). (released k.locks t).waiting ≡ queue_of x (released k.locks t).held waits) rest queue;
-          asked = subst (λ (x : Holder). AllByRecursion (IsWaitingAs x state_told.locked) kept_waits) rest asked;
-          lives = lives_then a held k t a.holder.cells a.holder.clock a.holder.kept a.holder.applied a.holder.left none_beyond a.holder.cells m on h ready (λ u l c live away. refl) (λ u l life there live away. h.unborn u life live)
+          asked = subst (λ (x : Holder). AllByRecursion (IsWaitingAs x state_left.locked) kept_waits) rest asked;
+          lives = lives_then a held k t a.holder.cells a.holder.clock a.holder.kept a.holder.applied a.holder.left none_beyond a.holder.cells m on h ready (λ u l c live unvoted away. refl) (λ u l life there live away. h.unborn u life live)
               (gone_room k.sizes a.holder.cells k.lives t h.room) g;
           room = g.all.fits;
           unborn = λ u l is. unborn_then u l (map.get server_then.lives u) refl is (g.all.lives u);
           coordinator = coordinated;
-          plain = plain;
-          lone = h.lone;
+          decided = applied_fated a (record state_left { holder = record first { lives = (holder_granted first g.given).lives } }) refl refl none_decided h.decided;
+          joins = joined;
           files = h.files;
           made = h.made;
           born = h.born;
           earlier = h.earlier;
-          quiet = subst (λ (x : Holder). IsQuiet (record state_told { holder = x })) rest quiet;
+          quiet = subst (λ (x : Holder). IsQuiet (record state_left { holder = x })) rest quiet;
           down = sym up;
         })
           where
@@ -447,6 +458,21 @@ module _ {V : Type 0} (a : Account) (held : Contents) (k : ServerState V) (t : T
 
             rest : (holder_granted first g.given) ≡ record first { lives = (holder_granted first g.given).lives }
             rest = holder_rest g.given first
+
+      -- with the joins as they were
+      module _ (fates : TransId → Fate) (sessions : ℕ → Option Session) (dead : ℕ → TransId → Option Cause) (waits : List Waiting) (kept_sessions : Sessions) (kept_dead : List DeadPart) (kept_waits : List WaitingCall) (c : Coordinator) where
+        abbrev pub state_told : Account
+        state_told = record state_then { fates = fates; sessions = sessions; dead = dead; waits = waits; is_down = false; pending = [] }
+
+        abbrev pub server_told : ServerState V
+        server_told = record k { lives = server_then.lives; locks = record (released k.locks t) { woken = [] }; sessions = kept_sessions; dead = kept_dead; waits = kept_waits; coordinator = c }
+
+        pub gone_as : k.is_down ≡ false → IsCoordinatorBy a.holder.server a.ids.epoch a.ids.transactions fates c → ((u : TransId) → decision_in (fates u) ≡ decision_in (a.fates u)) → (AreNotesOf (state_of a) a.ids.epoch held.notes → AreNotesOf (state_of state_told) a.ids.epoch held.notes)
+            → length kept_sessions.places ≡ 17 → ((client : ℕ) → sessions client ≡ session_at kept_sessions client) → ((client : ℕ) (u : TransId) → dead client u ≡ cause_in kept_dead client u)
+            → waits ≡ waiting_calls kept_waits → AllByRecursion (IsWaitingAs state_then.holder state_then.locked) kept_waits → (released k.locks t).waiting ≡ queue_of state_then.holder (released k.locks t).held waits
+            → IsQuiet state_told → IsAs state_told held server_told
+        gone_as up coordinated none_decided noted places same_sessions same_dead same_waits asked queue quiet =
+            left_as fates a.phases sessions dead waits kept_sessions kept_dead kept_waits c k.joins up coordinated h.joins none_decided noted places same_sessions same_dead same_waits asked queue quiet
 
       -- where the waiting call of the part goes too
       module _ (client : ℕ) where

@@ -40,6 +40,7 @@ use Rattle.alp_node.specs.declared.sessions.CallOrder.{CallOrder}
 use Rattle.alp_node.specs.declared.sessions.CallOrder.TheVariants as order
 use Rattle.alp_node.proofs.GivenLemmas.{calm_given, wanting_as}
 use Rattle.alp_node.proofs.KeptLemmas.{stands_timely}
+use Rattle.alp_node.proofs.NotedLemmas.{notes_on}
 use Rattle.alp_node.proofs.OrderLemmas.{IsIdle, idle_not_new}
 use Rattle.alp_node.proofs.ReadyLemmas.{stepped_ready}
 use Rattle.alp_node.proofs.SeatLemmas.{left_seated, left_step_as}
@@ -200,12 +201,13 @@ idle_stepped a before now held k client epoch number c x h up idle so =
       rose = λ e. cc;
       kept = record {
         server = h.server;
+        servers = h.servers;
         sizes = h.sizes;
         epoch = h.epoch;
         clock = h.clock;
         cells = h.cells;
         sized = h.sized;
-        notes = h.notes;
+        notes = λ on. notes_on (state_of a) (state_of (unmoved a client epoch number c r)) a.ids.epoch held.notes refl refl refl (λ t. refl) (λ j x q. q) (h.notes on);
         places = h.places;
         sessions = h.sessions;
         dead = h.dead;
@@ -213,8 +215,8 @@ idle_stepped a before now held k client epoch number c x h up idle so =
         room = h.room;
         unborn = h.unborn;
         coordinator = h.coordinator;
-        plain = h.plain;
-        lone = h.lone;
+        decided = h.decided;
+        joins = h.joins;
         files = h.files;
         made = h.made;
         born = h.born;
@@ -250,7 +252,7 @@ idle_answered order.Stale here w idle kept = refl
 idle_answered order.Astray here w idle kept = refl
 
 -- it shows no fault of this step
-idle_calm : (o : CallOrder) (server here : ℕ) (w : Option Session) → IsIdle o → is_fault_now server (Some o) (idle_reply o here w) ≡ false
+idle_calm : (o : CallOrder) (server here : ℕ) (w : Option Session) → IsIdle o → is_fault_now (Some o) (idle_reply o here w) ≡ false
 idle_calm order.First server here w idle = absurd idle
 idle_calm order.Next server here w idle = absurd idle
 idle_calm order.Repeat server here w idle = refl
@@ -308,9 +310,9 @@ module _ {V : Type 0} (G : Ghosts V) (k : ServerState V) (client epoch number : 
         → IsStepAs G (Some (order_of k.epoch epoch number c here_now)) k k this_call (Ok x)
     idle_step x idle so =
         let o : CallOrder = order_of k.epoch epoch number c here_now in
-        left_step_as G k k refl refl refl (left_same G k.vault) (Some o) this_call x up
+        left_step_as G k k refl refl refl refl (left_same G k.vault) (Some o) this_call x up (λ ns h. h)
         (λ told a h. idle_stepped a (G.faults k.vault) (G.faults k.vault) (G.held k.vault) k client epoch number c x h up idle so)
-        (calm_given k.server (G.faults k.vault) (G.faults k.vault) (G.allowance k.vault) k.is_down (Some o) (idle_reply o k.epoch here_now) [] x so
+        (calm_given (G.faults k.vault) (G.faults k.vault) (G.allowance k.vault) k.is_down (Some o) (idle_reply o k.epoch here_now) [] x so
         (idle_answered o k.epoch here_now idle (repeat_kept k.epoch epoch number c here_now)) (idle_calm o k.server k.epoch here_now idle)
         (idle_open o k.epoch here_now idle (λ v is. (ready.replies client v is).inside)) refl up up tt)
         (λ m h. stepped_ready m (G.serves k.vault) k h)
@@ -331,4 +333,4 @@ module _ {V : Type 0} (G : Ghosts V) (k : ServerState V) (client epoch number : 
         so None there told = cc
     repeat_step (Err f) again told =
         wanting_as G k k (Some (order_of k.epoch epoch number c here_now)) this_call (Err f) refl
-        (record { kept = λ a h. h; ready = λ m h. h; up = refl; sessions = refl; clock = refl; vault = record { held = refl; faults = refl; allowance = refl } }) (λ h. h) (left_seated G k k refl refl refl (left_same G k.vault)) (left_same G k.vault)
+        (record { kept = λ a h. h; ready = λ m h. h; up = refl; sessions = refl; clock = refl; vault = record { held = refl; faults = refl; allowance = refl } }) (λ h. h) (left_seated G k k refl refl refl refl (left_same G k.vault)) (left_same G k.vault)

@@ -1,5 +1,6 @@
 -- a server keeps what its journal says: what holds of each part of it
-use Rattle.std.specs.Prelude.{cond, Bool, true, false, ◌==◌, max, Option, None, Some}
+use Rattle.std.specs.Prelude.{cond, Bool, true, false, ◌==◌, max, Option, None, Some, is_some}
+use Rattle.std.specs.FinMap.Entries as entries
 use Rattle.std.proofs.Common.{◌≡◌, ℕ, ◌+◌, ◌≤◌, List, [], ◌∷◌, length, refl, sym, ◌∙◌, ap, subst, arith}
 use Rattle.alp_base.specs.declared.ids.TransId.{TransId}
 use Rattle.alp_base.specs.declared.ids.Stamp.{Stamp}
@@ -7,21 +8,26 @@ use Rattle.alp_base.specs.declared.key.Resource.{Resource}
 use Rattle.alp_files.specs.Cells.{Cells}
 use Rattle.alp_files.specs.History.{Decided}
 use Rattle.alp_files.specs.declared.call.Call.{Call}
+use Rattle.alp_files.specs.declared.refusal.Cause.{Cause}
 use Rattle.alp_files.specs.declared.reply.Reply.{Reply}
 use Rattle.alp_locks.specs.Tables.{Holders, holding}
 use Rattle.alp_vault.specs.Contents.{Contents}
 use Rattle.alp_journal.specs.declared.act.Act.{Act}
 use Rattle.alp_journal.specs.declared.event.Event.TheVariants as event
 use Rattle.alp_base.specs.Causes.{Rose}
-use Rattle.alp_journal.specs.Ids.{same_trans}
+use Rattle.alp_journal.specs.Coordinator.{Fate, Undrawn, Running, Finishing, Committed, Forgotten, Ended, decision_in}
+use Rattle.alp_journal.specs.Coordinator as fate
+use Rattle.alp_journal.specs.Ids.{same_trans, stamp_cmp}
 use Rattle.alp_journal.specs.Holder.{Life}
+use Rattle.alp_journal.specs.Answered.{is_read_fault}
 use Rattle.alp_journal.specs.Account.{Account, Leads, AreEarlier}
 use Rattle.alp_journal.proofs.IdLemmas.{same_trans-true}
 use Rattle.alp_journal.proofs.CallLemmas.{call_entry}
 use Rattle.alp_coord.specs.declared.coordinator.Coordinator.{Coordinator}
 use Rattle.alp_coord.specs.Coordinators.{IsAlong, Keeps}
 use Rattle.alp_node.specs.Sessions.{session_at, with_session}
-use Rattle.alp_node.specs.ServerState.{IsLife, IsAlike, IsAs}
+use Rattle.alp_base.specs.declared.ids.JoinNo.{JoinNo}
+use Rattle.alp_node.specs.ServerState.{IsLife, IsAlike, IsAs, AreApplied}
 use Rattle.alp_node.specs.Steps.{Stepped, IsOf, IsTimely, IsTurn, told_answer, entry_of}
 use Rattle.alp_node.specs.declared.answer.Answer.{Answer}
 use Rattle.alp_node.specs.declared.server_state.ServerState.{ServerState}
@@ -100,6 +106,40 @@ of_client client (Some l) h = (l, refl, h)
 pub stands_timely : (before seen now : ℕ) → before ≡ now → now ≤ max before seen + 1
 stands_timely before seen now same = omega arith
 
+-- ---- what was decided
+
+-- it is applied still where no decision comes
+pub applied_fated : (a m : Account) → m.ids.epoch ≡ a.ids.epoch → m.holder.applied ≡ a.holder.applied → ((t : TransId) → decision_in (m.fates t) ≡ decision_in (a.fates t)) → AreApplied a → AreApplied m
+applied_fated a m epoch applied same h t stamp js now is = ap (λ (xs : List (Stamp × Decided)). is_some (entries.find stamp_cmp stamp xs)) applied ∙ h t stamp js (now ∙ epoch) (sym (same t) ∙ is)
+
+-- what begins or ends is not decided
+pub begun_decision : (b : Bool) (client : ℕ) (f : Fate) → decision_in (cond {A = Fate} b (fate.begun client f) f) ≡ decision_in f
+begun_decision false client f = refl
+begun_decision true client Undrawn = refl
+begun_decision true client (Running c js) = refl
+begun_decision true client (Finishing c js vs) = refl
+begun_decision true client (Committed s js ds) = refl
+begun_decision true client (Forgotten s js) = refl
+begun_decision true client (Ended c) = refl
+
+pub ended_decision : (b : Bool) (why : Cause) (f : Fate) → decision_in (cond {A = Fate} b (fate.ended why f) f) ≡ decision_in f
+ended_decision false why f = refl
+ended_decision true why Undrawn = refl
+ended_decision true why (Running c js) = refl
+ended_decision true why (Finishing c js vs) = refl
+ended_decision true why (Committed s js ds) = refl
+ended_decision true why (Forgotten s js) = refl
+ended_decision true why (Ended c) = refl
+
+pub finishing_decision : (b : Bool) (f : Fate) → decision_in (cond {A = Fate} b (fate.finishing f) f) ≡ decision_in f
+finishing_decision false f = refl
+finishing_decision true Undrawn = refl
+finishing_decision true (Running c js) = refl
+finishing_decision true (Finishing c js vs) = refl
+finishing_decision true (Committed s js ds) = refl
+finishing_decision true (Forgotten s js) = refl
+finishing_decision true (Ended c) = refl
+
 -- ---- what holds of sessions
 
 -- the session whose next call it is, and the same with that call counted
@@ -133,8 +173,9 @@ as_with a held then k v same h = subst (λ (x : Contents). IsAs a x (record k { 
   room = h.room;
   unborn = h.unborn;
   coordinator = h.coordinator;
-  plain = h.plain;
-  lone = h.lone;
+  decided = h.decided;
+  servers = h.servers;
+  joins = h.joins;
   files = h.files;
   made = h.made;
   born = h.born;
@@ -163,8 +204,9 @@ as_back a held k c along keeps h = record {
   room = h.room;
   unborn = h.unborn;
   coordinator = kept_by a.holder.server a.ids.epoch a.ids.transactions a.fates k.coordinator c along keeps h.coordinator;
-  plain = h.plain;
-  lone = h.lone;
+  decided = h.decided;
+  servers = h.servers;
+  joins = h.joins;
   files = h.files;
   made = h.made;
   born = h.born;
@@ -179,13 +221,13 @@ as_back a held k c along keeps h = record {
 -- a new call's entry and its answer
 module _ {V : Type 0} (a : Account) (before now : ℕ) (held then : Contents) (k new : ServerState V) (client number : ℕ) (w : Session) (c : Call) where
   pub stepped_so : (failed : Bool) (r : Reply) (acts : List Act) (m : Account) (x : Answer) → x ≡ told_answer (Some r) acts → IsAs a held k → Leads failed a (call_entry a client number w c r acts) m
-      → IsAs m then new → (failed ≡ true → Rose before now) → IsTimely a.holder.clock (event.Call client k.epoch number c) new.clock → Stepped a before now then new (event.Call client k.epoch number c) x
+      → IsAs m then new → (failed ≡ true → Rose before now × (is_read_fault (Some r) ≡ true)) → IsTimely a.holder.clock (event.Call client k.epoch number c) new.clock → Stepped a before now then new (event.Call client k.epoch number c) x
   stepped_so failed r acts m x is h leads kept rose timely = record {
     failed = failed;
     next = m;
     leads = subst (λ (y : Answer). Leads failed a (entry_of (event.Call client k.epoch number c) y) m) (sym is)
         (subst (λ (n : ℕ). Leads failed a (record { event = event.Call client n number c; reply = Some r; acts = acts }) m) h.epoch leads);
-    rose = rose;
+    rose = λ e. (let q = rose e in (q.0, ap (λ (y : Answer). is_read_fault y.kept) is ∙ q.1));
     kept = kept;
     clock = timely;
   }

@@ -44,7 +44,7 @@ use Rattle.alp_node.specs.Rooms.{IsWithin}
 use Rattle.alp_node.specs.Shapes.{shape_of, fresh_on, counts_then, too_locked, is_wait, may_wait}
 use Rattle.alp_node.specs.ServerState.{IsAs, IsCaller, IsLife}
 use Rattle.alp_node.specs.Standings.{standing_of}
-use Rattle.alp_node.specs.Steps.{Stepped, IsTurn, IsOf, counted_in, refused_answer}
+use Rattle.alp_node.specs.Steps.{Stepped, IsTurn, counted_in, refused_answer}
 use Rattle.alp_node.specs.declared.answer.Answer.{Answer as Handed}
 use Rattle.alp_node.specs.declared.lives.Live.{Live}
 use Rattle.alp_node.specs.declared.lock_counts.LockCounts.{LockCounts}
@@ -56,11 +56,10 @@ use Rattle.alp_node.proofs.ConflictLemmas.{least_holder, none_risen, rises_as}
 use Rattle.alp_node.proofs.CountedLemmas.{IsCountRefusal}
 use Rattle.alp_node.proofs.KeptLemmas.{IsLive, live_there}
 use Rattle.alp_node.proofs.LockCountLemmas.{count_all, held_same}
-use Rattle.alp_node.proofs.OneServer.{lone_caller}
+use Rattle.alp_node.proofs.StandingLemmas.{unvoted_told}
 use Rattle.alp_node.proofs.RoomLemmas.{none_locked}
 use Rattle.alp_node.proofs.ServedLemmas.{first_stepped, refused_stepped, work_why, work_grants}
 use Rattle.alp_node.proofs.ShapeLemmas.{IsShut, shape_cases, count_none_done, too_locked_is}
-use Rattle.alp_node.proofs.StandingLemmas.{own_standing}
 
 -- no act of it stops the server
 pub acts_up : (t : TransId) (ns : List Need) → list_any is_stop (acts_of t ns) ≡ false
@@ -178,15 +177,15 @@ module _ {V : Type 0} (a : Account) (before now : ℕ) (held : Contents) (k : Se
   then_counts = counts_then l.locks (holding k.locks.held t) ns c
 
   -- it would leave too many locks
-  pub locks_stepped : (f : Refusal) (x : Handed) → IsAs a held k → 0 < k.epoch → IsTurn k.sessions turn → k.is_down ≡ false → map.get k.lives t ≡ Some l → l.client ≡ turn.client → waiting_of (state_of a).desk turn.client t ≡ None → IsWithin k.sizes l → IsServedCall c
+  pub locks_stepped : (f : Refusal) (x : Handed) → IsAs a held k → 0 < k.epoch → IsTurn k.sessions turn → k.is_down ≡ false → map.get k.lives t ≡ Some l → standing_of k turn.client t ≡ standing.Work → waiting_of (state_of a).desk turn.client t ≡ None → IsWithin k.sizes l → IsServedCall c
       → ns ≡ asks_of (holding k.locks.held t) (seen held.cells l.part) (own_of l.part) c → shape_of k.server k.epoch k.given (length l.part.opens.items) c ≡ None → too_locked k.sizes.area l.part.counts.cells then_counts.made ≡ Some f → file_trans c ≡ Some t
       → x ≡ refused_answer f []
       → Stepped a before now held (record k { sessions = counted_in k.sessions turn (reply.Refused f) }) (event.Call turn.client k.epoch turn.number c) x
-  locks_stepped f x h raised is up there own idle within served told shape many of so =
+  locks_stepped f x h raised is up there works idle within served told shape many of so =
       let y : IsLive a.holder.cells k.locks.held (a.locked t) t l (a.holder.lives t) = live_there a.holder.cells k.locks.held (a.locked t) t (map.get k.lives t) (a.holder.lives t) l there (h.lives t) in
       let counted : IsCountRefusal f = too_locked_is k.sizes.area l.part.counts.cells then_counts.made f many in
-      let caller : IsCaller l y.life = lone_caller a held k h a.holder.cells k.locks.held (a.locked t) t l y.life y.is y.alike in
-      first_stepped a before now held k turn t c f y.life x h is up of (own_standing turn.client (map.get k.lives t) (cause_in k.dead turn.client t) (subst (IsOf turn.client) (sym there) own)) idle y.is
+      let caller : IsCaller l y.life = y.alike.calls (unvoted_told a held k turn.client t h works y.life y.is).vote in
+      first_stepped a before now held k turn t c f y.life x h is up of works idle y.is
       (go y.life y.alike caller (shape_cases a held k h raised t l y.life caller c served shape)) counted.now (count_none_done a t c f counted) so
     where
       go : (life : Life) (mine : IsLife a.holder.cells k.locks.held (a.locked t) t l life) (caller : IsCaller l life) → (shape_refusal (state_of a) life c ≡ None) ⊎ IsShut a held k h raised t l life caller c
@@ -195,23 +194,22 @@ module _ {V : Type 0} (a : Account) (before now : ℕ) (held : Contents) (k : Se
       go life mine caller (inr shut) = (let wrong : None ≡ Some f = sym (shut_few a held k t l c ns life h up mine caller served told raised shut within) ∙ many in cc)
 
   -- another is in its way
-  pub conflict_stepped : (holder : TransId) (x : Handed) → IsAs a held k → 0 < k.epoch → IsTurn k.sessions turn → k.is_down ≡ false → map.get k.lives t ≡ Some l → l.client ≡ turn.client → waiting_of (state_of a).desk turn.client t ≡ None → may_wait c ≡ false → IsServedCall c
+  pub conflict_stepped : (holder : TransId) (x : Handed) → IsAs a held k → 0 < k.epoch → IsTurn k.sessions turn → k.is_down ≡ false → map.get k.lives t ≡ Some l → standing_of k turn.client t ≡ standing.Work → waiting_of (state_of a).desk turn.client t ≡ None → may_wait c ≡ false → IsServedCall c
       → ns ≡ asks_of (holding k.locks.held t) (seen held.cells l.part) (own_of l.part) c → shape_of k.server k.epoch k.given (length l.part.opens.items) c ≡ None → too_locked k.sizes.area l.part.counts.cells then_counts.made ≡ None → file_trans c ≡ Some t → IsSound k.locks
       → blocker k.locks.held t (plan_of k.locks t ns).rises ≡ Some holder
       → x ≡ refused_answer (refusal.LockConflict holder) []
       → Stepped a before now held (record k { sessions = counted_in k.sessions turn (reply.Refused (refusal.LockConflict holder)) }) (event.Call turn.client k.epoch turn.number c) x
-  conflict_stepped holder x h raised is up there own idle never served told shape few of sound named so =
+  conflict_stepped holder x h raised is up there works idle never served told shape few of sound named so =
       let y : IsLive a.holder.cells k.locks.held (a.locked t) t l (a.holder.lives t) = live_there a.holder.cells k.locks.held (a.locked t) t (map.get k.lives t) (a.holder.lives t) l there (h.lives t) in
       let r : Reply = reply.Refused (refusal.LockConflict holder) in
-      let caller : IsCaller l y.life = lone_caller a held k h a.holder.cells k.locks.held (a.locked t) t l y.life y.is y.alike in
-      let mine : standing_of turn.client (map.get k.lives t) (cause_in k.dead turn.client t) ≡ standing.Work = own_standing turn.client (map.get k.lives t) (cause_in k.dead turn.client t) (subst (IsOf turn.client) (sym there) own) in
+      let caller : IsCaller l y.life = y.alike.calls (unvoted_told a held k turn.client t h works y.life y.is).vote in
       let none : option_or (shape_refusal (state_of a) y.life c) (lock_refusal (state_of a) t y.life c) ≡ None =
       not_refused a held k t l c ns y.life h up y.alike caller served told (open_there y.life y.alike caller (shape_cases a held k h raised t l y.life caller c served shape)) few in
       refused_stepped a before now held k turn t c false (refusal.LockConflict holder) x h is up (λ e. cc) of refl refl
-      (work_why a before now held k turn t c false r y.life h mine idle y.is
+      (work_why a before now held k turn t c false r y.life h works idle y.is
       (inr (subst (λ (z : Option Refusal). First z r (IsLocked (state_of a) t y.life c r)) (sym none)
       (IsLocked.conflict holder (fails (lock_choice a held k t l c ns y.life h up y.alike caller served told)) (least_holder a held k t l y.life c ns h y.alike (lock_request a held k t l c ns y.life h up y.alike caller served told) sound.agreeing holder named)))))
-      (work_grants a before now held k turn t c false r y.life [] h mine idle y.is (sym (one_or_none (is_some (option_or (shape_refusal (state_of a) y.life c) (lock_refusal (state_of a) t y.life c))) [] refl))) so
+      (work_grants a before now held k turn t c false r y.life [] h works idle y.is (sym (one_or_none (is_some (option_or (shape_refusal (state_of a) y.life c) (lock_refusal (state_of a) t y.life c))) [] refl))) so
     where
       no_need : ns ≡ [] → ⊥
       no_need none = none_asked_free k.locks.held t holder (subst (λ (ms : List Need). blocker k.locks.held t (plan_of k.locks t ms).rises ≡ Some holder) none named)

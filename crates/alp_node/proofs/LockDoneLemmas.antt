@@ -60,13 +60,12 @@ use Rattle.alp_node.specs.Shapes.{shape_of, counts_then, too_locked}
 use Rattle.alp_node.specs.Totals.{totals_of}
 use Rattle.alp_node.specs.declared.lock_counts.LockCounts.{LockCounts}
 use Rattle.alp_node.specs.Dead.{cause_in}
+use Rattle.alp_node.specs.Durable.{AreNotesOf}
 use Rattle.alp_node.specs.ServerState.{IsAs, IsReady, IsAlike, IsCaller, IsLife}
-use Rattle.alp_node.specs.Standings.{standing_of}
-use Rattle.alp_node.specs.Steps.{Stepped, IsTurn, IsOf, counted_in, seen_in, told_answer}
+use Rattle.alp_node.specs.Steps.{Stepped, IsTurn, counted_in, seen_in, told_answer}
 use Rattle.alp_node.specs.declared.answer.Answer.{Answer as Handed}
 use Rattle.alp_node.specs.declared.lives.Live.{Live}
 use Rattle.alp_node.specs.declared.server_state.ServerState.{ServerState}
-use Rattle.alp_node.specs.declared.served.Standing.TheVariants as standing
 use Rattle.alp_node.specs.declared.sessions.Turn.{Turn}
 use Rattle.alp_node.proofs.UnderLemmas.{under_more, under_call, edits_sized}
 use Rattle.alp_node.proofs.CountedLemmas.{IsCountRefusal, refused_is, same_counts, same_passes}
@@ -84,9 +83,9 @@ use Rattle.alp_node.proofs.BesideLemmas.{AreNamed, HasNoCall, idle_told}
 use Rattle.alp_node.proofs.WaitLemmas.{named_all, asks_none, idle_in}
 use Rattle.alp_node.proofs.LockCallLemmas.{locked_then, lock_request, lock_asks, lock_known, asked_locks, made_locks, not_refused, shut_none, shut_first}
 use Rattle.alp_node.proofs.MadeLemmas.{makes_only}
-use Rattle.alp_node.proofs.OneServer.{lone_caller}
+use Rattle.alp_node.proofs.NoteCalls.{call_notes}
+use Rattle.alp_node.proofs.StandingLemmas.{IsWorking, unvoted_told}
 use Rattle.alp_node.proofs.ServedLemmas.{work_why, work_grants}
-use Rattle.alp_node.proofs.StandingLemmas.{own_standing}
 
 same_agree : (a b x y : Holding) → ((q : Resource) → a q ≡ x q) → ((q : Resource) → b q ≡ y q) → DoAgree x y → DoAgree a b
 same_agree a b x y first second agree = subst (λ (z : Holding). DoAgree z b) (λ i q. sym (first q) i) (subst (DoAgree x) (λ i q. sym (second q) i) agree)
@@ -160,13 +159,13 @@ module _ {V : Type 0} (a : Account) (before now : ℕ) (held : Contents) (k : Se
   abbrev pub lock_left : Reply → ServerState V
   lock_left g = record k { sessions = counted_in k.sessions turn g; given = count_after k.given g; lives = map.insert k.lives t (record l { part = p; locks = locks_given l.locks locks_now (Ok (given_of g [])) }); locks = table_then g; vault = v }
 
-  module _ (m : ℕ) (on : Bool) (ready : IsReady m on k) (life : Life) (h : IsAs a held k) (up : k.is_down ≡ false) (is : IsTurn k.sessions turn) (there : map.get k.lives t ≡ Some l) (own : l.client ≡ turn.client) (live : a.holder.lives t ≡ Some life)
+  module _ (m : ℕ) (on : Bool) (ready : IsReady m on k) (life : Life) (h : IsAs a held k) (up : k.is_down ≡ false) (is : IsTurn k.sessions turn) (there : map.get k.lives t ≡ Some l) (own : IsWorking k turn.client t l) (live : a.holder.lives t ≡ Some life)
       (mine : IsLife a.holder.cells k.locks.held (a.locked t) t l life) (served : IsServedCall c) (files : AreGiven k.server k.epoch k.given ns) (from : ns ≡ asks_of (holding k.locks.held t) (seen held.cells l.part) (own_of l.part) c)
       (given : Answered true held.cells l.part p (name_in l.who) (next_file k) c room r) (of : IsRoomOf true held.cells k locks_now.made room)
       (shape : shape_of k.server k.epoch k.given (length l.part.opens.items) c ≡ None) (few : too_locked k.sizes.area l.part.counts.cells locks_now.made ≡ None) (free : blocker k.locks.held t asked.rises ≡ None)
       (away : HasNoCall turn.client t k.waits) where
     abbrev caller : IsCaller l life
-    caller = lone_caller a held k h a.holder.cells k.locks.held (a.locked t) t l life live mine
+    caller = mine.calls (unvoted_told a held k turn.client t h own.1 life live).vote
 
     abbrev g : Reply
     g = given.given
@@ -276,11 +275,8 @@ module _ {V : Type 0} (a : Account) (before now : ℕ) (held : Contents) (k : Se
         go (inl open_there) = subst (λ (x : Option Refusal). First x r (IsLocked (state_of a) t life c r)) (sym (passed open_there)) (IsLocked.performed r lock_free lock_threads)
         go (inr shut) = subst (λ (x : Option Refusal). First x r (IsLocked (state_of a) t life c r)) (sym (shut_first a held k t l c ns life h up mine caller served from ready.raised shut)) (shut_reply shut)
 
-    my_standing : standing_of turn.client (map.get k.lives t) (cause_in k.dead turn.client t) ≡ standing.Work
-    my_standing = own_standing turn.client (map.get k.lives t) (cause_in k.dead turn.client t) (subst (IsOf turn.client) (sym there) own)
-
     pub lock_why : IsFileOf false (state_of a) turn.client c r (Some t)
-    lock_why = work_why a before now held k turn t c false r life h my_standing idle_so live (inr lock_answer)
+    lock_why = work_why a before now held k turn t c false r life h own.1 idle_so live (inr lock_answer)
 
     grants_of : (o : Option Refusal) → refused ≡ o → grants_by true t r ≡ t ∷ []
     grants_of None e = subst (λ (y : Reply). grants_by true t y ≡ t ∷ []) (sym (given.said ∙ ap (unless_counts g) e)) (grants_asked t g given.own)
@@ -291,7 +287,7 @@ module _ {V : Type 0} (a : Account) (before now : ℕ) (held : Contents) (k : Se
 
     -- it is granted where something rises
     lock_grants : GrantsFor false (state_of a) turn.client c r (cond {A = List TransId} (length asked.rises == 0) [] (t ∷ [])) (Some t)
-    lock_grants = work_grants a before now held k turn t c false r life (cond {A = List TransId} (length asked.rises == 0) [] (t ∷ [])) h my_standing idle_so live (go cases)
+    lock_grants = work_grants a before now held k turn t c false r life (cond {A = List TransId} (length asked.rises == 0) [] (t ∷ [])) h own.1 idle_so live (go cases)
       where
         by_first : Option Refusal → List TransId
         by_first x = cond {A = List TransId} (is_some x) [] (grants_by (asks a.holder life c) t r)
@@ -345,7 +341,7 @@ module _ {V : Type 0} (a : Account) (before now : ℕ) (held : Contents) (k : Se
         there = turn_session a held k turn h is;
         turn = is.number;
         live = live;
-        own = mine.client ∙ own;
+        own = mine.client ∙ own.0;
         named = of_trans;
         formed = formed;
         kind = given.kind.0;
@@ -382,9 +378,9 @@ module _ {V : Type 0} (a : Account) (before now : ℕ) (held : Contents) (k : Se
           let counted : length (with_resources (needs_made (Some f)) rs) ≡ length rs + 1 = count_made under f rs known (new_free f e) in
           omega (arith, counted, count, one)
 
-      lock_as : IsFormed c → (then : Contents) → then ≡ held → (x : Holding) → under ≡ x → (rs : List Resource) → length rs ≡ locks_now.asked → AreHeld under rs → IsQuiet (with_call a turn.client turn.number told t life c g x rs)
+      lock_as : IsFormed c → (then : Contents) → then ≡ held → (x : Holding) → under ≡ x → (rs : List Resource) → length rs ≡ locks_now.asked → AreHeld under rs → (AreNotesOf (state_of a) a.ids.epoch held.notes → AreNotesOf (state_of (with_call a turn.client turn.number told t life c g x rs)) a.ids.epoch held.notes) → IsQuiet (with_call a turn.client turn.number told t life c g x rs)
           → IsAs (after_call a held k turn t l p c g (locks_given l.locks locks_now (Ok (given_of g []))) (table_then g) v life x rs told) then (lock_left g)
-      lock_as formed then same x so rs count known quiet =
+      lock_as formed then same x so rs count known noted quiet =
           let counts : p.counts ≡ given.after = subst (StandsAfter l.part p given.after) passes given.stands in
           done_as a held k turn t l p c g (locks_given l.locks locks_now (Ok (given_of g []))) (table_then g) v life x rs then h same is up there live mine given.ids lock_done
           (λ q. ap (λ (y : Holding). with_made y (id_in g) q) (sym so) ∙ then_holds q) (λ u q away. taken_other k.locks (plan g) refl u q away)
@@ -393,7 +389,7 @@ module _ {V : Type 0} (a : Account) (before now : ℕ) (held : Contents) (k : Se
           (kept_count l.locks locks_now g rs count (made_count rs count known))
           (subst (λ (y : Holding). AreHeld (with_made y (id_in g)) (with_resources (needs_made (id_in g)) rs)) so (held_then under (needs_made (id_in g)) rs known))
           (subst (AreRoomed k.sizes a.holder.cells (totals_of k.lives) l.part.counts) (sym counts) (allowed_room a held k h up locks_now.made room of t l given.after there passes))
-          named away.others (taken_waiting k.locks (plan g)) (λ u apart. taken_beside k.locks (plan g) u apart) quiet
+          named away.others (taken_waiting k.locks (plan g)) (λ u apart. taken_beside k.locks (plan g) u apart) noted quiet
 
       abbrev Steps : Contents → Handed → Type 0
       Steps then x = Stepped a before now then (lock_left g) (event.Call turn.client k.epoch turn.number c) x
@@ -404,7 +400,8 @@ module _ {V : Type 0} (a : Account) (before now : ℕ) (held : Contents) (k : Se
           let leads : Leads false a (call_entry a turn.client turn.number told c g []) (with_call a turn.client turn.number told t life c g life.held (a.locked t)) =
           performed_leads a turn.client turn.number told t life c g false (lock_owes of_trans formed life.held still [] (grants_none none)) in
           stepped_so a before now held then k (lock_left g) turn.client turn.number told c false g [] (with_call a turn.client turn.number told t life c g life.held (a.locked t)) x so h leads
-          (lock_as formed then same life.held still (a.locked t) (ap (λ (rs : List Resource). length rs) (sym (still_locked still)) ∙ count_then) (subst (AreHeld under) (still_locked still) known_then) leads.quiet) (λ e. cc)
+          (lock_as formed then same life.held still (a.locked t) (ap (λ (rs : List Resource). length rs) (sym (still_locked still)) ∙ count_then) (subst (AreHeld under) (still_locked still) known_then)
+          (call_notes false a (with_call a turn.client turn.number told t life c g life.held (a.locked t)) turn.client turn.number told c g [] h.quiet leads refl held.notes) leads.quiet) (λ e. cc)
           (stands_timely a.holder.clock (seen_in (event.Call turn.client k.epoch turn.number c)) k.clock h.clock)
 
       granted_steps : (x : Handed) (then : Contents) → then ≡ held → file_trans c ≡ Some t → IsFormed c → (n : Need) (more : List Need) → asked.rises ≡ n ∷ more
@@ -414,7 +411,7 @@ module _ {V : Type 0} (a : Account) (before now : ℕ) (held : Contents) (k : Se
           let leads : Leads false a (call_entry a turn.client turn.number told c g (act.Granted t ∷ [])) (with_call a turn.client turn.number told t life c g under rs) =
           granted_leads a turn.client turn.number told t life c g false lock_free (lock_owes of_trans formed under refl (t ∷ []) (grants_some n more some)) in
           stepped_so a before now held then k (lock_left g) turn.client turn.number told c false g (act.Granted t ∷ []) (with_call a turn.client turn.number told t life c g under rs) x so h leads
-          (lock_as formed then same under refl rs count_then known_then leads.quiet) (λ e. cc) (stands_timely a.holder.clock (seen_in (event.Call turn.client k.epoch turn.number c)) k.clock h.clock)
+          (lock_as formed then same under refl rs count_then known_then (call_notes false a (with_call a turn.client turn.number told t life c g under rs) turn.client turn.number told c g (act.Granted t ∷ []) h.quiet leads refl held.notes) leads.quiet) (λ e. cc) (stands_timely a.holder.clock (seen_in (event.Call turn.client k.epoch turn.number c)) k.clock h.clock)
 
       lock_steps : (x : Handed) (then : Contents) → then ≡ held → file_trans c ≡ Some t → IsFormed c → x ≡ told_answer (Some g) (acts_of t asked.rises) → Steps then x
       lock_steps x then same of_trans formed so = go asked.rises refl

@@ -42,7 +42,9 @@ use Rattle.alp_node.specs.Covers.{AreHeld}
 use Rattle.alp_node.specs.Rooms.{IsRoomOf}
 use Rattle.alp_node.specs.Shapes.{shape_of, too_locked}
 use Rattle.alp_node.specs.declared.lock_counts.LockCounts.{LockCounts}
+use Rattle.alp_node.specs.Durable.{AreNotesOf}
 use Rattle.alp_node.specs.ServerState.{IsAs, IsReady, IsAlike, IsCaller, IsLife, PutNoneBeyond}
+use Rattle.alp_node.specs.declared.served.Standing.TheVariants as standing
 use Rattle.alp_node.specs.Steps.{Stepped, IsTurn, counted_in, seen_in, told_answer, refused_answer}
 use Rattle.alp_node.specs.declared.answer.Answer.{Answer as Handed}
 use Rattle.alp_node.specs.declared.lives.Live.{Live}
@@ -60,7 +62,8 @@ use Rattle.alp_node.proofs.LockLemmas.{taken_other, taken_beside, taken_waiting}
 use Rattle.alp_node.proofs.LockCallLemmas.{locked_then}
 use Rattle.alp_node.proofs.LockDoneLemmas.{locks_now, asked, lock_left, first_held, lock_free, lock_why, grants_none, grants_some, under_held, still_locked, known_then, count_then, lock_performed}
 use Rattle.alp_journal.proofs.RefusedGrants.{with_locks, refused_granted_leads}
-use Rattle.alp_node.proofs.OneServer.{life_works, lone_caller}
+use Rattle.alp_node.proofs.NoteCalls.{call_notes}
+use Rattle.alp_node.proofs.StandingLemmas.{IsWorking, part_told, unvoted_told}
 use Rattle.alp_node.proofs.BesideLemmas.{AreNamed, HasNoCall, others_told, idle_told, queue_beside, asked_beside}
 use Rattle.alp_node.proofs.WaitLemmas.{named_all}
 use Rattle.alp_node.proofs.MapLemmas.{get_put}
@@ -88,12 +91,12 @@ module _ {V : Type 0} (a : Account) (before now : ℕ) (held : Contents) (k : Se
   abbrev left : Reply → ServerState V
   left = lock_left a before now held k turn t l p c ns room r v
 
-  module _ (m : ℕ) (on : Bool) (ready : IsReady m on k) (life : Life) (h : IsAs a held k) (up : k.is_down ≡ false) (is : IsTurn k.sessions turn) (there : map.get k.lives t ≡ Some l) (own : l.client ≡ turn.client) (live : a.holder.lives t ≡ Some life)
+  module _ (m : ℕ) (on : Bool) (ready : IsReady m on k) (life : Life) (h : IsAs a held k) (up : k.is_down ≡ false) (is : IsTurn k.sessions turn) (there : map.get k.lives t ≡ Some l) (own : IsWorking k turn.client t l) (live : a.holder.lives t ≡ Some life)
       (mine : IsLife a.holder.cells k.locks.held (a.locked t) t l life) (served : IsServedCall c) (files : AreGiven k.server k.epoch k.given ns) (from : ns ≡ asks_of (holding k.locks.held t) (seen held.cells l.part) (own_of l.part) c) (given : Answered true held.cells l.part p (name_in l.who) (next_file k) c room r) (of : IsRoomOf true held.cells k locks_asked.made room)
       (shape : shape_of k.server k.epoch k.given (length l.part.opens.items) c ≡ None) (few : too_locked k.sizes.area l.part.counts.cells locks_asked.made ≡ None) (free : blocker k.locks.held t wanted.rises ≡ None) (away : HasNoCall turn.client t k.waits)
       (f : Refusal) (full : refused_for room l.part.counts given.after ≡ Some f) where
     abbrev caller : IsCaller l life
-    caller = lone_caller a held k h a.holder.cells k.locks.held (a.locked t) t l life live mine
+    caller = mine.calls (unvoted_told a held k turn.client t h own.1 life live).vote
 
     abbrev would : Holding
     would = held_for a.holder life c
@@ -159,6 +162,7 @@ module _ {V : Type 0} (a : Account) (before now : ℕ) (held : Contents) (k : Se
     held_as : (then : Contents) → then ≡ held → would ≡ life.held → resources ≡ a.locked t → IsAs a then server_now
     held_as then same still rs = subst (λ (x : Contents). IsAs a x server_now) (sym same) (record {
       server = h.server;
+      servers = h.servers;
       sizes = h.sizes;
       epoch = h.epoch;
       clock = h.clock;
@@ -172,8 +176,8 @@ module _ {V : Type 0} (a : Account) (before now : ℕ) (held : Contents) (k : Se
       room = same_room k.sizes a.holder.cells k.lives t l live_now there stands.2 h.room;
       unborn = h.unborn;
       coordinator = h.coordinator;
-      plain = h.plain;
-      lone = h.lone;
+      decided = h.decided;
+      joins = h.joins;
       files = h.files;
       made = h.made;
       born = h.born;
@@ -202,18 +206,19 @@ module _ {V : Type 0} (a : Account) (before now : ℕ) (held : Contents) (k : Se
 
     -- ---- it is granted
 
-    granted_as : (then : Contents) → then ≡ held → IsQuiet (with_locks a turn.client turn.number w t life c f) → IsAs (with_locks a turn.client turn.number w t life c f) then (left (reply.Refused f))
-    granted_as then same quiet =
+    granted_as : (then : Contents) → then ≡ held → (AreNotesOf (state_of a) a.ids.epoch held.notes → AreNotesOf (state_of (with_locks a turn.client turn.number w t life c f)) a.ids.epoch held.notes) → IsQuiet (with_locks a turn.client turn.number w t life c f) → IsAs (with_locks a turn.client turn.number w t life c f) then (left (reply.Refused f))
+    granted_as then same noted quiet =
         let s : IsAs (counted_as a turn.client turn.number w (reply.Refused f)) held (record k { sessions = counted_in k.sessions turn (reply.Refused f) }) = counts_as a held k turn (reply.Refused f) h is up in
         let new : Life = record life { held = would } in
         subst (λ (x : Contents). IsAs (with_locks a turn.client turn.number w t life c f) x (left (reply.Refused f))) (sym same) (record {
           server = h.server;
+          servers = h.servers;
           sizes = h.sizes;
           epoch = h.epoch;
           clock = h.clock;
           cells = h.cells;
           sized = h.sized;
-          notes = h.notes;
+          notes = λ on. noted (h.notes on);
           places = s.places;
           sessions = s.sessions;
           dead = h.dead;
@@ -224,8 +229,8 @@ module _ {V : Type 0} (a : Account) (before now : ℕ) (held : Contents) (k : Se
           unborn = each_set (λ x. PutNoneBeyond a.holder.server a.ids.epoch k.given x.edits) t (Some new) a.holder.lives h.unborn
               (λ x at. subst (λ (y : Life). PutNoneBeyond a.holder.server a.ids.epoch k.given y.edits) (same-some new x at) (h.unborn t life live));
           coordinator = h.coordinator;
-          plain = h.plain;
-          lone = h.lone;
+          decided = h.decided;
+          joins = h.joins;
           files = h.files;
           made = h.made;
           born = h.born;
@@ -243,10 +248,10 @@ module _ {V : Type 0} (a : Account) (before now : ℕ) (held : Contents) (k : Se
         → x ≡ refused_answer f (act.Granted t ∷ []) → Stepped a before now then (left (reply.Refused f)) (event.Call turn.client k.epoch turn.number c) x
     granted_refused x then same of_trans n others some so =
         let leads : Leads false a (call_entry a turn.client turn.number w c (reply.Refused f) (act.Granted t ∷ [])) (with_locks a turn.client turn.number w t life c f) =
-        refused_granted_leads a turn.client turn.number w t life c f false h.quiet (h.down ∙ up) (turn_session a held k turn h is) is.number (life_works a h.lone h.quiet.settled.stands t life turn.client live (mine.client ∙ own)) live (mine.client ∙ own) of_trans (idle_told a turn.client t k.waits h.waits named away.idle) counted.passes counted.now
+        refused_granted_leads a turn.client turn.number w t life c f false h.quiet (h.down ∙ up) (turn_session a held k turn h is) is.number (part_told a held k turn.client t h standing.Work own.1) live (mine.client ∙ own.0) of_trans (idle_told a turn.client t k.waits h.waits named away.idle) counted.passes counted.now
         (lock_free a before now held k turn t l p c ns room r v m on ready life h up is there own live mine served files from given of shape few free away) why
         (subst (λ (y : Reply). GrantsFor false (state_of a) turn.client c y (t ∷ []) (Some t)) as_refused (grants_some a before now held k turn t l p c ns room r v m on ready life h up is there own live mine served files from given of shape few free away n others some)) in
-        stepped_so a before now held then k (left (reply.Refused f)) turn.client turn.number w c false (reply.Refused f) (act.Granted t ∷ []) (with_locks a turn.client turn.number w t life c f) x so h leads (granted_as then same leads.quiet) (λ e. cc)
+        stepped_so a before now held then k (left (reply.Refused f)) turn.client turn.number w c false (reply.Refused f) (act.Granted t ∷ []) (with_locks a turn.client turn.number w t life c f) x so h leads (granted_as then same (call_notes false a (with_locks a turn.client turn.number w t life c f) turn.client turn.number w c (reply.Refused f) (act.Granted t ∷ []) h.quiet leads refl held.notes) leads.quiet) (λ e. cc)
         (stands_timely a.holder.clock (seen_in (event.Call turn.client k.epoch turn.number c)) k.clock h.clock)
 
     lock_refused : (x : Handed) (then : Contents) → then ≡ held → file_trans c ≡ Some t → x ≡ told_answer (Some r) (acts_of t wanted.rises)
@@ -265,7 +270,7 @@ module _ {V : Type 0} (a : Account) (before now : ℕ) (held : Contents) (k : Se
 
   -- ---- either
 
-  pub lock_stepped : (m : ℕ) (on : Bool) (x : Handed) (then : Contents) → IsReady m on k → IsAs a held k → k.is_down ≡ false → then ≡ held → IsTurn k.sessions turn → map.get k.lives t ≡ Some l → l.client ≡ turn.client → IsServedCall c → AreGiven k.server k.epoch k.given ns → ns ≡ asks_of (holding k.locks.held t) (seen held.cells l.part) (own_of l.part) c
+  pub lock_stepped : (m : ℕ) (on : Bool) (x : Handed) (then : Contents) → IsReady m on k → IsAs a held k → k.is_down ≡ false → then ≡ held → IsTurn k.sessions turn → map.get k.lives t ≡ Some l → IsWorking k turn.client t l → IsServedCall c → AreGiven k.server k.epoch k.given ns → ns ≡ asks_of (holding k.locks.held t) (seen held.cells l.part) (own_of l.part) c
       → shape_of k.server k.epoch k.given (length l.part.opens.items) c ≡ None → too_locked k.sizes.area l.part.counts.cells locks_asked.made ≡ None → file_trans c ≡ Some t → IsFormed c
       → Answered true held.cells l.part p (name_in l.who) (next_file k) c room r → IsRoomOf true held.cells k locks_asked.made room → x ≡ told_answer (Some r) (acts_of t wanted.rises) → blocker k.locks.held t wanted.rises ≡ None → HasNoCall turn.client t k.waits
       → Stepped a before now then (left r) (event.Call turn.client k.epoch turn.number c) x

@@ -10,12 +10,14 @@ use Rattle.alp_journal.specs.Ids.{same_trans}
 use Rattle.alp_journal.proofs.IdLemmas.{same_trans-true}
 use Rattle.alp_locks.specs.Tables.{Table}
 use Rattle.alp_node.specs.Releases.{lock_if, with_locks, granted_if, granted_one, granted_all, woken_taken, grant_acts}
+use Rattle.alp_worker.specs.declared.live.LiveJoin.{LiveJoin}
 use Rattle.alp_node.specs.Totals.{LiveMap}
-use Rattle.alp_node.specs.Transactions.{owner_of}
 use Rattle.alp_node.specs.Waits.{locks_of}
 use Rattle.alp_node.specs.declared.lives.Live.{Live}
 use Rattle.alp_node.specs.declared.server_state.ServerState.{ServerState}
 use Rattle.alp_node.proofs.MapLemmas.{get_put, put_length}
+use Rattle.alp_node.proofs.NotedLemmas.{AreVotersAlike, HasNoVoter, voters_same, voters_put}
+use Rattle.alp_node.proofs.PairedLemmas.{AreTheirs, theirs_put}
 
 -- ---- a part that counts other locks
 
@@ -43,17 +45,21 @@ module _ (m : LiveMap) (t : TransId) (n : ℕ) where
       go None there = refl
       go (Some k) there = put_length m t (record k { locks = n }) (ap is_some there)
 
-  -- each is its client's as before
-  pub locked_owner : (u : TransId) → owner_of (map.get (with_locks m t n) u) ≡ owner_of (map.get m u)
-  locked_owner u = go (map.get m t) refl
+  -- each is whose it was
+  pub locked_theirs : AreTheirs m (with_locks m t n)
+  locked_theirs = go (map.get m t) refl
     where
-      at : (k : Live) → map.get m t ≡ Some k → (b : Bool) → same_trans u t ≡ b → owner_of (cond {A = Option Live} b (Some (record k { locks = n })) (map.get m u)) ≡ owner_of (map.get m u)
-      at k there true e = ap owner_of (sym (ap (map.get m) (same_trans-true u t e) ∙ there))
-      at k there false e = refl
+      go : (x : Option Live) → map.get m t ≡ x → AreTheirs m (lock_if m t n x)
+      go None there = λ u. refl
+      go (Some k) there = theirs_put m t k (record k { locks = n }) there refl
 
-      go : (x : Option Live) → map.get m t ≡ x → owner_of (map.get (lock_if m t n x) u) ≡ owner_of (map.get m u)
-      go None there = refl
-      go (Some k) there = ap owner_of (get_put m t (record k { locks = n }) u) ∙ at k there (same_trans u t) refl
+  -- and has its size, but this one
+  pub locked_voters : (ls : List LiveJoin) → HasNoVoter ls t → AreVotersAlike m (with_locks m t n) ls
+  locked_voters ls none = go (map.get m t)
+    where
+      go : (x : Option Live) → AreVotersAlike m (lock_if m t n x) ls
+      go None = voters_same m m ls (λ u. refl)
+      go (Some k) = voters_put m t (record k { locks = n }) ls none
 
   pub locked_live : (u : TransId) → is_some (map.get m u) ≡ true → is_some (map.get (with_locks m t n) u) ≡ true
   locked_live u live = go (map.get m t)

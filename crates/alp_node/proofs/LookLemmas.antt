@@ -51,17 +51,17 @@ use Rattle.alp_node.specs.declared.server_state.ServerState.{ServerState}
 use Rattle.alp_node.specs.declared.sessions.Turn.{Turn}
 use Rattle.alp_node.specs.declared.served.Standing.TheVariants as standing
 use Rattle.alp_node.proofs.CallLemmas.{part_still}
-use Rattle.alp_node.proofs.CommitLemmas.{file_halt_stepped}
+use Rattle.alp_node.proofs.HaltLemmas.{file_halt_stepped}
 use Rattle.alp_node.proofs.GivenLemmas.{IsCounted, counts_fault, counts_down, reply_given, wanting}
 use Rattle.alp_node.proofs.KeptLemmas.{IsLive, live_there, same_live, as_with}
-use Rattle.alp_node.proofs.MapLemmas.{put_length, put_there, get_put}
-use Rattle.alp_node.proofs.ReadyLemmas.{counted_ready, ready_with, down_ready}
-use Rattle.alp_node.specs.Transactions.{owner_of}
-use Rattle.alp_node.proofs.TransactionLemmas.{own_alike}
+use Rattle.alp_node.proofs.MapLemmas.{put_there, get_put}
+use Rattle.alp_node.proofs.ReadyLemmas.{joins_later, counted_ready, ready_with, down_ready}
+use Rattle.alp_node.specs.Noted.{HasReadyRoom}
+use Rattle.alp_node.proofs.NotedLemmas.{HasNoVoter, voters_put, room_on, noted_on}
+use Rattle.alp_node.proofs.PairedLemmas.{theirs_put, paired_on, alive_on}
 use Rattle.alp_node.proofs.TurnLemmas.{counts_refused}
-use Rattle.alp_node.proofs.SeatLemmas.{left_seated, left_noted, left_step}
+use Rattle.alp_node.proofs.SeatLemmas.{KeepsNotes, left_seated, left_noted, left_step}
 use Rattle.alp_node.proofs.ServedLemmas.{fault_stepped}
-use Rattle.alp_node.proofs.StandingLemmas.{own_standing}
 
 -- a file more is made at most
 pub count_same : (count : ℕ) (r : Reply) → count_after count r ≤ count + 1
@@ -82,28 +82,28 @@ module _ {V : Type 0} (n : ℕ) (before serves : Bool) (k : ServerState V) (t : 
   part_kept = record k { lives = map.insert k.lives t (record l { part = p; locks = b }); vault = v }
 
   -- a part that is another now
-  pub part_ready : (m : ℕ) → IsTrue serves → k.is_down ≡ false → map.get k.lives t ≡ Some l → p.last ≤ m → n ≤ m → list_all (λ (o : Open). is_given k.server k.epoch k.given o.file) p.opens.items ≡ true
+  pub part_ready : (m : ℕ) → IsTrue serves → k.is_down ≡ false → HasNoVoter k.joins.lives t → map.get k.lives t ≡ Some l → p.last ≤ m → n ≤ m → list_all (λ (o : Open). is_given k.server k.epoch k.given o.file) p.opens.items ≡ true
       → IsWithin k.sizes (record l { part = p; locks = b }) → AllByRecursion (λ (w : WaitingCall). is_file_on t w ≡ true → IsLikePart l (record l { part = p; locks = b })) k.waits → IsReady n before k → IsReady m serves part_kept
-  part_ready m on up there low le given fresh like h = record {
+  part_ready m on up unvoted there low le given fresh like h = record {
     serving = λ _. on;
     halted = λ down. (let wrong : false ≡ true = sym up ∙ down in cc);
     sound = h.sound;
     taken = h.taken;
     waits = waiting_parts k.server k.epoch k.given k.given (le_refl k.given) (count_of k.coordinator) k.sizes k.lives (map.insert k.lives t (record l { part = p; locks = b })) k.waits k.locks.waiting (all_like k.waits like) live_so h.waits;
     known = λ u x is. known_so u (same_trans u t) refl x (sym (get_put k.lives t (record l { part = p; locks = b }) u) ∙ is);
-    own = own_alike k.coordinator k.lives (map.insert k.lives t (record l { part = p; locks = b })) (λ u. ap owner_of (get_put k.lives t (record l { part = p; locks = b }) u) ∙ own_so u (same_trans u t) refl) h.own;
+    joins = joins_later k.server k.epoch n m k.joins le h.joins;
+    paired = paired_on k.servers k.server k.coordinator k.joins k.lives (map.insert k.lives t (record l { part = p; locks = b })) (theirs_put k.lives t l (record l { part = p; locks = b }) there refl) h.paired;
+    idle = h.idle;
     opens = λ u x is. opens_so u (same_trans u t) x (sym (get_put k.lives t (record l { part = p; locks = b }) u) ∙ is);
     opened = λ u x is. opened_so u (same_trans u t) x (sym (get_put k.lives t (record l { part = p; locks = b }) u) ∙ is);
-    callers = λ u x is. callers_so u (same_trans u t) x (sym (get_put k.lives t (record l { part = p; locks = b }) u) ∙ is);
-    alive = λ u x is. alive_so u (same_trans u t) refl x (sym (get_put k.lives t (record l { part = p; locks = b }) u) ∙ is);
-    causes = h.causes;
+    alive = alive_on k.servers k.server k.coordinator k.joins k.lives (map.insert k.lives t (record l { part = p; locks = b })) (theirs_put k.lives t l (record l { part = p; locks = b }) there refl) k.dead h.alive;
     places = h.places;
     calls = λ c w is. (let before_now : w.last ≤ n = h.calls c w is in omega arith);
     replies = h.replies;
     drawn = omega (arith, h.drawn, le);
     given = omega (arith, h.given, le);
-    few = (let same : map.len (map.insert k.lives t (record l { part = p; locks = b })) ≡ map.len k.lives = put_length k.lives t (record l { part = p; locks = b }) (ap is_some there) in omega (arith, same, h.few, le));
-    most = (let same : map.len (map.insert k.lives t (record l { part = p; locks = b })) ≡ map.len k.lives = put_length k.lives t (record l { part = p; locks = b }) (ap is_some there) in omega (arith, same, h.most));
+    most = h.most;
+    fits = subst (HasReadyRoom k.sizes) (sym (room_on k.lives (map.insert k.lives t (record l { part = p; locks = b })) k.joins.lives h.joins.once (voters_put k.lives t (record l { part = p; locks = b }) k.joins.lives unvoted))) h.fits;
     within = λ u x is. within_so u (same_trans u t) x (sym (get_put k.lives t (record l { part = p; locks = b }) u) ∙ is);
     sized = h.sized;
     clock = h.clock;
@@ -133,21 +133,9 @@ module _ {V : Type 0} (n : ℕ) (before serves : Bool) (k : ServerState V) (t : 
       at_t : (u : TransId) → same_trans u t ≡ true → map.get k.lives u ≡ Some l
       at_t u e = ap (map.get k.lives) (same_trans-true u t e) ∙ there
 
-      callers_so : (u : TransId) (e : Bool) (x : Live) → cond {A = Option Live} e (Some (record l { part = p; locks = b })) (map.get k.lives u) ≡ Some x → is_some x.who ≡ true
-      callers_so u true x is = subst (λ (y : Live). is_some y.who ≡ true) (same_live (record l { part = p; locks = b }) x is) (h.callers t l there)
-      callers_so u false x is = h.callers u x is
-
-      alive_so : (u : TransId) (e : Bool) → same_trans u t ≡ e → (x : Live) → cond {A = Option Live} e (Some (record l { part = p; locks = b })) (map.get k.lives u) ≡ Some x → cause_in k.dead x.client u ≡ None
-      alive_so u true e x is = subst (λ (y : Live). cause_in k.dead y.client u ≡ None) (same_live (record l { part = p; locks = b }) x is) (h.alive u l (at_t u e))
-      alive_so u false e x is = h.alive u x is
-
       known_so : (u : TransId) (e : Bool) → same_trans u t ≡ e → (x : Live) → cond {A = Option Live} e (Some (record l { part = p; locks = b })) (map.get k.lives u) ≡ Some x → is_some (map.get k.locks.held u) ≡ true
       known_so u true e x is = h.known u l (at_t u e)
       known_so u false e x is = h.known u x is
-
-      own_so : (u : TransId) (e : Bool) → same_trans u t ≡ e → owner_of (cond {A = Option Live} e (Some (record l { part = p; locks = b })) (map.get k.lives u)) ≡ owner_of (map.get k.lives u)
-      own_so u true e = ap owner_of (sym (at_t u e))
-      own_so u false e = refl
 
       within_so : (u : TransId) (e : Bool) (x : Live) → cond {A = Option Live} e (Some (record l { part = p; locks = b })) (map.get k.lives u) ≡ Some x → IsWithin k.sizes x
       within_so u true x is = subst (IsWithin k.sizes) (same_live (record l { part = p; locks = b }) x is) fresh
@@ -175,32 +163,30 @@ module _ {V : Type 0} (G : Ghosts V) (k : ServerState V) (m : LiveMap) (v : V) w
     pub own : part.client ≡ turn.client
     pub kept : (a : Account) → IsAs a (G.held k.vault) k → IsAs a (G.held v) looked
     pub ready : (n : ℕ) (on : Bool) → IsTrue on → IsReady n (G.serves k.vault) k → IsReady n on looked
+    pub noted : KeepsNotes k looked
 
-  module _ (turn : Turn) (t : TransId) (c : Call) (unseen : IsUnseen turn t) (left : IsLeft G k.vault v) (is : IsTurn k.sessions turn) (up : k.is_down ≡ false) (named : file_trans c ≡ Some t) (calm : (a : Account) → IsAs a (G.held k.vault) k → waiting_of (state_of a).desk turn.client t ≡ None) where
-    own_there : standing_of turn.client (map.get m t) (cause_in k.dead turn.client t) ≡ standing.Work
-    own_there = own_standing turn.client (map.get m t) (cause_in k.dead turn.client t) (subst (IsOf turn.client) (sym unseen.there) unseen.own)
-
+  module _ (turn : Turn) (t : TransId) (c : Call) (unseen : IsUnseen turn t) (left : IsLeft G k.vault v) (is : IsTurn k.sessions turn) (up : k.is_down ≡ false) (named : file_trans c ≡ Some t) (calm : (a : Account) → IsAs a (G.held k.vault) k → waiting_of (state_of a).desk turn.client t ≡ None) (works : standing_of k turn.client t ≡ standing.Work) where
     -- a read failed: the call is refused, and the server goes on
     failed_step : IsTrue (G.serves v) → Rose (G.faults k.vault) (G.faults v)
         → IsStep G k (record looked { sessions = counted_in k.sessions turn (reply.Refused refusal.ReadFault) }) (event.Call turn.client k.epoch turn.number c) (Ok (refused_answer refusal.ReadFault []))
     failed_step on rose =
-        left_step G k (record looked { sessions = counted_in k.sessions turn (reply.Refused refusal.ReadFault) }) refl refl refl left (event.Call turn.client k.epoch turn.number c) (refused_answer refusal.ReadFault []) up
+        left_step G k (record looked { sessions = counted_in k.sessions turn (reply.Refused refusal.ReadFault) }) refl refl refl refl left (event.Call turn.client k.epoch turn.number c) (refused_answer refusal.ReadFault []) up unseen.noted
         (λ told a h. (
         let then : IsAs a (G.held v) looked = unseen.kept a h in
         let y : IsLive a.holder.cells k.locks.held (a.locked t) t unseen.part (a.holder.lives t) = live_there a.holder.cells k.locks.held (a.locked t) t (map.get m t) (a.holder.lives t) unseen.part unseen.there (then.lives t) in
-        fault_stepped a (G.faults k.vault) (G.faults v) (G.held v) looked turn t c y.life (refused_answer refusal.ReadFault []) then is up rose named own_there (calm a h) y.is refl))
-        (reply_given k.server (G.faults k.vault) (G.faults v) (G.allowance v) k.is_down (reply.Refused refusal.ReadFault) [] (refused_answer refusal.ReadFault []) refl
-        (subst (λ (b : Bool). IsCounted k.server (G.faults k.vault) (G.faults v) b (Some (reply.Refused refusal.ReadFault))) (sym up) (counts_fault k.server (G.faults k.vault) (G.faults v) (Some (reply.Refused refusal.ReadFault)) refl refl left.later rose)) up tt)
+        fault_stepped a (G.faults k.vault) (G.faults v) (G.held v) looked turn t c y.life (refused_answer refusal.ReadFault []) then is up rose named works (calm a h) y.is refl))
+        (reply_given (G.faults k.vault) (G.faults v) (G.allowance v) k.is_down (reply.Refused refusal.ReadFault) [] (refused_answer refusal.ReadFault []) refl
+        (subst (λ (b : Bool). IsCounted (G.faults k.vault) (G.faults v) b (Some (reply.Refused refusal.ReadFault))) (sym up) (counts_fault (G.faults k.vault) (G.faults v) (Some (reply.Refused refusal.ReadFault)) refl refl left.later rose)) up tt)
         (λ n h. counted_ready n (G.serves v) looked turn (reply.Refused refusal.ReadFault) is (record { inside = tt; times = tt }) (unseen.ready n (G.serves v) on h))
         (λ on. counts_refused k (record looked { sessions = counted_in k.sessions turn (reply.Refused refusal.ReadFault) }) turn is c refusal.ReadFault tt refl refl)
 
     -- the vault was stopped: the server is down
     stopped_step : G.serves v ≡ false → G.allowance v ≡ Spent → IsStep G k (record looked { is_down = true }) (event.Call turn.client k.epoch turn.number c) (Ok (refused_answer refusal.Down (act.Stopped ∷ [])))
     stopped_step off spent =
-        left_step G k (record looked { is_down = true }) refl refl refl left (event.Call turn.client k.epoch turn.number c) (refused_answer refusal.Down (act.Stopped ∷ [])) up
-        (λ told a h. file_halt_stepped a (G.faults k.vault) (G.faults v) (G.held v) (G.held v) looked turn t v c (refused_answer refusal.Down (act.Stopped ∷ [])) (unseen.kept a h) is up named own_there (calm a h) refl)
-        (reply_given k.server (G.faults k.vault) (G.faults v) (G.allowance v) true (reply.Refused refusal.Down) (act.Stopped ∷ []) (refused_answer refusal.Down (act.Stopped ∷ [])) refl
-        (counts_down k.server (G.faults k.vault) (G.faults v) left.later) refl (spent, tt))
+        left_step G k (record looked { is_down = true }) refl refl refl refl left (event.Call turn.client k.epoch turn.number c) (refused_answer refusal.Down (act.Stopped ∷ [])) up unseen.noted
+        (λ told a h. file_halt_stepped a (G.faults k.vault) (G.faults v) (G.held v) (G.held v) looked turn t v c (refused_answer refusal.Down (act.Stopped ∷ [])) (unseen.kept a h) is up named works (calm a h) refl)
+        (reply_given (G.faults k.vault) (G.faults v) (G.allowance v) true (reply.Refused refusal.Down) (act.Stopped ∷ []) (refused_answer refusal.Down (act.Stopped ∷ [])) refl
+        (counts_down (G.faults k.vault) (G.faults v) left.later) refl (spent, tt))
         (λ n h. down_ready n true (G.serves v) looked v off (unseen.ready n true refl h))
         (λ on. cc)
 
@@ -209,29 +195,29 @@ module _ {V : Type 0} (G : Ghosts V) (k : ServerState V) (m : LiveMap) (v : V) w
     wanting_step r err on faults =
         wanting G k looked (event.Call turn.client k.epoch turn.number c) r err
         (record { kept = unseen.kept; ready = λ n h. unseen.ready n (G.serves v) on h; up = refl; sessions = refl; clock = refl; vault = record { held = left.contents; faults = faults; allowance = left.allowed } })
-        (left_noted G k looked refl refl refl left up) (left_seated G k looked refl refl refl left) left
+        (left_noted G k looked refl refl refl refl left up unseen.noted) (left_seated G k looked refl refl refl refl left) left
 
   -- whatever the fault was
-  pub without_step : (N new : ServerState V) (turn : Turn) (t : TransId) (c : Call) (fault : CallFault) (r : Result Answer OutOfMemory) → N ≡ looked → Looks G k.vault v (Some fault) → IsTurn k.sessions turn → k.is_down ≡ false → file_trans c ≡ Some t → ((a : Account) → IsAs a (G.held k.vault) k → waiting_of (state_of a).desk turn.client t ≡ None) → IsUnseen turn t
+  pub without_step : (N new : ServerState V) (turn : Turn) (t : TransId) (c : Call) (fault : CallFault) (r : Result Answer OutOfMemory) → N ≡ looked → Looks G k.vault v (Some fault) → IsTurn k.sessions turn → k.is_down ≡ false → file_trans c ≡ Some t → ((a : Account) → IsAs a (G.held k.vault) k → waiting_of (state_of a).desk turn.client t ≡ None) → standing_of k turn.client t ≡ standing.Work → IsUnseen turn t
       → (fault ≡ call_fault.Failed → IsRefused N new turn refusal.ReadFault r) → (fault ≡ call_fault.Stopped → IsDown N new (act.Stopped ∷ []) r) → (fault ≡ call_fault.OutOfMemory → (new ≡ N) × IsErr r)
       → IsStep G k new (event.Call turn.client k.epoch turn.number c) r
-  without_step N new turn t c call_fault.Failed r is_looked look is up named calm unseen failed stopped memory =
+  without_step N new turn t c call_fault.Failed r is_looked look is up named calm works unseen failed stopped memory =
       let x : IsRefused N new turn refusal.ReadFault r = failed refl in
       let is_new : new ≡ record looked { sessions = counted_in k.sessions turn (reply.Refused refusal.ReadFault) } = x.kept ∙ ap (λ (y : ServerState V). record y { sessions = counted_in y.sessions turn (reply.Refused refusal.ReadFault) }) is_looked in
       subst (λ (y : ServerState V). IsStep G k y (event.Call turn.client k.epoch turn.number c) r) (sym is_new)
-      (subst (IsStep G k (record looked { sessions = counted_in k.sessions turn (reply.Refused refusal.ReadFault) }) (event.Call turn.client k.epoch turn.number c)) (sym x.answer) (failed_step turn t c unseen look.0 is up named calm look.1 look.2))
-  without_step N new turn t c call_fault.Stopped r is_looked look is up named calm unseen failed stopped memory =
+      (subst (IsStep G k (record looked { sessions = counted_in k.sessions turn (reply.Refused refusal.ReadFault) }) (event.Call turn.client k.epoch turn.number c)) (sym x.answer) (failed_step turn t c unseen look.0 is up named calm works look.1 look.2))
+  without_step N new turn t c call_fault.Stopped r is_looked look is up named calm works unseen failed stopped memory =
       let x : IsDown N new (act.Stopped ∷ []) r = stopped refl in
       let is_new : new ≡ record looked { is_down = true } = x.kept ∙ ap (λ (y : ServerState V). record y { is_down = true }) is_looked in
       subst (λ (y : ServerState V). IsStep G k y (event.Call turn.client k.epoch turn.number c) r) (sym is_new)
-      (subst (IsStep G k (record looked { is_down = true }) (event.Call turn.client k.epoch turn.number c)) (sym x.answer) (stopped_step turn t c unseen look.0 is up named calm look.1 look.2))
-  without_step N new turn t c call_fault.OutOfMemory r is_looked look is up named calm unseen failed stopped memory =
+      (subst (IsStep G k (record looked { is_down = true }) (event.Call turn.client k.epoch turn.number c)) (sym x.answer) (stopped_step turn t c unseen look.0 is up named calm works look.1 look.2))
+  without_step N new turn t c call_fault.OutOfMemory r is_looked look is up named calm works unseen failed stopped memory =
       let x = memory refl in
-      subst (λ (y : ServerState V). IsStep G k y (event.Call turn.client k.epoch turn.number c) r) (sym (x.0 ∙ is_looked)) (wanting_step turn t c unseen look.0 is up named calm r x.1 look.1 look.2)
+      subst (λ (y : ServerState V). IsStep G k y (event.Call turn.client k.epoch turn.number c) r) (sym (x.0 ∙ is_looked)) (wanting_step turn t c unseen look.0 is up named calm works r x.1 look.1 look.2)
 
 -- ---- looks that show nothing
 
-module _ {V : Type 0} (G : Ghosts V) (k : ServerState V) (turn : Turn) (t : TransId) (l : Live) (v : V) (there : map.get k.lives t ≡ Some l) (own : l.client ≡ turn.client) (left : IsLeft G k.vault v) (up : k.is_down ≡ false) where
+module _ {V : Type 0} (G : Ghosts V) (k : ServerState V) (turn : Turn) (t : TransId) (l : Live) (v : V) (there : map.get k.lives t ≡ Some l) (own : l.client ≡ turn.client) (left : IsLeft G k.vault v) (up : k.is_down ≡ false) (unvoted : HasNoVoter k.joins.lives t) where
   -- no part was touched
   pub look_unseen : IsUnseen G k k.lives v turn t
   look_unseen = record {
@@ -240,6 +226,7 @@ module _ {V : Type 0} (G : Ghosts V) (k : ServerState V) (turn : Turn) (t : Tran
     own = own;
     kept = λ a h. as_with a (G.held k.vault) (G.held v) k v left.contents h;
     ready = λ n on serving h. ready_with n (G.serves k.vault) on k v serving up h;
+    noted = λ notes h. h;
   }
 
   -- or one that stands as before
@@ -252,9 +239,10 @@ module _ {V : Type 0} (G : Ghosts V) (k : ServerState V) (turn : Turn) (t : Tran
     ready = λ n on serving h. (
         let last = ap (λ (w : Own). w.last) same.1 in
         let low : p.last ≤ n = (let was : l.part.last ≤ n = h.opens t l there in omega (arith, last)) in
-        part_ready n (G.serves k.vault) on k t l p l.locks v n serving up there low (le_refl n)
+        part_ready n (G.serves k.vault) on k t l p l.locks v n serving up unvoted there low (le_refl n)
         (ap (λ (w : Own). list_all (λ (o : Open). is_given k.server k.epoch k.given o.file) w.opens) same.1 ∙ h.opened t l there) (within_same k.sizes l p sound same (h.within t l there))
         (each_so (λ (w : WaitingCall). is_file_on t w ≡ true → IsLikePart l (record l { part = p; locks = l.locks })) (λ w e. record { client = refl; opens = ap (λ (w : Own). length w.opens) same.1; cells = ap (λ (n : Counts). n.cells) same.2 }) k.waits) h);
+    noted = λ notes h. noted_on k.lives (map.insert k.lives t (record l { part = p; locks = l.locks })) k.server k.servers k.epoch k.joins k.coordinator notes (voters_put k.lives t (record l { part = p; locks = l.locks }) k.joins.lives unvoted) h;
   }
 
 -- a look that brought no answer leaves the vault too

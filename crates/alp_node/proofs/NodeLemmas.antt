@@ -1,49 +1,40 @@
 -- a server and its journal, one step more
-use Rattle.std.specs.Prelude.{cond, Bool, IsTrue, true, false, flat_map, Option, Some, Result, Ok, Err, IfOk, MatchResult}
-use Rattle.std.specs.FinMap as map
+use Rattle.std.specs.Prelude.{cond, Bool, IsTrue, true, false, flat_map, Option, Result, Ok, Err, IfOk, MatchResult}
 use Rattle.std.proofs.lemmas.Option.{slice_get_within}
 use Rattle.std.proofs.lemmas.Grind.{flat_map-append}
-use Rattle.std.proofs.Common.{◌≡◌, ◌<◌, ℕ, ◌+◌, List, [], ◌∷◌, ◌++◌, length, length-append, refl, sym, ◌∙◌, ap, subst, inl, inr, ⊎_elim, arith}
-use Rattle.alp_base.specs.Crashes.{Only, Either}
+use Rattle.std.proofs.Common.{◌⊎◌, ◌≡◌, ◌<◌, ℕ, ◌+◌, List, [], ◌∷◌, ◌++◌, append-nil, length, length-append, refl, sym, ◌∙◌, ap, subst, inl, inr, ⊎_elim, arith}
+use Rattle.std.specs.List.{AllByRecursion}
+use Rattle.alp_base.specs.Crashes.{Only}
 use Rattle.alp_base.specs.declared.allowance.Allowance.{Allowance}
 use Rattle.alp_base.specs.declared.memory.OutOfMemory.{OutOfMemory}
 use Rattle.alp_files.specs.declared.reply.Reply.{Reply}
-use Rattle.alp_files.specs.Edits.{Edit, edits_map}
-use Rattle.alp_files.specs.Changes.{edits_of}
-use Rattle.alp_files.specs.Sound.{AreSound}
-use Rattle.alp_calls.proofs.PartLaws.{same_change}
-use Rattle.alp_trans.specs.Parts.{change_of}
 use Rattle.alp_vault.specs.Contents.{Contents}
 use Rattle.alp_vault.specs.declared.vault.Vault.{Ghosts}
 use Rattle.alp_journal.specs.declared.act.Act.{Act}
 use Rattle.alp_journal.specs.declared.act.Act.TheVariants as act
 use Rattle.alp_journal.specs.declared.entry.Entry.{Entry}
 use Rattle.alp_journal.specs.declared.event.Event.{Event}
-use Rattle.alp_journal.specs.declared.event.Event.TheVariants as event
+use Rattle.alp_journal.specs.declared.message.Envelope.{Envelope}
 use Rattle.alp_journal.specs.Deeds.{Deed}
-use Rattle.alp_journal.specs.Holder.{holder_after}
-use Rattle.alp_journal.proofs.HeldLemmas.{Stands, opened_stands, journal_stands, live_sound}
+use Rattle.alp_journal.specs.Desk.{Desk}
 use Rattle.alp_journal.proofs.IdLemmas.{all-append}
 use Rattle.alp_journal.specs.Along.{state_after, Along}
 use Rattle.alp_journal.specs.Opening.{Start}
 use Rattle.alp_journal.specs.State.{State, state_deed, opened}
-use Rattle.alp_journal.specs.Moves.{next, tried, told, halted, stops}
+use Rattle.alp_journal.specs.Moves.{next, tried, did, told, halted, stops}
 use Rattle.alp_journal.specs.Laws.{IsLawful, IsLawfulEntry}
 use Rattle.alp_journal.specs.Answered.{IsAnswered, IsAnsweredSo, IsAnsweredEntry, FitsJournal, entries_limit}
-use Rattle.alp_journal.specs.Account.{Account, state_of as account_state, IsOwnEvent, AreOwnEvents}
+use Rattle.alp_journal.specs.Account.{state_of as account_state}
 use Rattle.alp_node.specs.declared.answer.Answer.{Answer}
 use Rattle.alp_node.specs.NodeStates.{NodeState}
 use Rattle.alp_node.specs.ServerState.{IsAs, IsReady}
-use Rattle.alp_node.specs.Durable.{IsDurable, IsSettled, Leaves, Besides, NoOther, said_of, said_by, said_then, stored_by}
+use Rattle.alp_node.specs.Durable.{IsDurable, IsSettled, Leaves, Besides, NoOther, HeldOr, IsSaid, IsSaidBy, IsSaidThen, IsStoredBy}
 use Rattle.alp_node.specs.Nodes.{IsConsistent, IsRight, Answered, HasCause, HasRoom, state_of, start_by, start_in, sent_by, sent_in}
-use Rattle.alp_node.specs.Halts.{HaveCauses}
+use Rattle.alp_node.specs.Halts.{HaveCauses, MaySay}
 use Rattle.alp_node.specs.Steps.{Stepped, IsStepAs, IsEntered, entry_of}
 use Rattle.alp_node.specs.Turns.{HasTurned}
-use Rattle.alp_node.specs.Served.{IsServed, AreLivesSound}
 use Rattle.alp_node.specs.declared.server_state.ServerState.{ServerState}
 use Rattle.alp_node.specs.declared.sessions.CallOrder.{CallOrder}
-use Rattle.alp_node.proofs.KeptLemmas.{IsLive, live_there}
-use Rattle.alp_node.proofs.OneServer.{IsOne, live_one}
 
 pub state_after-push : {S E : Type 0} (step : S → E → S) (s : S) (es : List E) (e : E) → state_after step s (es ++ e ∷ []) ≡ step (state_after step s es) e
 state_after-push step s [] e = refl
@@ -58,27 +49,18 @@ pub caused_so : {V : Type 0} (o : Start) (held then : Contents) (old new : NodeS
     → HasCause before now (state_of o old.journal) (entry_of e x)
 caused_so o held then old new before now e x h s = (s.failed, subst (λ (z : State). IsAnsweredEntry s.failed z (entry_of e x)) (sym h.says) s.leads.answered, s.rose)
 
--- what is served is no message
-pub served_own : (e : Event) → IsServed e → IsOwnEvent e
-served_own (event.Call client epoch number c) served = tt
-served_own (event.Timeout t) served = tt
-served_own event.Tick served = tt
-served_own event.Force served = tt
-served_own e served = absurd served
-
 -- a journal that had room holds no entry too many
 fits-push : (es : List Entry) (e : Entry) → length es < entries_limit → FitsJournal (es ++ e ∷ [])
 fits-push es e room i x at = inr (let within : i < length (es ++ e ∷ []) = slice_get_within (es ++ e ∷ []) i x at in let long = length-append es (e ∷ []) in omega (arith, within, long, room))
 
 -- one step more of a server that is right
-pub step_right : {V : Type 0} (o : Start) (held then : Contents) (old new : NodeState V) (before now : ℕ) (e : Event) (x : Answer) (h : IsRight o held old) → HasRoom old → IsOwnEvent e → Stepped h.state before now then new.kept e x
+pub step_right : {V : Type 0} (o : Start) (held then : Contents) (old new : NodeState V) (before now : ℕ) (e : Event) (x : Answer) (h : IsRight o held old) → HasRoom old → Stepped h.state before now then new.kept e x
     → new.journal ≡ old.journal ++ (entry_of e x) ∷ [] → IsRight o then new
-step_right o held then old new before now e x h room own s is = record {
+step_right o held then old new before now e x h room s is = record {
   opening = h.opening;
   lawful = subst (IsLawful o) (sym is) (Along-push next IsLawfulEntry (opened o) old.journal (entry_of e x) h.lawful (subst (λ (z : State). IsLawfulEntry z (entry_of e x)) (sym h.says) s.leads.lawful));
   caused = subst (IsAnswered o) (sym is)
       (Along-push next IsAnsweredSo (opened o) old.journal (entry_of e x) h.caused.0 (s.failed, subst (λ (z : State). IsAnsweredEntry s.failed z (entry_of e x)) (sym h.says) s.leads.answered), fits-push old.journal (entry_of e x) room);
-  own = subst AreOwnEvents (sym is) (all-append (λ (y : Entry). IsOwnEvent y.event) old.journal (entry_of e x ∷ []) h.own (own, tt));
   state = s.next;
   says = ap (state_of o) is ∙ state_after-push next (opened o) old.journal (entry_of e x) ∙ ap (λ (z : State). next z (entry_of e x)) h.says ∙ s.leads.leaves;
   kept = s.kept;
@@ -90,100 +72,93 @@ still_right o held then old new h as_is is = record {
   opening = h.opening;
   lawful = subst (IsLawful o) (sym is) h.lawful;
   caused = subst (IsAnswered o) (sym is) h.caused;
-  own = subst AreOwnEvents (sym is) h.own;
   state = h.state;
   says = ap (state_of o) is ∙ h.says;
   kept = as_is;
 }
-
--- what its live parts intend leaves well-formed files
-pub right_sound : {V : Type 0} (G : Ghosts V) (n : NodeState V) (held : Contents) → IsRight (start_in G n) held n → n.kept.is_down ≡ false → AreLivesSound held n.kept
-right_sound G n held r up t l there =
-    let a : Account = r.state in
-    let k = n.kept in
-    let first : Stands AreSound (opened (start_in G n)) = opened_stands (start_in G n) r.opening.ready r.opening.files r.opening.sizes in
-    let now : Stands AreSound (account_state a) = subst (Stands AreSound) r.says (journal_stands AreSound (opened (start_in G n)) n.journal r.own r.lawful first) in
-    let y : IsLive a.holder.cells k.locks.held (a.locked t) t l (a.holder.lives t) = live_there a.holder.cells k.locks.held (a.locked t) t (map.get k.lives t) (a.holder.lives t) l there (r.kept.lives t) in
-    let pair : IsOne (Some y.life) (a.fates t) = live_one a r.kept.lone r.kept.quiet.settled.stands t y.life y.is in
-    let es : List Edit = y.life.edits in
-    let same : edits_map (edits_of (change_of l.part.intents)) held.cells ≡ edits_map es a.holder.cells =
-    same_change held.cells l.part es y.alike.intents ∙ ap (edits_map es) (r.kept.cells up) in
-    subst AreSound (sym same) (live_sound (account_state a) now t y.life y.is pair.1)
 
 pub counted_pushed : (es fs : List Entry) (e : Entry) → fs ≡ es ++ e ∷ [] → length fs ≡ length es + 1
 counted_pushed es fs e is = ap length is ∙ length-append es (e ∷ [])
 
 -- ---- what is sent
 
--- acts with causes send nothing
-pub none_sent : (before now : ℕ) (allowance : Allowance) (acts : List Act) → HaveCauses before now allowance acts → flat_map sent_by acts ≡ []
-none_sent before now allowance [] h = refl
-none_sent before now allowance (act.Sent to message ∷ more) h = absurd h
-none_sent before now allowance (act.Granted t ∷ more) h = none_sent before now allowance more h
-none_sent before now allowance (act.Drawn t ∷ more) h = none_sent before now allowance more h
-none_sent before now allowance (act.Registered t join ∷ more) h = none_sent before now allowance more h
-none_sent before now allowance (act.Readied t join ts ∷ more) h = none_sent before now allowance more h
-none_sent before now allowance (act.Decided stamp parts ∷ more) h = none_sent before now allowance more h
-none_sent before now allowance (act.Applied join stamp ∷ more) h = none_sent before now allowance more h
-none_sent before now allowance (act.Released t ∷ more) h = none_sent before now allowance more h
-none_sent before now allowance (act.Forgot t ∷ more) h = none_sent before now allowance more h
-none_sent before now allowance (act.Regained epoch clock ready stamps ∷ more) h = none_sent before now allowance more h
-none_sent before now allowance (act.Stopped ∷ more) h = none_sent before now allowance more h.1
-none_sent before now allowance (act.Failed ∷ more) h = none_sent before now allowance more h.1
+-- acts with causes send what may be said
+pub caused_said : (before now : ℕ) (allowance : Allowance) (acts : List Act) → HaveCauses before now allowance acts → AllByRecursion (λ (x : Envelope). MaySay x.message) (flat_map sent_by acts)
+caused_said before now allowance [] h = tt
+caused_said before now allowance (act.Sent to message ∷ more) h = (h.0, caused_said before now allowance more h.1)
+caused_said before now allowance (act.Granted t ∷ more) h = caused_said before now allowance more h
+caused_said before now allowance (act.Drawn t ∷ more) h = caused_said before now allowance more h
+caused_said before now allowance (act.Registered t join ∷ more) h = caused_said before now allowance more h
+caused_said before now allowance (act.Readied t join ts ∷ more) h = caused_said before now allowance more h
+caused_said before now allowance (act.Decided stamp parts ∷ more) h = caused_said before now allowance more h
+caused_said before now allowance (act.Applied join stamp ∷ more) h = caused_said before now allowance more h
+caused_said before now allowance (act.Released t ∷ more) h = caused_said before now allowance more h
+caused_said before now allowance (act.Forgot t ∷ more) h = caused_said before now allowance more h
+caused_said before now allowance (act.Regained epoch clock ready stamps ∷ more) h = caused_said before now allowance more h
+caused_said before now allowance (act.Stopped ∷ more) h = caused_said before now allowance more h.1
+caused_said before now allowance (act.Failed ∷ more) h = caused_said before now allowance more h.1
 
--- one entry more that sends nothing
-pub sent_pushed : (es fs : List Entry) (e : Entry) → fs ≡ es ++ e ∷ [] → sent_in es ≡ [] → flat_map sent_by e.acts ≡ [] → sent_in fs ≡ []
-sent_pushed es fs e is none own = ap sent_in is ∙ flat_map-append (λ (x : Entry). flat_map sent_by x.acts) es (e ∷ []) ∙ (λ i. none i ++ (own i ++ []))
+-- one entry more whose messages may be said
+pub sent_pushed : (es fs : List Entry) (e : Entry) → fs ≡ es ++ e ∷ [] → AllByRecursion (λ (x : Envelope). MaySay x.message) (sent_in es) → AllByRecursion (λ (x : Envelope). MaySay x.message) (flat_map sent_by e.acts)
+    → AllByRecursion (λ (x : Envelope). MaySay x.message) (sent_in fs)
+sent_pushed es fs e is before own =
+    subst (AllByRecursion (λ (x : Envelope). MaySay x.message)) (sym (ap sent_in is ∙ flat_map-append (λ (x : Entry). flat_map sent_by x.acts) es (e ∷ []) ∙ ap (λ (xs : List Envelope). sent_in es ++ xs) (append-nil (flat_map sent_by e.acts))))
+    (all-append (λ (x : Envelope). MaySay x.message) (sent_in es) (flat_map sent_by e.acts) before own)
 
 -- ---- what its vault holds
 
--- the holder of a state reads each deed by itself
-holder_deeds : (s : State) (ds : List Deed) → (state_after state_deed s ds).holder ≡ state_after holder_after s.holder ds
-holder_deeds s [] = refl
-holder_deeds s (d ∷ ds) = holder_deeds (state_deed s d) ds
+-- deeds look at none of these
+deeds_beside : (s : State) (is_down : Bool) (pending ds : List Deed) → state_after state_deed (record s { is_down = is_down; pending = pending }) ds ≡ record (state_after state_deed s ds) { is_down = is_down; pending = pending }
+deeds_beside s is_down pending [] = refl
+deeds_beside s is_down pending (d ∷ ds) = deeds_beside (state_deed s d) is_down pending ds
+
+-- nor does what is stored
+stored_beside : (epoch : ℕ) (s : State) (desk : Desk) (is_down : Bool) (pending : List Deed) (c : Contents) → IsStoredBy epoch s c → IsStoredBy epoch (record s { desk = desk; is_down = is_down; pending = pending }) c
+stored_beside epoch s desk is_down pending c h = record { cells = h.cells; notes = record { clock = h.notes.clock; ready = h.notes.ready; decided = h.notes.decided; format = h.notes.format } }
 
 -- what an entry tries is what it leaves, or what is pending then
-tried_said : (s : State) (e : Entry) → (next s e).ids.epoch ≡ s.ids.epoch → said_by s e ≡ said_then (next s e)
-tried_said s e epoch = go (stops e) epoch
+tried_said : (s : State) (e : Entry) (c : Contents) → (next s e).ids.epoch ≡ s.ids.epoch → IsSaidBy s e c → IsSaidThen (next s e) c
+tried_said s e c epoch said = go (stops e) epoch
   where
-    go : (b : Bool) → (cond {A = State} b (halted s e) (told s e)).ids.epoch ≡ s.ids.epoch → said_by s e ≡ said_then (cond {A = State} b (halted s e) (told s e))
-    go true same = refl
-    go false same = (λ i. stored_by (sym same i) (sym (holder_deeds s (tried s e)) i))
+    go : (b : Bool) → (cond {A = State} b (halted s e) (told s e)).ids.epoch ≡ s.ids.epoch → IsSaidThen (cond {A = State} b (halted s e) (told s e)) c
+    go true same =
+        subst (λ (z : State). IsStoredBy s.ids.epoch z c) (sym (deeds_beside s true (tried s e) (tried s e))) (stored_beside s.ids.epoch (did s e) (did s e).desk true (tried s e) c said)
+    go false same = subst (λ (n : ℕ). IsStoredBy n (told s e) c) (sym same) (stored_beside s.ids.epoch (did s e) (told s e).desk false [] c said)
 
 -- where it stops, the journal says what it said
-halt_said : (s : State) (e : Entry) → stops e ≡ true → said_of (next s e) ≡ said_of s
-halt_said s e stop = ap (λ (b : Bool). said_of (cond {A = State} b (halted s e) (told s e))) stop
+halt_said : (s : State) (e : Entry) (c : Contents) → stops e ≡ true → IsSaid s c → IsSaid (next s e) c
+halt_said s e c stop said = subst (λ (z : State). IsSaid z c) (sym (ap (λ (b : Bool). cond {A = State} b (halted s e) (told s e)) stop)) (stored_beside s.ids.epoch s s.desk true (tried s e) c said)
 
 -- while it is up the vault holds what the journal says
-pub right_said : {V : Type 0} (o : Start) (held : Contents) (n : NodeState V) → IsRight o held n → n.kept.is_down ≡ false → held ≡ said_of (state_of o n.journal)
-right_said o held n r up =
-    let same : held ≡ said_of (account_state r.state) = (λ i. record { cells = r.kept.cells up i; notes = r.kept.notes up i }) in
-    same ∙ ap said_of (sym r.says)
+pub right_said : {V : Type 0} (o : Start) (held : Contents) (n : NodeState V) → IsRight o held n → n.kept.is_down ≡ false → IsSaid (state_of o n.journal) held
+right_said o held n r up = subst (λ (s : State). IsSaid s held) (sym r.says) (record { cells = r.kept.cells up; notes = r.kept.notes up })
 
 -- and a crash leaves just that
 pub up_durable : {V : Type 0} (o : Start) (held : Contents) (n : NodeState V) (leaves : Contents → Type 0) → IsRight o held n → n.kept.is_down ≡ false → Only held leaves → IsDurable (state_of o n.journal) leaves
 up_durable o held n leaves r up only = record {
-  up = λ _ c here. only c here ∙ right_said o held n r up;
-  down = λ c here. inl (only c here ∙ right_said o held n r up);
+  up = λ _ c here. subst (IsSaid (state_of o n.journal)) (sym (only c here)) (right_said o held n r up);
+  down = λ c here. inl (subst (IsSaid (state_of o n.journal)) (sym (only c here)) (right_said o held n r up));
 }
 
 module _ {V : Type 0} (G : Ghosts V) (o : Start) (old new : NodeState V) (e : Event) (x : Answer) (r : IsRight o (G.held old.kept.vault) old)
     (s : Stepped r.state (G.faults old.kept.vault) (G.faults new.kept.vault) (G.held new.kept.vault) new.kept e x) (is : new.journal ≡ old.journal ++ entry_of e x ∷ []) (epoch : new.kept.epoch ≡ old.kept.epoch)
     (up : old.kept.is_down ≡ false) (only : Only (G.held old.kept.vault) (G.may_leave old.kept.vault))
-    (leaves : Leaves G old.kept.vault new.kept.vault (Besides G old.kept.vault (λ c. c ≡ said_by (account_state r.state) (entry_of e x)))) where
+    (leaves : Leaves G old.kept.vault new.kept.vault (Besides G old.kept.vault (IsSaidBy (account_state r.state) (entry_of e x)))) where
   after_step : state_of o new.journal ≡ next (account_state r.state) (entry_of e x)
   after_step = ap (state_of o) is ∙ state_after-push next (opened o) old.journal (entry_of e x) ∙ ap (λ (z : State). next z (entry_of e x)) r.says
 
-  said_so : said_by (account_state r.state) (entry_of e x) ≡ said_then (state_of o new.journal)
-  said_so = tried_said (account_state r.state) (entry_of e x) (ap (λ (m : State). m.ids.epoch) s.leads.leaves ∙ s.kept.epoch ∙ epoch ∙ sym r.kept.epoch) ∙ ap said_then (sym after_step)
+  said_so : (c : Contents) → IsSaidBy (account_state r.state) (entry_of e x) c → IsSaidThen (state_of o new.journal) c
+  said_so c said =
+      subst (λ (z : State). IsSaidThen z c) (sym after_step)
+      (tried_said (account_state r.state) (entry_of e x) c (ap (λ (m : State). m.ids.epoch) s.leads.leaves ∙ s.kept.epoch ∙ epoch ∙ sym r.kept.epoch) said)
 
-  either_of : (c : Contents) → Besides G old.kept.vault (λ z. z ≡ said_by (account_state r.state) (entry_of e x)) c → Either (G.held old.kept.vault) (said_then (state_of o new.journal)) c
+  either_of : (c : Contents) → Besides G old.kept.vault (IsSaidBy (account_state r.state) (entry_of e x)) c → HeldOr (G.held old.kept.vault) (IsSaidThen (state_of o new.journal)) c
   either_of c (inl before) = inl (only c before)
   either_of c (inr (inl same)) = inl same
-  either_of c (inr (inr said)) = inr (said ∙ said_so)
+  either_of c (inr (inr said)) = inr (said_so c said)
 
   -- through the step a crash leaves what was held, or what its write makes of that
-  pub step_leaves : Leaves G old.kept.vault new.kept.vault (Either (G.held old.kept.vault) (said_then (state_of o new.journal)))
+  pub step_leaves : Leaves G old.kept.vault new.kept.vault (HeldOr (G.held old.kept.vault) (IsSaidThen (state_of o new.journal)))
   step_leaves = record {
     crash = λ c here. either_of c (leaves.crash c here);
     time = record { each = λ start c was. ⊎_elim (λ before. inl before) (λ now. inr (either_of c now)) (leaves.time.each start c was) };
@@ -198,11 +173,13 @@ module _ {V : Type 0} (G : Ghosts V) (o : Start) (old new : NodeState V) (e : Ev
     down = λ c here. go c (step_leaves.crash c here);
   }
     where
-      same : G.held old.kept.vault ≡ said_of (state_of o new.journal)
-      same = right_said o (G.held old.kept.vault) old r up ∙ ap said_of r.says ∙ sym (halt_said (account_state r.state) (entry_of e x) stop) ∙ ap said_of (sym after_step)
+      held_still : IsSaid (state_of o new.journal) (G.held old.kept.vault)
+      held_still =
+          subst (λ (z : State). IsSaid z (G.held old.kept.vault)) (sym after_step)
+          (halt_said (account_state r.state) (entry_of e x) (G.held old.kept.vault) stop (subst (λ (z : State). IsSaid z (G.held old.kept.vault)) r.says (right_said o (G.held old.kept.vault) old r up)))
 
-      go : (c : Contents) → Either (G.held old.kept.vault) (said_then (state_of o new.journal)) c → Either (said_of (state_of o new.journal)) (said_then (state_of o new.journal)) c
-      go c (inl held) = inl (held ∙ same)
+      go : (c : Contents) → HeldOr (G.held old.kept.vault) (IsSaidThen (state_of o new.journal)) c → IsSaid (state_of o new.journal) c ⊎ IsSaidThen (state_of o new.journal) c
+      go c (inl held) = inl (subst (IsSaid (state_of o new.journal)) (sym held) held_still)
       go c (inr then) = inr then
 
 -- ---- whatever a step came to
@@ -221,7 +198,7 @@ module _ {V : Type 0} (G : Ghosts V) (old : NodeState V) (kept : ServerState V) 
     start_then : kept.server ≡ old.kept.server → start_in G old ≡ start_in G node_then
     start_then server = (λ i. start_by G (sym server i) old.opening.vault.value)
 
-    module _ (x : Answer) (room : HasRoom old) (own : IsOwnEvent e) (s : IsStepAs G o old.kept kept e (Ok x)) (is : journal ≡ old.journal ++ entry_of e x ∷ []) where
+    module _ (x : Answer) (room : HasRoom old) (s : IsStepAs G o old.kept kept e (Ok x)) (is : journal ≡ old.journal ++ entry_of e x ∷ []) where
       ready_then : IsReady (length journal) (G.serves kept.vault) kept
       ready_then = subst (λ (n : ℕ). IsReady n (G.serves kept.vault) kept) (sym (counted_pushed old.journal journal (entry_of e x) is)) (s.ready (length old.journal) h.ready)
 
@@ -229,9 +206,9 @@ module _ {V : Type 0} (G : Ghosts V) (old : NodeState V) (kept : ServerState V) 
         right_then : IsRight (start_in G old) (G.held kept.vault) node_then
         right_then =
             let r : IsRight (start_in G old) (G.held old.kept.vault) old = h.right told in
-            step_right (start_in G old) (G.held old.kept.vault) (G.held kept.vault) old node_then (G.faults old.kept.vault) (G.faults kept.vault) e x r room own (s.stepped told r.state r.kept) is
+            step_right (start_in G old) (G.held old.kept.vault) (G.held kept.vault) old node_then (G.faults old.kept.vault) (G.faults kept.vault) e x r room (s.stepped told r.state r.kept) is
 
-        leaves_then : Leaves G old.kept.vault kept.vault (Either (G.held old.kept.vault) (said_then (state_of (start_in G old) journal)))
+        leaves_then : Leaves G old.kept.vault kept.vault (HeldOr (G.held old.kept.vault) (IsSaidThen (state_of (start_in G old) journal)))
         leaves_then =
             let r : IsRight (start_in G old) (G.held old.kept.vault) old = h.right told in
             step_leaves G (start_in G old) old node_then e x r (s.stepped told r.state r.kept) is s.seat.epoch up (only_before told) (s.leaves told r.state r.kept)
@@ -248,11 +225,11 @@ module _ {V : Type 0} (G : Ghosts V) (old : NodeState V) (kept : ServerState V) 
       step_kept : IsConsistent G node_then
       step_kept = record {
         number = s.seat.same.number ∙ h.number ∙ sym s.seat.server;
-        all = s.seat.same.of_all ∙ h.all;
+        all = s.seat.same.of_all ∙ h.all ∙ sym s.seat.servers;
         sizes = s.seat.sizes ∙ h.sizes ∙ sym s.seat.same.sizes;
         ready = ready_then;
         noted = s.noted h.noted;
-        mute = sent_pushed old.journal journal (entry_of e x) is h.mute (none_sent (G.faults old.kept.vault) (G.faults kept.vault) (G.allowance kept.vault) x.acts s.given.causes);
+        said = sent_pushed old.journal journal (entry_of e x) is h.said (caused_said (G.faults old.kept.vault) (G.faults kept.vault) (G.allowance kept.vault) x.acts s.given.causes);
         right = λ told. subst (λ (o : Start). IsRight o (G.held kept.vault) node_then) (start_then s.seat.server) (right_then (told_before s.seat.same.telling told));
         durable = λ told. subst (λ (o : Start). IsDurable (state_of o journal) (G.may_leave kept.vault)) (start_then s.seat.server) (durable_then (told_before s.seat.same.telling told));
       }
@@ -273,18 +250,18 @@ module _ {V : Type 0} (G : Ghosts V) (old : NodeState V) (kept : ServerState V) 
       still_kept : IsConsistent G node_then
       still_kept = record {
         number = s.seat.same.number ∙ h.number ∙ sym s.seat.server;
-        all = s.seat.same.of_all ∙ h.all;
+        all = s.seat.same.of_all ∙ h.all ∙ sym s.seat.servers;
         sizes = s.seat.sizes ∙ h.sizes ∙ sym s.seat.same.sizes;
         ready = still_ready;
         noted = s.noted h.noted;
-        mute = ap sent_in is ∙ h.mute;
+        said = subst (AllByRecursion (λ (y : Envelope). MaySay y.message)) (sym (ap sent_in is)) h.said;
         right = λ told. subst (λ (o : Start). IsRight o (G.held kept.vault) node_then) (start_then s.seat.server) (right_still (told_before s.seat.same.telling told));
         durable = λ told. subst (λ (o : Start). IsDurable (state_of o journal) (G.may_leave kept.vault)) (start_then s.seat.server) (durable_still (told_before s.seat.same.telling told));
       }
 
-    pub entered_kept : (r : Result (Option Reply) OutOfMemory) → HasRoom old → IsOwnEvent e → IsEntered G o old.kept kept old.journal journal e r → IsConsistent G node_then
-    entered_kept (Ok y) room own (x, s, handed, is) = step_kept x room own s is
-    entered_kept (Err f) room own (s, is) = still_kept f s is
+    pub entered_kept : (r : Result (Option Reply) OutOfMemory) → HasRoom old → IsEntered G o old.kept kept old.journal journal e r → IsConsistent G node_then
+    entered_kept (Ok y) room (x, s, handed, is) = step_kept x room s is
+    entered_kept (Err f) room (s, is) = still_kept f s is
 
     leaves_still : (f : OutOfMemory) → IsStepAs G o old.kept kept e (Err f) → IsTrue (G.tells old.kept.vault)
         → Leaves G old.kept.vault kept.vault (λ c. c ≡ G.held old.kept.vault)
@@ -304,12 +281,12 @@ module _ {V : Type 0} (G : Ghosts V) (old : NodeState V) (kept : ServerState V) 
         kept_or c (inr (inl same)) = same
         kept_or c (inr (inr other)) = absurd other
 
-    pub entered_durable : (r : Result (Option Reply) OutOfMemory) → HasRoom old → IsOwnEvent e → IsEntered G o old.kept kept old.journal journal e r → IsTrue (G.tells old.kept.vault)
-        → MatchResult r (λ _. Leaves G old.kept.vault kept.vault (Either (G.held old.kept.vault) (said_then (state_of (start_in G node_then) journal))))
+    pub entered_durable : (r : Result (Option Reply) OutOfMemory) → HasRoom old → IsEntered G o old.kept kept old.journal journal e r → IsTrue (G.tells old.kept.vault)
+        → MatchResult r (λ _. Leaves G old.kept.vault kept.vault (HeldOr (G.held old.kept.vault) (IsSaidThen (state_of (start_in G node_then) journal))))
         (λ _. Leaves G old.kept.vault kept.vault (λ c. c ≡ G.held old.kept.vault))
-    entered_durable (Ok y) room own (x, s, handed, is) told =
-        subst (λ (o : Start). Leaves G old.kept.vault kept.vault (Either (G.held old.kept.vault) (said_then (state_of o journal)))) (start_then s.seat.server) (leaves_then x room own s is told)
-    entered_durable (Err f) room own (s, is) told = leaves_still f s told
+    entered_durable (Ok y) room (x, s, handed, is) told =
+        subst (λ (o : Start). Leaves G old.kept.vault kept.vault (HeldOr (G.held old.kept.vault) (IsSaidThen (state_of o journal)))) (start_then s.seat.server) (leaves_then x room s is told)
+    entered_durable (Err f) room (s, is) told = leaves_still f s told
 
   -- where it goes on, its sessions and its clock went on with the event
   pub entered_turned : (r : Result (Option Reply) OutOfMemory) → IsEntered G o old.kept kept old.journal journal e r → kept.is_down ≡ false → IfOk r (λ y. HasTurned o old.kept kept e y)
@@ -317,10 +294,10 @@ module _ {V : Type 0} (G : Ghosts V) (old : NodeState V) (kept : ServerState V) 
   entered_turned (Err f) h up = tt
 
   pub entered_answered : (r : Result (Option Reply) OutOfMemory) → IsConsistent G old → IsEntered G o old.kept kept old.journal journal e r
-      → IfOk r (λ y. Answered old.kept.server o (G.tells old.kept.vault) (state_of (start_in G old) old.journal) old.journal journal e y (G.faults old.kept.vault) (G.faults kept.vault) (G.allowance kept.vault) kept.is_down)
+      → IfOk r (λ y. Answered o (G.tells old.kept.vault) (state_of (start_in G old) old.journal) old.journal journal e y (G.faults old.kept.vault) (G.faults kept.vault) (G.allowance kept.vault) kept.is_down)
   entered_answered (Ok y) h (x, s, handed, is) =
       let reply : x.kept ≡ y = sym s.given.handed ∙ handed in
-      subst (λ (z : Option Reply). Answered old.kept.server o (G.tells old.kept.vault) (state_of (start_in G old) old.journal) old.journal journal e z (G.faults old.kept.vault) (G.faults kept.vault) (G.allowance kept.vault) kept.is_down) reply (record {
+      subst (λ (z : Option Reply). Answered o (G.tells old.kept.vault) (state_of (start_in G old) old.journal) old.journal journal e z (G.faults old.kept.vault) (G.faults kept.vault) (G.allowance kept.vault) kept.is_down) reply (record {
         acts = x.acts;
         entry = is;
         cause = λ told. (
@@ -337,3 +314,9 @@ module _ {V : Type 0} (G : Ghosts V) (old : NodeState V) (kept : ServerState V) 
         causes = s.given.causes;
       })
   entered_answered (Err f) h s = tt
+
+-- ---- nothing was asked of the vault
+
+-- a crash leaves what it held
+pub still_leaves : {V : Type 0} (G : Ghosts V) (v : V) → Only (G.held v) (G.may_leave v) → Leaves G v v (λ c. c ≡ G.held v)
+still_leaves G v only = record { crash = only; time = record { each = λ start c was. inl was } }

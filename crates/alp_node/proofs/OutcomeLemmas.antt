@@ -42,16 +42,16 @@ abbrev pub ending_here : {V : Type 0} → ServerState V → TransId → Ending
 ending_here k t = ending_at (epoch_of k.coordinator) t (fate_in k.coordinator t)
 
 module _ {V : Type 0} (a : Account) (held : Contents) (k : ServerState V) (t : TransId) (h : IsAs a held k) where
-  known_is : is_trans_drawn (state_of a) t ≡ is_known k.coordinator t
+  pub known_is : is_trans_drawn (state_of a) t ≡ is_known k.coordinator t
   known_is = λ i. is_drawn (sym h.coordinator.run.server_same i) (sym h.coordinator.run.epoch_same i) (sym h.coordinator.run.count_same i) t.server t.epoch t.counter
 
-  ending_said : ending_of (state_of a) t (a.fates t) ≡ ending_here k t
+  pub ending_said : ending_of (state_of a) t (a.fates t) ≡ ending_here k t
   ending_said =
       ending-state (state_of a) t (a.fates t) ∙ sym (known-ending a.ids.epoch t (fate_in k.coordinator t) (a.fates t) (h.coordinator.fates t))
       ∙ ap (λ (n : ℕ). ending_at n t (fate_in k.coordinator t)) (sym h.coordinator.run.epoch_same)
 
 -- no later time is told of it than the clock
-ending_past : {V : Type 0} (n : ℕ) (serves : Bool) (k : ServerState V) (t : TransId) → IsReady n serves k → TellsUpTo k.clock (reply.Ended (ending_here k t))
+pub ending_past : {V : Type 0} (n : ℕ) (serves : Bool) (k : ServerState V) (t : TransId) → IsReady n serves k → TellsUpTo k.clock (reply.Ended (ending_here k t))
 ending_past n serves k t h = go (fate_in k.coordinator t) (h.times t)
   where
     decided : (b : Bool) (stamp : Stamp) → stamp.ts ≤ k.clock → TellsUpTo k.clock (reply.Ended (cond {A = Ending} b (ending.Committed stamp) ending.Unknown))
@@ -125,7 +125,7 @@ pub outcome_step : {V : Type 0} (G : Ghosts V) (k : ServerState V) (turn : Turn)
 outcome_step G k turn t n x ready is up begun so =
     let r : Reply = reply.Ended (ending_here k t) in
     let after : ServerState _ = record k { sessions = counted_in k.sessions turn r } in
-    plain_step G k after turn (call.Outcome t) x r [] refl refl refl refl up up refl so refl (λ before now allowance. tt)
+    plain_step G k after turn (call.Outcome t) x r [] refl refl refl refl refl up up (λ ns h. h) refl so refl (λ before now allowance. tt)
     (λ m h. counted_ready m (G.serves k.vault) k turn r is (record { inside = tt; times = ending_past m (G.serves k.vault) k t h }) h)
     (λ told a h. outcome_stepped a (G.faults k.vault) (G.faults k.vault) (G.held k.vault) k turn t x h is up begun so)
     (counts_on k after turn is (call.Outcome t) r tt (le_refl k.clock) (ending_past n (G.serves k.vault) k t ready) tt refl)

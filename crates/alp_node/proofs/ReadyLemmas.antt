@@ -1,8 +1,9 @@
 -- a server stays ready, step by step
-use Rattle.std.specs.Prelude.{cond, Bool, true, false, not, ◌==◌, IsTrue, Option, None, Some, is_some}
+use Rattle.std.specs.Prelude.{cond, Bool, true, false, not, ◌==◌, ◌&&◌, IsTrue, Option, None, Some, is_some}
 use Rattle.std.specs.FinMap as map
 use Rattle.std.specs.List.{list_all, AllByRecursion}
-use Rattle.std.proofs.Common.{◌≡◌, ℕ, ◌+◌, ◌^◌, ◌<◌, ◌≤◌, List, [], length, refl, sym, ◌∙◌, ap, subst, arith, le_refl}
+use Rattle.std.proofs.Common.{◌≡◌, ℕ, ◌+◌, ◌^◌, ◌<◌, ◌≤◌, List, [], ◌∷◌, ◌++◌, length, refl, sym, ◌∙◌, ap, subst, arith, le_refl}
+use Rattle.alp_base.specs.declared.ids.JoinNo.{JoinNo}
 use Rattle.alp_base.specs.declared.ids.TransId.{TransId}
 use Rattle.alp_base.specs.declared.key.Resource.{Resource}
 use Rattle.alp_base.specs.declared.key.Resource.TheVariants.{Whole}
@@ -23,31 +24,42 @@ use Rattle.alp_locks.proofs.WakeLemmas.{taken-sound, released-each, released-kno
 use Rattle.alp_queue.specs.Order.{is_of as is_waiter_of}
 use Rattle.alp_queue.specs.declared.waiter.Waiter.{Waiter}
 use Rattle.alp_journal.specs.Ids.{same_trans}
-use Rattle.alp_journal.specs.Coordinator.{client_of, decision_in}
+use Rattle.alp_journal.specs.Answers.{is_counted}
+use Rattle.alp_journal.specs.Coordinator.{decision_in}
 use Rattle.alp_journal.specs.Deeds.{Begins}
 use Rattle.alp_journal.proofs.IdLemmas.{same_trans-itself, same_trans-true}
 use Rattle.alp_coord.specs.declared.coordinator.Coordinator.{Coordinator}
-use Rattle.alp_coord.specs.Coordinators.{IsOf, IsAlong, Comes, Keeps, server_of, epoch_of, count_of, next_id}
+use Rattle.alp_coord.specs.Coordinators.{IsOf, IsAlong, Comes, Keeps, server_of, epoch_of, count_of, next_id, counted_of}
+use Rattle.alp_worker.specs.declared.joins.Joins.{Joins}
+use Rattle.alp_worker.specs.declared.live.LiveJoin.{LiveJoin}
+use Rattle.alp_worker.specs.Lives.{join_at}
 use Rattle.alp_node.specs.Asks.{is_given}
 use Rattle.alp_node.specs.Dead.{cause_in, without_client}
 use Rattle.alp_node.specs.Rooms.{IsWithin}
 use Rattle.alp_node.specs.Sessions.{session_at, with_session}
-use Rattle.alp_node.specs.ServerState.{IsReady, IsCalm}
+use Rattle.alp_node.specs.Noted.{HasReadyRoom, ready_room}
+use Rattle.alp_node.specs.Paired.{ArePaired}
+use Rattle.alp_node.specs.ServerState.{IsAlive, AreAlive, AreJoinsHere, IsReady}
+use Rattle.alp_node.specs.Totals.{LiveMap}
+use Rattle.alp_node.specs.Transactions.{AreDecidedBy}
 use Rattle.alp_node.specs.Releases.{buried, cleared}
 use Rattle.alp_node.specs.Steps.{IsTurn, counted_in}
 use Rattle.alp_node.specs.Turns.{TellsUpTo, IsKeepable}
 use Rattle.alp_node.specs.declared.server_state.ServerState.{ServerState}
 use Rattle.alp_node.specs.declared.dead.DeadPart.{DeadPart}
-use Rattle.alp_node.specs.Waits.{is_of, without_calls_of, outlives, without_dead, stays, live_calls, IsWaitingCall, IsOfCalls, AreWaiting, asks_for}
+use Rattle.alp_node.specs.Waits.{is_of, is_other_at, without_calls_of, without_other_at, outlives, without_dead, stays, live_calls, IsNamed, IsCurrent, IsWaitingCall, IsOfOther, IsOfCalls, AreWaiting, AreVotersIdle, asks_for}
+use Rattle.alp_node.specs.declared.lock_counts.LockCounts.{LockCounts}
 use Rattle.alp_node.specs.declared.lives.Live.{Live}
 use Rattle.alp_node.specs.declared.waits.WaitingCall.{WaitingCall}
 use Rattle.alp_node.proofs.DeadLemmas.{none_left, dead_buried, alive_still}
-use Rattle.alp_node.proofs.WaitLemmas.{call_later, like_itself, filter_apart, IsOwned, all_owned, asks_undead, asks_live, asks_other}
-use Rattle.alp_node.proofs.TransactionLemmas.{LetsGo, own_gone, own_begun, times_begun}
+use Rattle.alp_node.proofs.WaitLemmas.{call_later, like_itself, filter_apart, IsOwned, all_owned, asks_undead, asks_live, asks_other, asks_without_other, each_so, pushed_each, pushed_apart, pushed_asks, file_pushed, idle_fewer}
+use Rattle.alp_node.proofs.NotedLemmas.{room_on, voters_put, voters_gone}
+use Rattle.alp_node.proofs.PairedLemmas.{HasNoJoinOf, own_unjoined, part_has, paired_begun, paired_gone, paired_kept, counted_fewer, counted_gone, counted_begun}
+use Rattle.alp_node.proofs.TransactionLemmas.{LetsGo, times_begun}
 use Rattle.alp_journal.specs.Desk.{Session}
 use Rattle.alp_node.specs.declared.sessions.Sessions.{Sessions}
 use Rattle.alp_node.specs.declared.sessions.Turn.{Turn}
-use Rattle.alp_node.proofs.MapLemmas.{put_most, gone_length, session_kept, places_set, get_put, get_gone, tied_same}
+use Rattle.alp_node.proofs.MapLemmas.{session_kept, places_set, get_put, get_gone, tied_same}
 
 -- ---- sessions
 
@@ -119,6 +131,20 @@ turned u t e = go (same_trans t u) refl
 abbrev pub numbered : {V : Type 0} → ServerState V → ℕ → Resource
 numbered k m = Whole (record { server = k.server; epoch = k.epoch; counter = m })
 
+-- as the client's dead parts go, whoever was not dead is not
+pub alive_buried : (client : ℕ) (dead : List DeadPart) (lives : LiveMap) (joins : List LiveJoin) → AreAlive dead lives joins → AreAlive (without_client client dead) lives joins
+alive_buried client dead lives joins h = record {
+  parts = λ t l is. still l.client t (h.parts t l is);
+  joins = λ j x is. still x.client x.trans (h.joins j x is);
+}
+  where
+    still : (n : ℕ) (t : TransId) → cause_in dead n t ≡ None → cause_in (without_client client dead) n t ≡ None
+    still n t none = alive_still (n == client) (cause_in dead n t) (cause_in (without_client client dead) n t) (dead_buried client dead n t) none
+
+-- the joins of a server are within more steps
+pub joins_later : (server epoch m n : ℕ) (js : Joins) → m ≤ n → AreJoinsHere server epoch m js → AreJoinsHere server epoch n js
+joins_later server epoch m n js more h = record { server = h.server; epoch = h.epoch; drawn = omega (arith, more, h.drawn); numbered = h.numbered; once = h.once; single = h.single; times = h.times }
+
 entered_unheld : (t : Table) (u v : TransId) (r : Resource) → holding t.held v r ≡ None → holding (entered t u).held v r ≡ None
 entered_unheld t u v r none = ap (λ h. map.get h r) (entering-keeps-held t u v) ∙ none
 
@@ -132,19 +158,18 @@ module _ {V : Type 0} (n : ℕ) (serves : Bool) (k : ServerState V) where
     taken = h.taken;
     waits = h.waits;
     known = h.known;
-    own = h.own;
+    paired = h.paired;
+    idle = h.idle;
     opens = λ t l is. (let low : l.part.last ≤ n = h.opens t l is in omega arith);
     opened = h.opened;
-    callers = h.callers;
     alive = h.alive;
-    causes = h.causes;
     places = places_set k.sessions client (record { who = name; last = 1; reply = reply.Welcome k.epoch }) h.places;
     calls = calls_set k.sessions client (record { who = name; last = 1; reply = reply.Welcome k.epoch }) n h.places le h.calls (omega arith);
     replies = replies_set k.sessions client (record { who = name; last = 1; reply = reply.Welcome k.epoch }) k.clock k.clock h.places le (le_refl k.clock) h.replies (record { inside = tt; times = tt });
     drawn = omega (arith, h.drawn);
     given = omega (arith, h.given);
-    few = omega (arith, h.few);
     most = h.most;
+    fits = h.fits;
     within = h.within;
     sized = h.sized;
     clock = h.clock;
@@ -152,6 +177,7 @@ module _ {V : Type 0} (n : ℕ) (serves : Bool) (k : ServerState V) where
     last = h.last;
     unheld = h.unheld;
     seat = h.seat;
+    joins = joins_later k.server k.epoch n (n + 1) k.joins (omega arith) h.joins;
     times = h.times;
   }
 
@@ -164,19 +190,18 @@ module _ {V : Type 0} (n : ℕ) (serves : Bool) (k : ServerState V) where
     taken = h.taken;
     waits = h.waits;
     known = h.known;
-    own = h.own;
+    paired = h.paired;
+    idle = h.idle;
     opens = λ t l there. (let low : l.part.last ≤ n = h.opens t l there in omega arith);
     opened = h.opened;
-    callers = h.callers;
     alive = h.alive;
-    causes = h.causes;
     places = places_set k.sessions turn.client (record { who = turn.who; last = turn.number; reply = r }) h.places;
     calls = calls_set k.sessions turn.client (record { who = turn.who; last = turn.number; reply = r }) n h.places is.client h.calls (turn_within k.sessions turn n is h.calls);
     replies = replies_set k.sessions turn.client (record { who = turn.who; last = turn.number; reply = r }) k.clock k.clock h.places is.client (le_refl k.clock) h.replies keeps;
     drawn = omega (arith, h.drawn);
     given = omega (arith, h.given);
-    few = omega (arith, h.few);
     most = h.most;
+    fits = h.fits;
     within = h.within;
     sized = h.sized;
     clock = h.clock;
@@ -184,6 +209,7 @@ module _ {V : Type 0} (n : ℕ) (serves : Bool) (k : ServerState V) where
     last = h.last;
     unheld = h.unheld;
     seat = h.seat;
+    joins = joins_later k.server k.epoch n (n + 1) k.joins (omega arith) h.joins;
     times = h.times;
   }
 
@@ -196,19 +222,18 @@ module _ {V : Type 0} (n : ℕ) (serves : Bool) (k : ServerState V) where
     taken = h.taken;
     waits = h.waits;
     known = h.known;
-    own = h.own;
+    paired = h.paired;
+    idle = h.idle;
     opens = λ t l is. (let low : l.part.last ≤ n = h.opens t l is in omega arith);
     opened = h.opened;
-    callers = h.callers;
     alive = h.alive;
-    causes = h.causes;
     places = h.places;
     calls = λ c w is. (let low : w.last ≤ n = h.calls c w is in omega arith);
     replies = h.replies;
     drawn = omega (arith, h.drawn);
     given = omega (arith, h.given);
-    few = omega (arith, h.few);
     most = h.most;
+    fits = h.fits;
     within = h.within;
     sized = h.sized;
     clock = h.clock;
@@ -216,15 +241,42 @@ module _ {V : Type 0} (n : ℕ) (serves : Bool) (k : ServerState V) where
     last = h.last;
     unheld = h.unheld;
     seat = h.seat;
+    joins = joins_later k.server k.epoch n (n + 1) k.joins (omega arith) h.joins;
     times = h.times;
   }
 
-  -- a transaction is gone and its locks go, but nobody is woken yet, and the coordinator and the clock go on
-  abbrev pub gone_kept : TransId → Coordinator → ℕ → ServerState V
-  gone_kept t c clock = record k { lives = map.remove k.lives t; locks = record (released k.locks t) { woken = [] }; coordinator = c; clock = clock }
+  -- a transaction is gone and its locks go, but nobody is woken yet, and the coordinator, the joins and the clock go on
+  abbrev pub gone_kept : TransId → Coordinator → Joins → ℕ → ServerState V
+  gone_kept t c js clock = record k { lives = map.remove k.lives t; locks = record (released k.locks t) { woken = [] }; coordinator = c; joins = js; clock = clock }
 
-  pub gone_ready : (t : TransId) (c : Coordinator) (clock : ℕ) → k.clock ≤ clock → clock ≤ 2 ^ 62 → LetsGo k.coordinator c t clock → IsReady n serves k → IsReady n serves (gone_kept t c clock)
-  gone_ready t c clock later low lets h = record {
+  -- what holds of these then
+  pub record LetsPart (t : TransId) (c : Coordinator) (js : Joins) (clock : ℕ) : Type 0 where
+    pub along : IsAlong k.coordinator c
+    pub times : AreDecidedBy clock c
+    pub joins : AreJoinsHere k.server k.epoch n js
+    pub paired : ArePaired k.servers k.server c js (map.remove k.lives t)
+    pub idle : AreVotersIdle js.lives k.waits
+    pub alive : (j : JoinNo) (x : LiveJoin) → join_at js.lives j ≡ Some x → IsAlive k.dead x.client x.trans
+    pub most : counted_of c + length js.lives ≤ 64
+    pub fits : HasReadyRoom k.sizes (ready_room (map.remove k.lives t) js.lives)
+
+  -- one of this server runs no more
+  pub own_lets : (t : TransId) (c : Coordinator) (clock : ℕ) → LetsGo k.coordinator c t clock → t.server ≡ k.server → IsReady n serves k → LetsPart t c k.joins clock
+  own_lets t c clock lets own h =
+      let none : HasNoJoinOf k.joins.lives t = own_unjoined k.servers k.server k.coordinator k.joins k.lives h.paired t own in
+      record {
+        along = lets.along;
+        times = lets.times;
+        joins = h.joins;
+        paired = paired_gone k.servers k.server k.coordinator k.joins k.lives h.paired c t clock lets none;
+        idle = h.idle;
+        alive = h.alive.joins;
+        most = (let fewer : counted_of c ≤ counted_of k.coordinator = counted_gone k.coordinator c t clock lets in omega (arith, fewer, h.most));
+        fits = subst (HasReadyRoom k.sizes) (sym (room_on k.lives (map.remove k.lives t) k.joins.lives h.joins.once (voters_gone k.lives t k.joins.lives (λ j x is voted. none j x is)))) h.fits;
+      }
+
+  pub gone_ready : (t : TransId) (c : Coordinator) (js : Joins) (clock : ℕ) → k.clock ≤ clock → clock ≤ 2 ^ 62 → LetsPart t c js clock → IsReady n serves k → IsReady n serves (gone_kept t c js clock)
+  gone_ready t c js clock later low lets h = record {
     serving = h.serving;
     halted = h.halted;
     sound = taken-sound (released k.locks t) (released-sound k.locks t h.sound);
@@ -233,7 +285,6 @@ module _ {V : Type 0} (n : ℕ) (serves : Bool) (k : ServerState V) where
       calls = each-more (IsWaitingCall k.server k.epoch k.given (count_of k.coordinator) k.sizes k.lives) (IsWaitingCall k.server k.epoch k.given (count_of c) k.sizes (map.remove k.lives t))
           (λ w. call_later k.server k.epoch k.given k.given (le_refl k.given) k.sizes (count_of k.coordinator) (count_of c) (omega (arith, lets.along.count_same)) k.lives (map.remove k.lives t) w
           (λ z counted o l is. (l, kept w.trans (same_trans w.trans t) l (λ there. there) (sym (get_gone k.lives t w.trans) ∙ is), like_itself l))) k.waits h.waits.calls;
-      files = h.waits.files;
       apart = h.waits.apart;
       queued = each-more (λ (x : Waiter). IsOfCalls k.server k.epoch k.given k.lives k.waits x × (not (is_waiter_of t x) ≡ true)) (IsOfCalls k.server k.epoch k.given (map.remove k.lives t) k.waits)
           (λ x o. record { live = stays_live x.trans (turned t x.trans (sym (tied_same t x.trans) ∙ not-true (is_waiter_of t x) o.1)) o.0.live; asks = o.0.asks; beyond = o.0.beyond })
@@ -241,20 +292,20 @@ module _ {V : Type 0} (n : ℕ) (serves : Bool) (k : ServerState V) where
     };
     known = λ u l is. go u (same_trans u t) refl l (sym (get_gone k.lives t u) ∙ is);
     seat = (lets.along.server_same ∙ h.seat.0, lets.along.epoch_same ∙ h.seat.1);
-    own = own_gone k.coordinator c t clock k.lives lets h.own;
+    joins = lets.joins;
+    paired = lets.paired;
+    idle = lets.idle;
     opens = λ u l is. kept u (same_trans u t) l (λ there. h.opens u l there) (sym (get_gone k.lives t u) ∙ is);
     opened = λ u l is. kept u (same_trans u t) l (λ there. h.opened u l there) (sym (get_gone k.lives t u) ∙ is);
-    callers = λ u l is. kept u (same_trans u t) l (λ there. h.callers u l there) (sym (get_gone k.lives t u) ∙ is);
-    alive = λ u l is. kept u (same_trans u t) l (λ there. h.alive u l there) (sym (get_gone k.lives t u) ∙ is);
-    causes = h.causes;
+    alive = record { parts = λ u l is. kept u (same_trans u t) l (λ there. h.alive.parts u l there) (sym (get_gone k.lives t u) ∙ is); joins = lets.alive };
     places = h.places;
     calls = h.calls;
     replies = λ client w is. keepable_later k.clock clock w.reply later (h.replies client w is);
     drawn = omega (arith, lets.along.count_same, h.drawn);
     times = lets.times;
     given = h.given;
-    few = (let fewer : map.len (map.remove k.lives t) ≤ map.len k.lives = gone_length k.lives t in omega (arith, fewer, h.few));
-    most = (let fewer : map.len (map.remove k.lives t) ≤ map.len k.lives = gone_length k.lives t in omega (arith, fewer, h.most));
+    most = lets.most;
+    fits = lets.fits;
     within = λ u l is. kept u (same_trans u t) l (λ there. h.within u l there) (sym (get_gone k.lives t u) ∙ is);
     sized = h.sized;
     clock = low;
@@ -282,46 +333,49 @@ module _ {V : Type 0} (n : ℕ) (serves : Bool) (k : ServerState V) where
 
     -- the client's calls of dead parts go, and then those of no live part
     abbrev waits_then : List WaitingCall
-    waits_then = live_calls turn.client (map.insert k.lives t l) (without_dead turn.client k.dead k.waits)
+    waits_then = live_calls turn.client c k.joins (without_dead turn.client k.dead k.waits)
 
     abbrev pub begun_kept : ServerState V
     begun_kept = record k { sessions = counted_in k.sessions turn (reply.Begun t); clock = clock; coordinator = c; dead = without_client turn.client k.dead; lives = map.insert k.lives t l; waits = waits_then; locks = entered k.locks t }
 
-    pub begin_ready : IsTurn k.sessions turn → l.client ≡ turn.client → IsOf (server_of k.coordinator) (epoch_of k.coordinator) (count_of k.coordinator + 1) c → ((who : List ℕ) (seen : ℕ) → Comes (Begins t turn.client who seen) k.coordinator c)
-        → is_some l.who ≡ true → own_of l.part ≡ no_opens → IsWithin k.sizes l → map.len k.lives < 64 → k.clock ≤ clock → clock ≤ 2 ^ 62 → IsReady n serves k → IsReady (n + 1) serves begun_kept
-    begin_ready is its one comes caller none fresh less later low h = record {
+    pub begin_ready : IsTurn k.sessions turn → l.client ≡ turn.client → l.join ≡ None → IsOf (server_of k.coordinator) (epoch_of k.coordinator) (count_of k.coordinator + 1) c → ((who : List ℕ) (seen : ℕ) → Comes (Begins t turn.client who seen) k.coordinator c)
+        → is_some l.who ≡ true → own_of l.part ≡ no_opens → IsWithin k.sizes l → counted_of k.coordinator + length k.joins.lives < 64 → k.clock ≤ clock → clock ≤ 2 ^ 62 → IsReady n serves k → IsReady (n + 1) serves begun_kept
+    begin_ready is its joinless one comes caller none fresh less later low h = record {
       serving = h.serving;
       halted = h.halted;
       sound = entered-sound k.locks t h.sound;
       taken = h.taken;
       waits = record {
-        calls = each-filter Called (stays turn.client (map.insert k.lives t l)) (without_dead turn.client k.dead k.waits) (each-filter Called (outlives turn.client k.dead) k.waits calls_then);
-        files = each-filter (λ (w : WaitingCall). is_some w.counts ≡ true) (stays turn.client (map.insert k.lives t l)) (without_dead turn.client k.dead k.waits)
-            (each-filter (λ (w : WaitingCall). is_some w.counts ≡ true) (outlives turn.client k.dead) k.waits h.waits.files);
-        apart = filter_apart (stays turn.client (map.insert k.lives t l)) (without_dead turn.client k.dead k.waits) (filter_apart (outlives turn.client k.dead) k.waits h.waits.apart);
+        calls = each-filter Called (stays turn.client c k.joins) (without_dead turn.client k.dead k.waits) (each-filter Called (outlives turn.client k.dead) k.waits calls_then);
+        apart = filter_apart (stays turn.client c k.joins) (without_dead turn.client k.dead k.waits) (filter_apart (outlives turn.client k.dead) k.waits h.waits.apart);
         queued = each-more (IsOfCalls k.server k.epoch k.given k.lives k.waits) (IsOfCalls k.server k.epoch k.given (map.insert k.lives t l) waits_then)
             (λ x o. record {
               live = live_then x.trans o.live;
-              asks = asks_live turn.client (map.insert k.lives t l) (without_dead turn.client k.dead k.waits) x.trans (live_then x.trans o.live) owned_then
-                  (asks_undead turn.client k.dead k.lives k.waits x.trans (λ m there. h.alive x.trans m there) o.live (all_owned k.server k.epoch k.given (count_of k.coordinator) k.sizes k.lives k.waits h.waits.calls) o.asks);
+              asks = asks_live turn.client c k.joins (map.insert k.lives t l) (without_dead turn.client k.dead k.waits) x.trans
+                  (λ m there. part_has k.servers k.server c k.joins (map.insert k.lives t l) paired_then x.trans m there) (live_then x.trans o.live) owned_then
+                  (asks_undead turn.client k.dead k.lives k.waits x.trans (λ m there. h.alive.parts x.trans m there) o.live (all_owned k.server k.epoch k.given (count_of k.coordinator) k.sizes k.lives k.waits h.waits.calls) o.asks);
               beyond = o.beyond;
             }) k.locks.waiting h.waits.queued;
       };
       known = λ u x there. known_so u (same_trans u t) refl x (sym (get_put k.lives t l u) ∙ there);
       seat = (one.server_same ∙ h.seat.0, one.epoch_same ∙ h.seat.1);
-      own = own_begun turn.client 0 turn.who k.coordinator c k.lives l its (comes turn.who 0) h.own;
+      joins = joins_later k.server k.epoch n (n + 1) k.joins (omega arith) h.joins;
+      paired = paired_then;
+      idle = idle_fewer (stays turn.client c k.joins) k.joins.lives (without_dead turn.client k.dead k.waits) (idle_fewer (outlives turn.client k.dead) k.joins.lives k.waits h.idle);
       opens = λ u x there. opens_so u (same_trans u t) x (sym (get_put k.lives t l u) ∙ there);
       opened = λ u x there. opened_so u (same_trans u t) x (sym (get_put k.lives t l u) ∙ there);
-      callers = λ u x there. callers_so u (same_trans u t) x (sym (get_put k.lives t l u) ∙ there);
-      alive = λ u x there. alive_so u (same_trans u t) x (sym (get_put k.lives t l u) ∙ there);
-      causes = each-filter (IsCalm k.server) (λ (d : DeadPart). not (d.client == turn.client)) k.dead h.causes;
+      alive = record {
+        parts = λ u x there. alive_so u (same_trans u t) x (sym (get_put k.lives t l u) ∙ there);
+        joins = (alive_buried turn.client k.dead k.lives k.joins.lives h.alive).joins;
+      };
       places = places_set k.sessions turn.client (record { who = turn.who; last = turn.number; reply = reply.Begun t }) h.places;
       calls = calls_set k.sessions turn.client (record { who = turn.who; last = turn.number; reply = reply.Begun t }) n h.places is.client h.calls (turn_within k.sessions turn n is h.calls);
       replies = replies_set k.sessions turn.client (record { who = turn.who; last = turn.number; reply = reply.Begun t }) k.clock clock h.places is.client later h.replies (record { inside = tt; times = tt });
       drawn = omega (arith, one.count_same, h.drawn);
       given = omega (arith, h.given);
-      few = (let more : map.len (map.insert k.lives t l) ≤ map.len k.lives + 1 = put_most k.lives t l in omega (arith, more, h.few));
-      most = (let more : map.len (map.insert k.lives t l) ≤ map.len k.lives + 1 = put_most k.lives t l in omega (arith, more, less));
+      most = (let more : counted_of c ≤ counted_of k.coordinator + 1 = counted_begun turn.client 0 turn.who k.coordinator c (comes turn.who 0) in omega (arith, more, less));
+      fits = subst (HasReadyRoom k.sizes) (sym (room_on k.lives (map.insert k.lives t l) k.joins.lives h.joins.once (voters_put k.lives t l k.joins.lives
+          (λ j x is voted. own_unjoined k.servers k.server k.coordinator k.joins k.lives h.paired t h.seat.0 j x is)))) h.fits;
       within = λ u x there. within_so u (same_trans u t) x (sym (get_put k.lives t l u) ∙ there);
       sized = h.sized;
       clock = low;
@@ -331,19 +385,21 @@ module _ {V : Type 0} (n : ℕ) (serves : Bool) (k : ServerState V) where
       unheld = λ u m high. entered_unheld k.locks t u (numbered k m) (h.unheld u m high);
     }
       where
-        callers_so : (u : TransId) (b : Bool) (x : Live) → cond {A = Option Live} b (Some l) (map.get k.lives u) ≡ Some x → is_some x.who ≡ true
-        callers_so u true x there = ap (λ (y : Live). is_some y.who) (sym (same_live l x there)) ∙ caller
-        callers_so u false x there = h.callers u x there
+        paired_then : ArePaired k.servers k.server c k.joins (map.insert k.lives t l)
+        paired_then = paired_begun k.servers k.server k.coordinator k.joins k.lives h.paired turn.client 0 turn.who c l h.seat.0 its joinless caller (comes turn.who 0)
 
         alive_so : (u : TransId) (b : Bool) (x : Live) → cond {A = Option Live} b (Some l) (map.get k.lives u) ≡ Some x → cause_in (without_client turn.client k.dead) x.client u ≡ None
         alive_so u true x there = none_left k.dead x.client turn.client u (ap (λ (y : Live). y.client) (sym (same_live l x there)) ∙ its)
-        alive_so u false x there = alive_still (x.client == turn.client) (cause_in k.dead x.client u) (cause_in (without_client turn.client k.dead) x.client u) (dead_buried turn.client k.dead x.client u) (h.alive u x there)
+        alive_so u false x there = alive_still (x.client == turn.client) (cause_in k.dead x.client u) (cause_in (without_client turn.client k.dead) x.client u) (dead_buried turn.client k.dead x.client u) (h.alive.parts u x there)
 
         Called : WaitingCall → Type 0
         Called = IsWaitingCall k.server k.epoch k.given (count_of c) k.sizes (map.insert k.lives t l)
 
-        older : (u : TransId) (b : Bool) → same_trans u t ≡ b → u.counter ≤ count_of k.coordinator → (x : Live) → cond {A = Option Live} b (Some l) (map.get k.lives u) ≡ Some x → map.get k.lives u ≡ Some x
-        older u true e before x there = (let counter : u.counter ≡ count_of k.coordinator + 1 = ap (λ (v : TransId). v.counter) (same_trans-true u t e) in absurd (omega (arith, counter, before)))
+        older : (u : TransId) (b : Bool) → same_trans u t ≡ b → (u.server ≡ k.server → u.counter ≤ count_of k.coordinator) → (x : Live) → cond {A = Option Live} b (Some l) (map.get k.lives u) ≡ Some x → map.get k.lives u ≡ Some x
+        older u true e before x there =
+            let counter : u.counter ≡ count_of k.coordinator + 1 = ap (λ (v : TransId). v.counter) (same_trans-true u t e) in
+            let low : u.counter ≤ count_of k.coordinator = before (ap (λ (v : TransId). v.server) (same_trans-true u t e) ∙ h.seat.0) in
+            absurd (omega (arith, counter, low))
         older u false e before x there = there
 
         calls_then : AllByRecursion Called k.waits
@@ -389,20 +445,20 @@ module _ {V : Type 0} (n : ℕ) (serves : Bool) (k : ServerState V) where
     waits = subst (λ (m : ℕ). AreWaiting k.server k.epoch k.given m k.sizes k.lives k.waits k.locks.waiting) (sym along.count_same) h.waits;
     known = h.known;
     seat = (along.server_same ∙ h.seat.0, along.epoch_same ∙ h.seat.1);
-    own = λ t. ap client_of (keeps t) ∙ h.own t;
+    joins = h.joins;
+    paired = paired_kept k.servers k.server k.coordinator k.joins k.lives h.paired c keeps;
+    idle = h.idle;
     opens = h.opens;
     opened = h.opened;
-    callers = h.callers;
     alive = h.alive;
-    causes = h.causes;
     places = h.places;
     calls = h.calls;
     replies = h.replies;
     drawn = omega (arith, along.count_same, h.drawn);
     times = λ t stamp js is. h.times t stamp js (ap decision_in (sym (keeps t)) ∙ is);
     given = h.given;
-    few = h.few;
-    most = h.most;
+    most = (let fewer : counted_of c ≤ counted_of k.coordinator = counted_fewer k.coordinator c (λ t counts. ap is_counted (sym (keeps t)) ∙ counts) in omega (arith, fewer, h.most));
+    fits = h.fits;
     within = h.within;
     sized = h.sized;
     clock = h.clock;
@@ -412,27 +468,26 @@ module _ {V : Type 0} (n : ℕ) (serves : Bool) (k : ServerState V) where
   }
 
   -- what becomes of the calls that wait does not matter to the rest
-  pub waits_ready : (ws : List WaitingCall) → AreWaiting k.server k.epoch k.given (count_of k.coordinator) k.sizes k.lives ws k.locks.waiting → IsReady n serves k → IsReady n serves (record k { waits = ws })
-  waits_ready ws all h = record {
+  pub waits_ready : (ws : List WaitingCall) → AreWaiting k.server k.epoch k.given (count_of k.coordinator) k.sizes k.lives ws k.locks.waiting → AreVotersIdle k.joins.lives ws → IsReady n serves k → IsReady n serves (record k { waits = ws })
+  waits_ready ws all idle h = record {
     serving = h.serving;
     halted = h.halted;
     sound = h.sound;
     taken = h.taken;
     waits = all;
     known = h.known;
-    own = h.own;
+    paired = h.paired;
+    idle = idle;
     opens = h.opens;
     opened = h.opened;
-    callers = h.callers;
     alive = h.alive;
-    causes = h.causes;
     places = h.places;
     calls = h.calls;
     replies = h.replies;
     drawn = h.drawn;
     given = h.given;
-    few = h.few;
     most = h.most;
+    fits = h.fits;
     within = h.within;
     sized = h.sized;
     clock = h.clock;
@@ -440,6 +495,7 @@ module _ {V : Type 0} (n : ℕ) (serves : Bool) (k : ServerState V) where
     last = h.last;
     unheld = h.unheld;
     seat = h.seat;
+    joins = h.joins;
     times = h.times;
   }
 
@@ -447,11 +503,10 @@ module _ {V : Type 0} (n : ℕ) (serves : Bool) (k : ServerState V) where
   pub without_ready : (client : ℕ) (t : TransId) → AllByRecursion (λ (x : Waiter). same_trans x.trans t ≡ false) k.locks.waiting → IsReady n serves k → IsReady n serves (record k { waits = without_calls_of client t k.waits })
   without_ready client t others h = waits_ready (without_calls_of client t k.waits) (record {
     calls = each-filter (IsWaitingCall k.server k.epoch k.given (count_of k.coordinator) k.sizes k.lives) (λ w. not (is_of client t w)) k.waits h.waits.calls;
-    files = each-filter (λ (w : WaitingCall). is_some w.counts ≡ true) (λ w. not (is_of client t w)) k.waits h.waits.files;
     apart = filter_apart (λ w. not (is_of client t w)) k.waits h.waits.apart;
     queued = each-both (λ (x : Waiter). same_trans x.trans t ≡ false) (IsOfCalls k.server k.epoch k.given k.lives k.waits) (IsOfCalls k.server k.epoch k.given k.lives (without_calls_of client t k.waits))
         (λ x e o. record { live = o.live; asks = asks_other client t k.waits x.trans e o.asks; beyond = o.beyond }) k.locks.waiting others h.waits.queued;
-  }) h
+  }) (idle_fewer (λ w. not (is_of client t w)) k.joins.lives k.waits h.idle) h
 
   -- who waits in the table is live
   pub live_others : (t : TransId) → map.get k.lives t ≡ None → IsReady n serves k → AllByRecursion (λ (x : Waiter). same_trans x.trans t ≡ false) k.locks.waiting
@@ -473,48 +528,76 @@ module _ {V : Type 0} (n : ℕ) (serves : Bool) (k : ServerState V) where
   pub undead_calls_ready : (client : ℕ) → IsReady n serves k → IsReady n serves (record k { waits = without_dead client k.dead k.waits })
   undead_calls_ready client h = waits_ready (without_dead client k.dead k.waits) (record {
     calls = each-filter (IsWaitingCall k.server k.epoch k.given (count_of k.coordinator) k.sizes k.lives) (outlives client k.dead) k.waits h.waits.calls;
-    files = each-filter (λ (w : WaitingCall). is_some w.counts ≡ true) (outlives client k.dead) k.waits h.waits.files;
     apart = filter_apart (outlives client k.dead) k.waits h.waits.apart;
     queued = each-more (IsOfCalls k.server k.epoch k.given k.lives k.waits) (IsOfCalls k.server k.epoch k.given k.lives (without_dead client k.dead k.waits))
         (λ x o. record {
           live = o.live;
-          asks = asks_undead client k.dead k.lives k.waits x.trans (λ l there. h.alive x.trans l there) o.live (all_owned k.server k.epoch k.given (count_of k.coordinator) k.sizes k.lives k.waits h.waits.calls) o.asks;
+          asks = asks_undead client k.dead k.lives k.waits x.trans (λ l there. h.alive.parts x.trans l there) o.live (all_owned k.server k.epoch k.given (count_of k.coordinator) k.sizes k.lives k.waits h.waits.calls) o.asks;
           beyond = o.beyond;
         }) k.locks.waiting h.waits.queued;
-  }) h
+  }) (idle_fewer (outlives client k.dead) k.joins.lives k.waits h.idle) h
 
   -- and those that are of no live part
-  pub live_calls_ready : (client : ℕ) → IsReady n serves k → IsReady n serves (record k { waits = live_calls client k.lives k.waits })
-  live_calls_ready client h = waits_ready (live_calls client k.lives k.waits) (record {
-    calls = each-filter (IsWaitingCall k.server k.epoch k.given (count_of k.coordinator) k.sizes k.lives) (stays client k.lives) k.waits h.waits.calls;
-    files = each-filter (λ (w : WaitingCall). is_some w.counts ≡ true) (stays client k.lives) k.waits h.waits.files;
-    apart = filter_apart (stays client k.lives) k.waits h.waits.apart;
-    queued = each-more (IsOfCalls k.server k.epoch k.given k.lives k.waits) (IsOfCalls k.server k.epoch k.given k.lives (live_calls client k.lives k.waits))
-        (λ x o. record { live = o.live; asks = asks_live client k.lives k.waits x.trans o.live (all_owned k.server k.epoch k.given (count_of k.coordinator) k.sizes k.lives k.waits h.waits.calls) o.asks; beyond = o.beyond }) k.locks.waiting h.waits.queued;
-  }) h
+  pub live_calls_ready : (client : ℕ) → IsReady n serves k → IsReady n serves (record k { waits = live_calls client k.coordinator k.joins k.waits })
+  live_calls_ready client h = waits_ready (live_calls client k.coordinator k.joins k.waits) (record {
+    calls = each-filter (IsWaitingCall k.server k.epoch k.given (count_of k.coordinator) k.sizes k.lives) (stays client k.coordinator k.joins) k.waits h.waits.calls;
+    apart = filter_apart (stays client k.coordinator k.joins) k.waits h.waits.apart;
+    queued = each-more (IsOfCalls k.server k.epoch k.given k.lives k.waits) (IsOfCalls k.server k.epoch k.given k.lives (live_calls client k.coordinator k.joins k.waits))
+        (λ x o. record {
+          live = o.live;
+          asks = asks_live client k.coordinator k.joins k.lives k.waits x.trans (λ l there. part_has k.servers k.server k.coordinator k.joins k.lives h.paired x.trans l there) o.live
+              (all_owned k.server k.epoch k.given (count_of k.coordinator) k.sizes k.lives k.waits h.waits.calls) o.asks;
+          beyond = o.beyond;
+        }) k.locks.waiting h.waits.queued;
+  }) (idle_fewer (stays client k.coordinator k.joins) k.joins.lives k.waits h.idle) h
+
+  -- a Join or a Finish of the client goes
+  pub without_other_ready : (client number : ℕ) → IsReady n serves k → IsReady n serves (record k { waits = without_other_at client number k.waits })
+  without_other_ready client number h = waits_ready (without_other_at client number k.waits) (record {
+    calls = each-filter (IsWaitingCall k.server k.epoch k.given (count_of k.coordinator) k.sizes k.lives) (λ w. not (is_other_at client number w)) k.waits h.waits.calls;
+    apart = filter_apart (λ w. not (is_other_at client number w)) k.waits h.waits.apart;
+    queued = each-more (IsOfCalls k.server k.epoch k.given k.lives k.waits) (IsOfCalls k.server k.epoch k.given k.lives (without_other_at client number k.waits))
+        (λ x o. record { live = o.live; asks = asks_without_other client number k.waits x.trans o.asks; beyond = o.beyond }) k.locks.waiting h.waits.queued;
+  }) (idle_fewer (λ w. not (is_other_at client number w)) k.joins.lives k.waits h.idle) h
+
+  -- a Join or a Finish waits besides
+  pub other_waits_ready : (w : WaitingCall) → w.counts ≡ None → IsNamed w → IsCurrent k.epoch w.call → IsReady n serves k → IsReady n serves (record k { waits = k.waits ++ w ∷ [] })
+  other_waits_ready w none named current h = waits_ready (k.waits ++ w ∷ []) (record {
+    calls = pushed_each (IsWaitingCall k.server k.epoch k.given (count_of k.coordinator) k.sizes k.lives) k.waits w h.waits.calls
+        (record { named = named; current = current; file = λ z counted. (let wrong : None ≡ Some z = sym none ∙ counted in cc) });
+    apart = pushed_apart k.waits w h.waits.apart (each_so (λ v. IsOfOther v w) (λ v. no_file v) k.waits);
+    queued = each-more (IsOfCalls k.server k.epoch k.given k.lives k.waits) (IsOfCalls k.server k.epoch k.given k.lives (k.waits ++ w ∷ []))
+        (λ x o. record { live = o.live; asks = pushed_asks k.waits w x.trans o.asks; beyond = o.beyond }) k.locks.waiting h.waits.queued;
+  }) (λ j x is voted. file_pushed x.trans k.waits w (ap (λ (z : Option LockCounts). is_some z && same_trans w.trans x.trans) none) ∙ h.idle j x is voted) h
+    where
+      neither : (b : Bool) → (b && false) ≡ false
+      neither true = refl
+      neither false = refl
+
+      no_file : (v : WaitingCall) → IsOfOther v w
+      no_file v = ap (λ (z : Option LockCounts). is_some v.counts && (is_some z && same_trans w.trans v.trans)) none ∙ neither (is_some v.counts)
 
   -- whom else it remembers as dead does not matter
-  pub buried_ready : (ds : List DeadPart) → ((t : TransId) (l : Live) → map.get k.lives t ≡ Some l → cause_in ds l.client t ≡ None) → AllByRecursion (IsCalm k.server) ds → IsReady n serves k → IsReady n serves (record k { dead = ds })
-  buried_ready ds alive causes h = record {
+  pub buried_ready : (ds : List DeadPart) → AreAlive ds k.lives k.joins.lives → IsReady n serves k → IsReady n serves (record k { dead = ds })
+  buried_ready ds alive h = record {
     serving = h.serving;
     halted = h.halted;
     sound = h.sound;
     taken = h.taken;
     waits = h.waits;
     known = h.known;
-    own = h.own;
+    paired = h.paired;
+    idle = h.idle;
     opens = h.opens;
     opened = h.opened;
-    callers = h.callers;
     alive = alive;
-    causes = causes;
     places = h.places;
     calls = h.calls;
     replies = h.replies;
     drawn = h.drawn;
     given = h.given;
-    few = h.few;
     most = h.most;
+    fits = h.fits;
     within = h.within;
     sized = h.sized;
     clock = h.clock;
@@ -522,6 +605,7 @@ module _ {V : Type 0} (n : ℕ) (serves : Bool) (k : ServerState V) where
     last = h.last;
     unheld = h.unheld;
     seat = h.seat;
+    joins = h.joins;
     times = h.times;
   }
 
@@ -537,19 +621,18 @@ ready_with n before serves k v on up h = record {
   taken = h.taken;
   waits = h.waits;
   known = h.known;
-  own = h.own;
+  paired = h.paired;
+  idle = h.idle;
   opens = h.opens;
   opened = h.opened;
-  callers = h.callers;
   alive = h.alive;
-  causes = h.causes;
   places = h.places;
   calls = h.calls;
   replies = h.replies;
   drawn = h.drawn;
   given = h.given;
-  few = h.few;
   most = h.most;
+  fits = h.fits;
   within = h.within;
   sized = h.sized;
   clock = h.clock;
@@ -557,6 +640,7 @@ ready_with n before serves k v on up h = record {
   last = h.last;
   unheld = h.unheld;
   seat = h.seat;
+  joins = h.joins;
   times = h.times;
 }
 
@@ -572,19 +656,18 @@ down_ready n before serves k v off h =
       taken = c.taken;
       waits = c.waits;
       known = c.known;
-      own = c.own;
+      paired = c.paired;
+      idle = c.idle;
       opens = c.opens;
       opened = c.opened;
-      callers = c.callers;
       alive = c.alive;
-      causes = c.causes;
       places = c.places;
       calls = c.calls;
       replies = c.replies;
       drawn = c.drawn;
       given = c.given;
-      few = c.few;
       most = c.most;
+      fits = c.fits;
       within = c.within;
       sized = c.sized;
       clock = c.clock;
@@ -592,6 +675,7 @@ down_ready n before serves k v off h =
       last = c.last;
       unheld = c.unheld;
       seat = c.seat;
+      joins = c.joins;
       times = c.times;
     }
 
@@ -600,8 +684,7 @@ pub buried_told_ready : {V : Type 0} (n : ℕ) (serves : Bool) (k : ServerState 
     → IsReady (n + 1) serves (record (buried k turn.client) { sessions = counted_in k.sessions turn r })
 buried_told_ready n serves k turn r is keeps h =
     buried_ready (n + 1) serves (record k { sessions = counted_in k.sessions turn r; waits = without_dead turn.client k.dead k.waits }) (without_client turn.client k.dead)
-    (λ t l there. alive_still (l.client == turn.client) (cause_in k.dead l.client t) (cause_in (without_client turn.client k.dead) l.client t) (dead_buried turn.client k.dead l.client t) (h.alive t l there))
-    (each-filter (IsCalm k.server) (λ (d : DeadPart). not (d.client == turn.client)) k.dead h.causes)
+    (alive_buried turn.client k.dead k.lives k.joins.lives h.alive)
     (counted_ready n serves (record k { waits = without_dead turn.client k.dead k.waits }) turn r is keeps (undead_calls_ready n serves k turn.client h))
 
 -- and so do those that are of no live part, where its begin is refused
@@ -609,7 +692,6 @@ pub refused_ready : {V : Type 0} (n : ℕ) (serves : Bool) (k : ServerState V) (
     → IsReady (n + 1) serves (record (cleared k turn.client) { sessions = counted_in k.sessions turn r })
 refused_ready n serves k turn r is keeps h =
     let left : List WaitingCall = without_dead turn.client k.dead k.waits in
-    buried_ready (n + 1) serves (record k { sessions = counted_in k.sessions turn r; waits = live_calls turn.client k.lives left }) (without_client turn.client k.dead)
-    (λ t l there. alive_still (l.client == turn.client) (cause_in k.dead l.client t) (cause_in (without_client turn.client k.dead) l.client t) (dead_buried turn.client k.dead l.client t) (h.alive t l there))
-    (each-filter (IsCalm k.server) (λ (d : DeadPart). not (d.client == turn.client)) k.dead h.causes)
-    (counted_ready n serves (record k { waits = live_calls turn.client k.lives left }) turn r is keeps (live_calls_ready n serves (record k { waits = left }) turn.client (undead_calls_ready n serves k turn.client h)))
+    buried_ready (n + 1) serves (record k { sessions = counted_in k.sessions turn r; waits = live_calls turn.client k.coordinator k.joins left }) (without_client turn.client k.dead)
+    (alive_buried turn.client k.dead k.lives k.joins.lives h.alive)
+    (counted_ready n serves (record k { waits = live_calls turn.client k.coordinator k.joins left }) turn r is keeps (live_calls_ready n serves (record k { waits = left }) turn.client (undead_calls_ready n serves k turn.client h)))

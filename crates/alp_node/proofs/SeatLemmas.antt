@@ -4,16 +4,15 @@ use Rattle.std.specs.Prelude.{IsTrue, false, Option, Some, Ok}
 use Rattle.alp_base.specs.Allowances.{Spends}
 use Rattle.alp_base.specs.declared.allowance.Allowance.{Allowance}
 use Rattle.alp_base.specs.declared.allowance.Allowance.TheVariants.{Free, Left, Spent}
-use Rattle.alp_fields.specs.ClockNote.{clock_kept}
+use Rattle.alp_base.specs.Notes.{Notes}
 use Rattle.alp_vault.specs.Contents.{Contents}
-use Rattle.alp_vault.specs.Vault.{IsSameVault}
-use Rattle.alp_vault.specs.Volumes.{AreNotesSoFar}
 use Rattle.alp_vault.specs.declared.vault.Vault.{Ghosts}
 use Rattle.alp_calls.specs.Looks.{IsLeft}
 use Rattle.alp_calls.proofs.LookLemmas.{left_same}
 use Rattle.alp_journal.specs.declared.event.Event.{Event}
 use Rattle.alp_journal.specs.Account.{Account}
 use Rattle.alp_node.specs.Durable.{Leaves, Besides}
+use Rattle.alp_node.specs.Noted.{AreNotesFor}
 use Rattle.alp_node.specs.ServerState.{IsAs, IsReady}
 use Rattle.alp_node.specs.Steps.{Stepped, IsGiven, IsSeated, IsNoted, IsStepAs, IsStep}
 use Rattle.alp_node.specs.Turns.{HasTurned}
@@ -21,6 +20,10 @@ use Rattle.alp_node.specs.declared.answer.Answer.{Answer}
 use Rattle.alp_node.specs.declared.server_state.ServerState.{ServerState}
 use Rattle.alp_node.specs.declared.sessions.CallOrder.{CallOrder}
 use Rattle.alp_node.specs.declared.sessions.CallOrder.TheVariants as order
+
+-- notes that are those of what a server keeps are those of what it keeps then
+abbrev pub KeepsNotes : {V : Type 0} → ServerState V → ServerState V → Type 0
+KeepsNotes old new = (notes : Notes) → AreNotesFor old notes → AreNotesFor new notes
 
 pub spends_nothing : (a : Allowance) → Spends a a
 spends_nothing Free = refl
@@ -35,13 +38,6 @@ module _ {V : Type 0} (G : Ghosts V) where
   -- a vault that nobody asked
   pub left_alone : (old new : V) → new ≡ old → IsLeft G old new
   left_alone old new is = subst (IsLeft G old) (sym is) (left_same G old)
-
-  -- notes that stay are in the format that they were in
-  pub same_format : (old new : V) → IsSameVault G.tells G.volume G.server G.servers old new → (G.held new).notes ≡ (G.held old).notes → AreNotesSoFar (G.server old) (G.servers old) (G.held old).notes
-      → AreNotesSoFar (G.server new) (G.servers new) (G.held new).notes
-  same_format old new same notes h =
-      subst (λ (n : ℕ). AreNotesSoFar n (G.servers new) (G.held new).notes) (sym same.number)
-      (subst (λ (n : ℕ). AreNotesSoFar (G.server old) n (G.held new).notes) (sym same.of_all) (subst (AreNotesSoFar (G.server old) (G.servers old)) (sym notes) h))
 
   -- after a look a crash leaves what it might have left before
   pub left_leaves : (old new : V) (P : Contents → Type 0) → IsLeft G old new → Leaves G old new (Besides G old P)
@@ -61,28 +57,25 @@ module _ {V : Type 0} (G : Ghosts V) where
       seen c (inr (inl is)) = inr (inl is)
       seen c (inr (inr has)) = inr (inr (more c has))
 
-  module _ (old new : ServerState V) (server : new.server ≡ old.server) (sizes : new.sizes ≡ old.sizes) (epoch : new.epoch ≡ old.epoch) (left : IsLeft G old.vault new.vault) where
+  module _ (old new : ServerState V) (server : new.server ≡ old.server) (servers : new.servers ≡ old.servers) (sizes : new.sizes ≡ old.sizes) (epoch : new.epoch ≡ old.epoch) (left : IsLeft G old.vault new.vault) where
     pub left_seated : IsSeated G old new
-    left_seated = record { server = server; sizes = sizes; epoch = epoch; same = left.same; spends = spends_same (G.allowance old.vault) (G.allowance new.vault) left.allowed }
+    left_seated = record { server = server; servers = servers; sizes = sizes; epoch = epoch; same = left.same; spends = spends_same (G.allowance old.vault) (G.allowance new.vault) left.allowed }
 
-    pub left_noted : old.is_down ≡ false → IsNoted G old → IsNoted G new
-    left_noted up h = (
-      (λ now. same_format old.vault new.vault left.same (ap (λ (c : Contents). c.notes) left.contents) (h.0 up)),
-      (λ now. ap (λ (c : Contents). (clock_kept c.notes).epoch) left.contents ∙ h.1 up ∙ sym epoch),
-    )
+    pub left_noted : old.is_down ≡ false → KeepsNotes old new → IsNoted G old → IsNoted G new
+    left_noted up keeps h = λ now. subst (λ (c : Contents). AreNotesFor new c.notes) (sym left.contents) (keeps (G.held old.vault).notes (h up))
 
     -- a step that only looks into the vault, by what the event is among the calls of its client
-    pub left_step_as : (o : Option CallOrder) (e : Event) (x : Answer) → old.is_down ≡ false
+    pub left_step_as : (o : Option CallOrder) (e : Event) (x : Answer) → old.is_down ≡ false → KeepsNotes old new
         → (IsTrue (G.tells old.vault) → (a : Account) → IsAs a (G.held old.vault) old → Stepped a (G.faults old.vault) (G.faults new.vault) (G.held new.vault) new e x)
-        → IsGiven old.server o (G.faults old.vault) (G.faults new.vault) (G.allowance new.vault) new.is_down x
+        → IsGiven o (G.faults old.vault) (G.faults new.vault) (G.allowance new.vault) new.is_down x
         → ((n : ℕ) → IsReady n (G.serves old.vault) old → IsReady (n + 1) (G.serves new.vault) new)
         → (new.is_down ≡ false → HasTurned o old new e x.kept)
         → IsStepAs G o old new e (Ok x)
-    left_step_as o e x up stepped given ready turned = record {
+    left_step_as o e x up keeps stepped given ready turned = record {
       stepped = stepped;
       given = given;
       ready = ready;
-      noted = left_noted up;
+      noted = left_noted up keeps;
       still = tt;
       seat = left_seated;
       turned = turned;
@@ -90,10 +83,10 @@ module _ {V : Type 0} (G : Ghosts V) where
     }
 
     -- that of a session's next call
-    pub left_step : (e : Event) (x : Answer) → old.is_down ≡ false
+    pub left_step : (e : Event) (x : Answer) → old.is_down ≡ false → KeepsNotes old new
         → (IsTrue (G.tells old.vault) → (a : Account) → IsAs a (G.held old.vault) old → Stepped a (G.faults old.vault) (G.faults new.vault) (G.held new.vault) new e x)
-        → IsGiven old.server (Some order.Next) (G.faults old.vault) (G.faults new.vault) (G.allowance new.vault) new.is_down x
+        → IsGiven (Some order.Next) (G.faults old.vault) (G.faults new.vault) (G.allowance new.vault) new.is_down x
         → ((n : ℕ) → IsReady n (G.serves old.vault) old → IsReady (n + 1) (G.serves new.vault) new)
         → (new.is_down ≡ false → HasTurned (Some order.Next) old new e x.kept)
         → IsStep G old new e (Ok x)
-    left_step e x up stepped given ready turned = left_step_as (Some order.Next) e x up stepped given ready turned
+    left_step e x up keeps stepped given ready turned = left_step_as (Some order.Next) e x up keeps stepped given ready turned

@@ -35,7 +35,7 @@ use Rattle.alp_journal.specs.Moves.{done_by, is_of_no_file}
 use Rattle.alp_journal.specs.State.{is_file_drawn}
 use Rattle.alp_journal.specs.declared.event.Event.TheVariants as event
 use Rattle.alp_journal.specs.Answers.{shape_refusal, lock_refusal, open_refusal, open_reply, more_locks, if_over}
-use Rattle.alp_journal.specs.Answered.{is_fault_reply}
+use Rattle.alp_journal.specs.Answered.{is_read_fault}
 use Rattle.alp_journal.specs.Account.{Account, state_of}
 use Rattle.alp_node.specs.Asks.{is_given, is_of_given}
 use Rattle.alp_node.specs.Calls.{IsServedCall}
@@ -56,7 +56,7 @@ use Rattle.alp_node.proofs.CountedLemmas.{IsCountRefusal, over_is, either_is, to
 use Rattle.alp_node.proofs.ClosedLemmas.{EitherOpen, either_open, either_change, close_open, lock_open, read_on, write_on, size_on, props_on}
 use Rattle.alp_node.proofs.IdLemmas.{known_file, unknown_file}
 use Rattle.alp_node.proofs.KeptLemmas.{IsLive, live_there}
-use Rattle.alp_node.proofs.OneServer.{lone_caller}
+use Rattle.alp_node.proofs.StandingLemmas.{unvoted_told}
 use Rattle.alp_node.proofs.ServedLemmas.{first_stepped}
 use Rattle.alp_node.proofs.WithinLemmas.{MayLock}
 
@@ -119,12 +119,12 @@ shape_inside server epoch given opens c f e = go (shape_is server epoch given op
     go (inl counts) = counts.inside
     go (inr x) = subst (λ (g : Refusal). IsInSession (reply.Refused g)) (sym x.0) tt
 
-pub shape_quiet : (here server epoch given opens : ℕ) (c : Call) (f : Refusal) → shape_of server epoch given opens c ≡ Some f → (is_fault_reply here (Some (reply.Refused f)) || says_shut (Some (reply.Refused f))) ≡ false
-shape_quiet here server epoch given opens c f e = go (shape_is server epoch given opens c f e)
+pub shape_quiet : (server epoch given opens : ℕ) (c : Call) (f : Refusal) → shape_of server epoch given opens c ≡ Some f → (is_read_fault (Some (reply.Refused f)) || says_shut (Some (reply.Refused f))) ≡ false
+shape_quiet server epoch given opens c f e = go (shape_is server epoch given opens c f e)
   where
-    go : IsCountRefusal f ⊎ ((f ≡ refusal.UnknownFile) × (is_of_given server epoch given c ≡ false)) → (is_fault_reply here (Some (reply.Refused f)) || says_shut (Some (reply.Refused f))) ≡ false
-    go (inl counts) = counts.quiet here
-    go (inr x) = ap (λ (g : Refusal). is_fault_reply here (Some (reply.Refused g)) || says_shut (Some (reply.Refused g))) x.0
+    go : IsCountRefusal f ⊎ ((f ≡ refusal.UnknownFile) × (is_of_given server epoch given c ≡ false)) → (is_read_fault (Some (reply.Refused f)) || says_shut (Some (reply.Refused f))) ≡ false
+    go (inl counts) = counts.quiet
+    go (inr x) = ap (λ (g : Refusal). is_read_fault (Some (reply.Refused g)) || says_shut (Some (reply.Refused g))) x.0
 
 -- where the counts refuse it nothing is done
 pub count_none_done : (a : Account) (t : TransId) (c : Call) (f : Refusal) → IsCountRefusal f → done_by (state_of a) c (reply.Refused f) (Some t) ≡ []
@@ -236,12 +236,12 @@ module _ {V : Type 0} (a : Account) (held : Contents) (k : ServerState V) (h : I
 
 -- a file call is refused for its shape
 pub shape_stepped : {V : Type 0} (a : Account) (before now : ℕ) (held : Contents) (k : ServerState V) (turn : Turn) (t : TransId) (c : Call) (f : Refusal) (x : Answer) → IsAs a held k → 0 < k.epoch → IsTurn k.sessions turn → k.is_down ≡ false
-    → file_trans c ≡ Some t → IsServedCall c → standing_of turn.client (map.get k.lives t) (cause_in k.dead turn.client t) ≡ standing.Work → waiting_of (state_of a).desk turn.client t ≡ None → (l : Live) → map.get k.lives t ≡ Some l
+    → file_trans c ≡ Some t → IsServedCall c → standing_of k turn.client t ≡ standing.Work → waiting_of (state_of a).desk turn.client t ≡ None → (l : Live) → map.get k.lives t ≡ Some l
     → shape_of k.server k.epoch k.given (length l.part.opens.items) c ≡ Some f → x ≡ refused_answer f []
     → Stepped a before now held (record k { sessions = counted_in k.sessions turn (reply.Refused f) }) (event.Call turn.client k.epoch turn.number c) x
 shape_stepped a before now held k turn t c f x h raised is up named served own idle l there e so =
     let y : IsLive a.holder.cells k.locks.held (a.locked t) t l (a.holder.lives t) = live_there a.holder.cells k.locks.held (a.locked t) t (map.get k.lives t) (a.holder.lives t) l there (h.lives t) in
-    let caller : IsCaller l y.life = lone_caller a held k h a.holder.cells k.locks.held (a.locked t) t l y.life y.is y.alike in
+    let caller : IsCaller l y.life = y.alike.calls (unvoted_told a held k turn.client t h own y.life y.is).vote in
     first_stepped a before now held k turn t c f y.life x h is up named own idle y.is (shape_told a held k h raised t l y.life caller c f (lock_refusal (state_of a) t y.life c) served e)
     (shape_now k.server k.epoch k.given (length l.part.opens.items) c f e) (shape_none a held k h raised t l y.life caller c f served e) so
 

@@ -40,7 +40,6 @@ use Rattle.alp_node.proofs.ApartLemmas.{writes_apart}
 use Rattle.alp_node.proofs.EaseLaw.{eased_counts}
 use Rattle.alp_node.proofs.EasedKeys.{eased_at}
 use Rattle.alp_node.proofs.MapLemmas.{tied_same}
-use Rattle.alp_node.proofs.OneServer.{lone_unvoted}
 use Rattle.alp_node.proofs.TotalLemmas.{among, gone_totals}
 
 intended_of : (cells : Cells) (locks : Holders) (rs : List Resource) (u : TransId) (o : Option Live) (x : Option Life) (m : Life) → x ≡ Some m → IsAlike cells locks rs u o x → IsIntended m.held
@@ -92,8 +91,8 @@ module _ {V : Type 0} (a : Account) (held : Contents) (k : ServerState V) (h : I
       )
 
   -- what it needs stands
-  pub needs_beside : (u : TransId) (y : Life) (c : Call) → a.holder.lives u ≡ Some y → same_trans u t ≡ false → needs_of (map.get (edits_map y.edits cells_then)) y.own c ≡ needs_of (map.get (edits_map y.edits a.holder.cells)) y.own c
-  needs_beside u y c live_u away =
+  pub needs_beside : (u : TransId) (y : Life) (c : Call) → a.holder.lives u ≡ Some y → y.vote ≡ None → same_trans u t ≡ false → needs_of (map.get (edits_map y.edits cells_then)) y.own c ≡ needs_of (map.get (edits_map y.edits a.holder.cells)) y.own c
+  needs_beside u y c live_u unvoted away =
       needs_stand a.holder.cells life.held life.edits y c (h.quiet.settled.stands.agree t u life y live live_u (turned u t away))
       mine.intended (intended_of a.holder.cells k.locks.held (a.locked u) u (map.get k.lives u) (a.holder.lives u) y live_u (h.lives u)) mine.within (opens_of (map.get k.lives u) (a.holder.lives u) live_u (h.lives u))
     where
@@ -105,7 +104,7 @@ module _ {V : Type 0} (a : Account) (held : Contents) (k : ServerState V) (h : I
       opens_of (Some x) None is alike = absurd alike
       opens_of None (Some z) is alike = absurd alike
       opens_of (Some x) (Some z) is alike =
-          subst (λ (v : Life). OpensRead (Reads v.held) v.own.opens) (same_life z y is) (IsLife.calls alike (ap (λ (v : Life). v.vote) (same_life z y is) ∙ lone_unvoted a held k h u y live_u)).opens
+          subst (λ (v : Life). OpensRead (Reads v.held) v.own.opens) (same_life z y is) (IsLife.calls alike (ap (λ (v : Life). v.vote) (same_life z y is) ∙ unvoted)).opens
         where
           same_life : (b c : Life) → Some b ≡ Some c → b ≡ c
           same_life b c e = cc

@@ -2,13 +2,12 @@
 use Rattle.std.specs.Prelude.{Bool, IsTrue}
 use Rattle.std.proofs.Common.{◌≡◌, ℕ, ◌∙◌, length, refl, sym, ap, subst}
 use Rattle.alp_base.specs.Crashes.{SameOutcomes}
-use Rattle.alp_fields.specs.ClockNote.{clock_kept}
 use Rattle.alp_vault.specs.Contents.{Contents}
 use Rattle.alp_vault.specs.Vault.{IsSameVault}
-use Rattle.alp_vault.specs.Volumes.{AreNotesSoFar}
 use Rattle.alp_vault.specs.declared.vault.Vault.{Ghosts}
 use Rattle.alp_node.specs.Durable.{IsDurable}
 use Rattle.alp_node.specs.NodeStates.{NodeState}
+use Rattle.alp_node.specs.Noted.{AreNotesFor}
 use Rattle.alp_node.specs.Nodes.{IsConsistent, IsRight, state_of, start_in}
 use Rattle.alp_node.specs.ServerState.{IsReady}
 use Rattle.alp_node.specs.declared.server_state.ServerState.{ServerState}
@@ -24,19 +23,19 @@ ready_beside n before serves k v same h = record {
   taken = h.taken;
   waits = h.waits;
   known = h.known;
-  own = h.own;
+  joins = h.joins;
+  paired = h.paired;
+  idle = h.idle;
   opens = h.opens;
   opened = h.opened;
-  callers = h.callers;
   alive = h.alive;
-  causes = h.causes;
   places = h.places;
   calls = h.calls;
   replies = h.replies;
   drawn = h.drawn;
   given = h.given;
-  few = h.few;
   most = h.most;
+  fits = h.fits;
   within = h.within;
   sized = h.sized;
   clock = h.clock;
@@ -55,19 +54,14 @@ module _ {V : Type 0} (G : Ghosts V) (old : NodeState V) (v : V) (h : IsConsiste
   told_before : IsTrue (G.tells v) → IsTrue (G.tells old.kept.vault)
   told_before told = subst IsTrue same.telling told
 
-  moved_notes : AreNotesSoFar (G.server old.kept.vault) (G.servers old.kept.vault) (G.held old.kept.vault).notes → AreNotesSoFar (G.server v) (G.servers v) (G.held v).notes
-  moved_notes are =
-      subst (λ (c : Contents). AreNotesSoFar (G.server v) (G.servers v) c.notes) (sym held)
-      (subst (λ (n : ℕ). AreNotesSoFar n (G.servers v) (G.held old.kept.vault).notes) (sym same.number) (subst (λ (n : ℕ). AreNotesSoFar (G.server old.kept.vault) n (G.held old.kept.vault).notes) (sym same.of_all) are))
-
   pub stopped_kept : IsConsistent G moved
   stopped_kept = record {
     number = same.number ∙ h.number;
     all = same.of_all ∙ h.all;
     sizes = h.sizes ∙ sym same.sizes;
     ready = ready_beside (length old.journal) (G.serves old.kept.vault) (G.serves v) old.kept v serves h.ready;
-    noted = ((λ up. moved_notes (h.noted.0 up)), (λ up. ap (λ (c : Contents). (clock_kept c.notes).epoch) held ∙ h.noted.1 up));
-    mute = h.mute;
+    noted = λ up. subst (λ (c : Contents). AreNotesFor moved.kept c.notes) (sym held) (h.noted up);
+    said = h.said;
     right = λ told. (
         let r : IsRight (start_in G old) (G.held old.kept.vault) old = h.right (told_before told) in
         still_right (start_in G old) (G.held old.kept.vault) (G.held v) old moved r (as_with r.state (G.held old.kept.vault) (G.held v) old.kept v held r.kept) refl

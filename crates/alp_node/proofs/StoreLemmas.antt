@@ -1,53 +1,36 @@
--- a commit with the note of the clock
-use Rattle.std.specs.Prelude.{Some, Result, Err, OnOk}
+-- a commit of a part with changes of notes
+use Rattle.std.specs.Prelude.{Err}
 use Rattle.std.specs.FinMap as map
-use Rattle.std.proofs.Common.{◌≡◌, ℕ, ◌≤◌, List, [], ◌∷◌, sym, ◌∙◌, ap, subst, arith}
+use Rattle.std.specs.FinMap.{len-entries}
+use Rattle.std.proofs.lemmas.List.{length-map}
+use Rattle.std.proofs.Common.{◌≡◌, ℕ, ◌+◌, ◌≤◌, List, sym, ◌∙◌, subst, arith}
+use Rattle.alp_base.specs.Notes.{Notes}
 use Rattle.alp_base.specs.declared.bytes.NoteChange.{NoteChange}
-use Rattle.alp_base.specs.Notes.{Notes, noted, notes_after}
-use Rattle.alp_fields.specs.ClockNote.{clock_name, clock_form, clock_in, clock_kept, IsClockNote, IsClockAtMost}
-use Rattle.alp_fields.specs.declared.clock_note.ClockNote.{ClockNote}
-use Rattle.alp_files.proofs.UndoLemmas.{on_ok}
-use Rattle.alp_vault.specs.Contents.{made}
-use Rattle.alp_vault.specs.Vault.{IsSameVault}
-use Rattle.alp_vault.specs.Volumes.{AreNotesSoFar, AreChangesSoFar}
+use Rattle.alp_base.specs.declared.faults.Sizes.{Sizes}
+use Rattle.alp_base.specs.declared.ids.FileId.{FileId}
+use Rattle.alp_files.specs.Needs.{changed_by}
+use Rattle.alp_trans.specs.Parts.{change_of}
+use Rattle.alp_trans.specs.declared.part.Part.{Part}
+use Rattle.alp_calls.specs.Parts.{IsPart}
+use Rattle.alp_calls.proofs.PartLaws.{change_once, change_fits}
+use Rattle.alp_vault.specs.Volumes.{AreNoteChanges, IsCommit, changed_cells, commit_bytes, live_bytes, record_pages}
 use Rattle.alp_vault.specs.declared.vault.Vault.{Ghosts}
-use Rattle.alp_vault.proofs.VolumeLemmas.{changed_notes}
 use Rattle.alp_node.specs.Halts.{Ends}
 use Rattle.alp_node.specs.declared.stored.StoreFault.{StoreFault}
 use Rattle.alp_node.specs.declared.stored.StoreFault.TheVariants as store_fault
-use Rattle.alp_node.proofs.NoteLemmas.{put_kept}
 
--- ---- the note
-
-module _ (n : NoteChange) (changes : List NoteChange) (one : changes ≡ n ∷ []) where
-  at_most_clock : IsClockNote n → IsClockAtMost changes
-  at_most_clock is = subst IsClockAtMost (sym one) is
-
-  -- it is in the format of a server's notes
-  pub note_changes : (server servers : ℕ) (live : Notes) → AreNotesSoFar server servers live → IsClockNote n → AreChangesSoFar server servers live changes
-  note_changes server servers live are is = record { before = are; after = changed_notes server servers live changes are (at_most_clock is); each = at_most_clock is }
-
-  -- the note of the clock is the one that was put
-  pub clock_put : (notes : Notes) (clock : ClockNote) → n ≡ record { name = clock_name; value = Some (clock_form.spell clock) } → notes_after changes notes ≡ map.insert notes clock_name (clock_form.spell clock)
-  clock_put notes clock is = ap (λ (ns : List NoteChange). notes_after ns notes) one ∙ ap (λ (x : NoteChange). noted x.name x.value notes) is
-
-  module _ {E : Type 0} (r : Result (Unit {0}) E) (old new : Notes) (clock : ClockNote) (made : OnOk r (new ≡ notes_after changes old)) where
-    pub stored_notes : n ≡ record { name = clock_name; value = Some (clock_form.spell clock) } → OnOk r (new ≡ map.insert old clock_name (clock_form.spell clock))
-    stored_notes is = on_ok r (new ≡ notes_after changes old) (new ≡ map.insert old clock_name (clock_form.spell clock)) made (λ e. e ∙ clock_put old clock is)
-
-    pub stored_clock : n ≡ record { name = clock_name; value = Some (clock_form.spell clock) } → clock_in n.value ≡ clock → OnOk r (clock_kept new ≡ clock)
-    stored_clock is back =
-        on_ok r (new ≡ notes_after changes old) (clock_kept new ≡ clock) made
-        (λ e. ap clock_kept (e ∙ clock_put old clock is) ∙ put_kept old clock ∙ sym (ap (λ (x : NoteChange). clock_in x.value) is) ∙ back)
-
--- and so are all notes then
-pub stored_format : {V E : Type 0} (G : Ghosts V) (r : Result (Unit {0}) E) (old new : V) (n : NoteChange) (changes : List NoteChange) → changes ≡ n ∷ [] → IsClockNote n → IsSameVault G.tells G.volume G.server G.servers old new
-    → AreNotesSoFar (G.server old) (G.servers old) (G.held old).notes → OnOk r ((G.held new).notes ≡ notes_after changes (G.held old).notes) → OnOk r (AreNotesSoFar (G.server new) (G.servers new) (G.held new).notes)
-stored_format G r old new n changes one is same are made =
-    on_ok r ((G.held new).notes ≡ notes_after changes (G.held old).notes) (AreNotesSoFar (G.server new) (G.servers new) (G.held new).notes) made
-    (λ e. subst (λ (x : ℕ). AreNotesSoFar x (G.servers new) (G.held new).notes) (sym same.number)
-    (subst (λ (x : ℕ). AreNotesSoFar (G.server old) x (G.held new).notes) (sym same.of_all)
-    (subst (AreNotesSoFar (G.server old) (G.servers old)) (sym e) (note_changes n changes one (G.server old) (G.servers old) (G.held old).notes are is).after)))
+-- it is all that a commit asks
+pub part_commit : (s : Sizes) (server servers : ℕ) (live : Notes) (p : Part) (changes : List NoteChange) → IsPart p → AreNoteChanges server servers live changes
+    → record_pages (live_bytes live) + record_pages (commit_bytes p.counts.cells changes) ≤ s.area → IsCommit s server servers live (change_of p.intents) changes
+part_commit s server servers live p changes is noted room = record {
+  once = change_once p.intents;
+  puts = change_fits p.intents is.fit;
+  noted = noted;
+  log = subst (λ (n : ℕ). record_pages (live_bytes live) + record_pages (commit_bytes n changes) ≤ s.area) (is.cells ∙ sym cells) room;
+}
+  where
+    cells : changed_cells (change_of p.intents) ≡ changed_by p.intents
+    cells = omega (arith, len-entries p.intents.puts, len-entries p.intents.cuts, len-entries p.intents.drops, length-map (map.entries p.intents.drops) (λ (e : FileId × Unit {0}). e.0))
 
 -- ---- how it ends
 

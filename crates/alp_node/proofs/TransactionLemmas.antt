@@ -1,7 +1,7 @@
 -- what a server keeps of the transactions that began there, as they begin, end and are decided, and how many count
-use Rattle.std.specs.Prelude.{cond, Bool, true, false, not, ◌==◌, ◌&&◌, ◌||◌, filter, flat_map, Option, None, Some, is_some, map as list_map}
+use Rattle.std.specs.Prelude.{cond, Bool, true, false, not, ◌==◌, ◌&&◌, ◌||◌, filter, Option, None, Some, is_some, map as list_map}
 use Rattle.std.specs.List.{list_any, AllByRecursion}
-use Rattle.std.specs.List.Sorted.{IsPermutation, IsStrictlySortedBy}
+use Rattle.std.specs.List.Sorted.{IsStrictlySortedBy}
 use Rattle.std.specs.declared.cmp.Ordering.{Ordering}
 use Rattle.std.specs.declared.cmp.Ordering.TheVariants.{Less, Equal, Greater}
 use Rattle.std.specs.Ordering.{is_lt, eq_by_cmp}
@@ -11,7 +11,6 @@ use Rattle.std.specs.FinMap.Entries.{below_all}
 use Rattle.std.proofs.Math.Dec.{T}
 use Rattle.std.proofs.Common.{◌≡◌, ℕ, suc, ◌+◌, ◌-◌, ◌≤◌, List, [], ◌∷◌, ◌++◌, length, refl, sym, ◌∙◌, ap, subst, arith, eq-eqb}
 use Rattle.std.proofs.lemmas.Bool.{and_parts}
-use Rattle.std.proofs.lemmas.List.Sorted.{length_permutation}
 use Rattle.alp_base.specs.declared.ids.JoinNo.{JoinNo}
 use Rattle.alp_base.specs.declared.ids.Stamp.{Stamp}
 use Rattle.alp_base.specs.declared.ids.TransId.{TransId}
@@ -40,12 +39,9 @@ use Rattle.alp_coord.specs.Ticks.{has_trans, AreOnce}
 use Rattle.alp_coord.proofs.FateLemmas.{IsPlaced, settled_placed, early_open, fate_by, none_by, next_fate}
 use Rattle.alp_coord.proofs.LikeLemmas.{like-after, like-joins}
 use Rattle.alp_coord.proofs.MapLemmas.{tied_same}
-use Rattle.alp_coord.proofs.TickLemmas.{rising_once, same_said, says_all}
+use Rattle.alp_coord.proofs.TickLemmas.{says_all}
 use Rattle.alp_coord.proofs.TieLemmas.{is_plain, known-after, known-counted}
-use Rattle.alp_node.specs.Totals.{LiveMap}
-use Rattle.alp_node.specs.Transactions.{IsCoordinatorBy, IsCoordinatorOf, owner_of, IsOwnOf, AreDecidedBy}
-use Rattle.alp_node.specs.declared.lives.Live.{Live}
-use Rattle.alp_node.proofs.MapLemmas.{get_put, get_gone}
+use Rattle.alp_node.specs.Transactions.{IsCoordinatorBy, IsCoordinatorOf, AreDecidedBy}
 
 -- ---- of each transaction what the journal says
 
@@ -181,37 +177,7 @@ runs_placed c t n is = go (course_in c t) refl is
         at stage.Finishing s j = settled_placed c t settled.Open (early_open c t course e (ap (λ (y : Stage). is_standing y course.members) s))
         at (stage.Decided ts) s j = let wrong : None ≡ Some n = j in cc
 
--- a part that is live has one of the counters that were given
-pub owned_placed : (c : Coordinator) (t : TransId) (x : Option Live) (l : Live) → IsOwnOf x (fate_in c t) → x ≡ Some l → IsPlaced c t
-owned_placed c t x l own is = runs_placed c t l.client (own ∙ ap owner_of is)
-
--- the next id is that of no live part
-pub next_new : (c : Coordinator) (m : LiveMap) → ((t : TransId) → IsOwnOf (map.get m t) (fate_in c t)) → map.get m (next_id c) ≡ None
-next_new c m own = go (map.get m (next_id c)) refl
-  where
-    go : (x : Option Live) → map.get m (next_id c) ≡ x → x ≡ None
-    go None e = refl
-    go (Some l) e = let wrong : None ≡ Some l.client = ap client_of (sym (next_fate c)) ∙ own (next_id c) ∙ ap owner_of e in cc
-
--- so it is where the parts have the same clients
-pub own_alike : (c : Coordinator) (before after : LiveMap) → ((t : TransId) → owner_of (map.get after t) ≡ owner_of (map.get before t)) → ((t : TransId) → IsOwnOf (map.get before t) (fate_in c t))
-    → (t : TransId) → IsOwnOf (map.get after t) (fate_in c t)
-own_alike c before after alike own t = own t ∙ sym (alike t)
-
--- one that begins is its client's
-pub own_begun : (client seen : ℕ) (who : List ℕ) (before after : Coordinator) (m : LiveMap) (l : Live) → l.client ≡ client → Comes (Begins (next_id before) client who seen) before after → ((t : TransId) → IsOwnOf (map.get m t) (fate_in before t))
-    → (t : TransId) → IsOwnOf (map.get (map.insert m (next_id before) l) t) (fate_in after t)
-own_begun client seen who before after m l its comes own t =
-    ap client_of (comes t) ∙ go (same_trans (next_id before) t) (same_trans t (next_id before)) refl refl ∙ ap owner_of (sym (get_put m (next_id before) l t))
-  where
-    go : (b d : Bool) → same_trans (next_id before) t ≡ b → same_trans t (next_id before) ≡ d
-        → client_of (cond {A = Fate} b (fate.begun client (fate_in before t)) (fate_in before t)) ≡ owner_of (cond {A = Option Live} d (Some l) (map.get m t))
-    go true true e f = ap (λ (v : TransId). client_of (fate.begun client (fate_in before v))) (sym (same_trans-true (next_id before) t e)) ∙ ap (λ (x : Fate). client_of (fate.begun client x)) (next_fate before) ∙ ap Some (sym its)
-    go false false e f = own t
-    go true false e f = let wrong : true ≡ false = sym (ap (same_trans t) (same_trans-true (next_id before) t e) ∙ same_trans-itself t) ∙ f in cc
-    go false true e f = let wrong : true ≡ false = sym (ap (same_trans (next_id before)) (same_trans-true t (next_id before) f) ∙ same_trans-itself (next_id before)) ∙ e in cc
-
--- and none is decided by it
+-- none is decided as one begins
 pub times_begun : (clock later client seen : ℕ) (who : List ℕ) (u : TransId) (before after : Coordinator) → clock ≤ later → Comes (Begins u client who seen) before after → AreDecidedBy clock before → AreDecidedBy later after
 times_begun clock later client seen who u before after le comes times t stamp js is = go (same_trans u t) (ap decision_in (sym (comes t)) ∙ is)
   where
@@ -244,22 +210,14 @@ taken_back client before begun after one comes run taken = (
 
 -- ---- one that is over
 
--- the coordinator goes on, the transaction runs no more, the others stand, and none was decided later than the clock is then
+-- the coordinator goes on, the transaction runs no more, the others stand, none counts that did not, and none was decided later than
+-- the clock is then
 pub record LetsGo (before after : Coordinator) (t : TransId) (clock : ℕ) : Type 0 where
   pub along : IsAlong before after
   pub gone : client_of (fate_in after t) ≡ None
   pub others : (u : TransId) → same_trans t u ≡ false → fate_in after u ≡ fate_in before u
+  pub counts : (u : TransId) → is_counted (fate_in after u) ≡ true → is_counted (fate_in before u) ≡ true
   pub times : AreDecidedBy clock after
-
--- its part goes, and the other parts are of clients as before
-pub own_gone : (before after : Coordinator) (t : TransId) (clock : ℕ) (m : LiveMap) → LetsGo before after t clock → ((u : TransId) → IsOwnOf (map.get m u) (fate_in before u)) → (u : TransId) → IsOwnOf (map.get (map.remove m t) u) (fate_in after u)
-own_gone before after t clock m lets own u = go (same_trans t u) (same_trans u t) refl refl ∙ ap owner_of (sym (get_gone m t u))
-  where
-    go : (b d : Bool) → same_trans t u ≡ b → same_trans u t ≡ d → client_of (fate_in after u) ≡ owner_of (cond {A = Option Live} d None (map.get m u))
-    go true true e f = ap (λ (v : TransId). client_of (fate_in after v)) (sym (same_trans-true t u e)) ∙ lets.gone
-    go false false e f = ap client_of (lets.others u e) ∙ own u
-    go true false e f = let wrong : true ≡ false = sym (ap (same_trans u) (same_trans-true t u e) ∙ same_trans-itself u) ∙ f in cc
-    go false true e f = let wrong : true ≡ false = sym (ap (same_trans t) (same_trans-true u t f) ∙ same_trans-itself t) ∙ e in cc
 
 -- it ended
 pub lets_end : (before after : Coordinator) (t : TransId) (cause : Cause) (clock : ℕ) → IsAlong before after → ((client : ℕ) → Comes (Ends t client cause) before after) → AreDecidedBy clock before → LetsGo before after t clock
@@ -267,6 +225,7 @@ lets_end before after t cause clock along ends times = record {
   along = along;
   gone = ap client_of (ends 0 t) ∙ ap (λ (b : Bool). client_of (cond {A = Fate} b (fate.ended cause (fate_in before t)) (fate_in before t))) (same_trans-itself t) ∙ nobody (fate_in before t);
   others = λ u away. ends 0 u ∙ ap (λ (b : Bool). cond {A = Fate} b (fate.ended cause (fate_in before u)) (fate_in before u)) away;
+  counts = λ u here. did_count (same_trans t u) (fate_in before u) (sym (ap is_counted (ends 0 u)) ∙ here);
   times = λ u stamp js is. times u stamp js (undecided u stamp js (same_trans t u) (ap decision_in (sym (ends 0 u)) ∙ is));
 }
   where
@@ -277,6 +236,18 @@ lets_end before after t cause clock along ends times = record {
     nobody (Committed s ks ds) = refl
     nobody (Forgotten s ks) = refl
     nobody (Ended c) = refl
+
+    end_counts : (f : Fate) → is_counted (fate.ended cause f) ≡ true → is_counted f ≡ true
+    end_counts Undrawn e = e
+    end_counts (Running c ks) e = refl
+    end_counts (Finishing c ks vs) e = refl
+    end_counts (Committed s ks ds) e = e
+    end_counts (Forgotten s ks) e = e
+    end_counts (Ended c) e = e
+
+    did_count : (b : Bool) (f : Fate) → is_counted (cond {A = Fate} b (fate.ended cause f) f) ≡ true → is_counted f ≡ true
+    did_count true f e = end_counts f e
+    did_count false f e = e
 
     none : (stamp : Stamp) (js : List JoinNo) (f : Fate) → decision_in (fate.ended cause f) ≡ Some (stamp, js) → decision_in f ≡ Some (stamp, js)
     none stamp js Undrawn e = e
@@ -297,6 +268,7 @@ lets_decide before mid after t ks clock time first finishes second decides le ti
   along = run_along (server_of before) (epoch_of before) (count_of before) mid after first second;
   gone = ap client_of (both t) ∙ ap (λ (b : Bool). client_of (cond {A = Fate} b (fate.decided s ks (fate.finishing (fate_in before t))) (fate_in before t))) (same_trans-itself t) ∙ nobody (fate_in before t);
   others = λ u away. both u ∙ ap (λ (b : Bool). cond {A = Fate} b (fate.decided s ks (fate.finishing (fate_in before u))) (fate_in before u)) away;
+  counts = λ u here. did_count (same_trans t u) (fate_in before u) (sym (ap is_counted (both u)) ∙ here);
   times = λ u stamp js is. low u stamp js (same_trans t u) (ap decision_in (sym (both u)) ∙ is);
 }
   where
@@ -317,6 +289,18 @@ lets_decide before mid after t ks clock time first finishes second decides le ti
     nobody (Committed x js ds) = refl
     nobody (Forgotten x js) = refl
     nobody (Ended c) = refl
+
+    decided_counts : (f : Fate) → is_counted (fate.decided s ks (fate.finishing f)) ≡ true → is_counted f ≡ true
+    decided_counts Undrawn e = e
+    decided_counts (Running c js) e = refl
+    decided_counts (Finishing c js vs) e = refl
+    decided_counts (Committed x js ds) e = e
+    decided_counts (Forgotten x js) e = e
+    decided_counts (Ended c) e = e
+
+    did_count : (b : Bool) (f : Fate) → is_counted (cond {A = Fate} b (fate.decided s ks (fate.finishing f)) f) ≡ true → is_counted f ≡ true
+    did_count true f e = decided_counts f e
+    did_count false f e = e
 
     time_in : Option (Stamp × List JoinNo) → ℕ
     time_in None = 0
@@ -387,82 +371,6 @@ once_of (t ∷ ts) h =
     unnot : (b : Bool) → not b ≡ true → b ≡ false
     unnot false e = refl
     unnot true e = let wrong : false ≡ true = e in cc
-
--- ---- how many count
-
--- what runs, or is finishing, counts
-runs_counts : (f : Fate) (n : ℕ) → client_of f ≡ Some n → is_counted f ≡ true
-runs_counts Undrawn n e = let wrong : None ≡ Some n = e in cc
-runs_counts (Running c js) n e = refl
-runs_counts (Finishing c js vs) n e = refl
-runs_counts (Committed s js ds) n e = let wrong : None ≡ Some n = e in cc
-runs_counts (Forgotten s js) n e = let wrong : None ≡ Some n = e in cc
-runs_counts (Ended c) n e = let wrong : None ≡ Some n = e in cc
-
-module _ (c : Coordinator) (m : LiveMap) (own : (t : TransId) → IsOwnOf (map.get m t) (fate_in c t)) where
-  -- itself, if it is live
-  abbrev one_live : TransId → List TransId
-  one_live t = cond {A = List TransId} (is_some (map.get m t)) (t ∷ []) []
-
-  client_there : (t : TransId) → is_some (map.get m t) ≡ true → (n : ℕ) × (client_of (fate_in c t) ≡ Some n)
-  client_there t e = go (map.get m t) refl e
-    where
-      go : (x : Option Live) → map.get m t ≡ x → is_some x ≡ true → (n : ℕ) × (client_of (fate_in c t) ≡ Some n)
-      go None is e = let wrong : false ≡ true = e in cc
-      go (Some l) is e = (l.client, own t ∙ ap owner_of is)
-
-  live_counts : (t : TransId) → is_some (map.get m t) ≡ true → is_counted (fate_in c t) ≡ true
-  live_counts t e = (let its = client_there t e in runs_counts (fate_in c t) its.0 its.1)
-
-  -- one that is live is open
-  closed_gone : (t : TransId) → has_trans t (open_ids c) ≡ false → is_some (map.get m t) ≡ false
-  closed_gone t shut = go (is_some (map.get m t)) refl
-    where
-      none : (x : Option Course) → is_some x ≡ false → x ≡ None
-      none None e = refl
-      none (Some d) e = let wrong : true ≡ false = e in cc
-
-      nobody : client_of (fate_in c t) ≡ None
-      nobody = ap (λ (x : Option Course). client_of (fate_by c t x)) (none (map.get c.courses t) (sym (key_there c.courses t) ∙ shut)) ∙ ap client_of (none_by c t) ∙ settled_client t (settled_in c t)
-
-      go : (b : Bool) → is_some (map.get m t) ≡ b → b ≡ false
-      go false e = refl
-      go true e =
-          let its = client_there t e in
-          let wrong : None ≡ Some its.0 = sym nobody ∙ its.1 in
-          cc
-
-  all_live : (ts : List TransId) → ((t : TransId) → has_trans t ts ≡ true → is_some (map.get m t) ≡ true) → flat_map one_live ts ≡ ts
-  all_live [] there = refl
-  all_live (t ∷ ts) there =
-      ap (λ (b : Bool). cond {A = List TransId} b (t ∷ []) [] ++ flat_map one_live ts) (there t (ap (λ (b : Bool). b || has_trans t ts) (same_trans-itself t)))
-      ∙ ap (λ (us : List TransId). t ∷ us) (all_live ts (λ u e. there u (later (same_trans t u) (has_trans u ts) e)))
-    where
-      later : (a b : Bool) → b ≡ true → (a || b) ≡ true
-      later true b e = refl
-      later false b e = e
-
-  fewer : (ts : List TransId) → length (flat_map one_live ts) ≤ length (filter (λ t. is_counted (fate_in c t)) ts)
-  fewer [] = omega arith
-  fewer (t ∷ ts) = go (is_some (map.get m t)) (is_counted (fate_in c t)) (live_counts t) (fewer ts)
-    where
-      go : (a b : Bool) → (a ≡ true → b ≡ true) → length (flat_map one_live ts) ≤ length (filter (λ t. is_counted (fate_in c t)) ts)
-          → length (cond {A = List TransId} a (t ∷ []) [] ++ flat_map one_live ts) ≤ length (cond {A = List TransId} b (t ∷ filter (λ t. is_counted (fate_in c t)) ts) (filter (λ t. is_counted (fate_in c t)) ts))
-      go true true h rest = omega (arith, rest)
-      go true false h rest = let wrong : false ≡ true = h refl in cc
-      go false true h rest = omega (arith, rest)
-      go false false h rest = rest
-
-  -- no more are live than count
-  pub few_live : map.len m ≤ counted_of c
-  few_live =
-      let alike : IsPermutation (flat_map one_live (map.keys m)) (flat_map one_live (open_ids c)) =
-      same_said one_live (map.keys m) (open_ids c) (rising_once (map.keys m) (keys_rise m)) (rising_once (open_ids c) (keys_rise c.courses))
-      (λ t here away. ap (λ (b : Bool). cond {A = List TransId} b (t ∷ []) []) (sym (key_there m t) ∙ away))
-      (λ t here away. ap (λ (b : Bool). cond {A = List TransId} b (t ∷ []) []) (closed_gone t away)) in
-      let all : length (flat_map one_live (map.keys m)) ≡ length (map.keys m) = ap (λ (ts : List TransId). length ts) (all_live (map.keys m) (λ t e. sym (key_there m t) ∙ e)) in
-      let turned : length (flat_map one_live (open_ids c)) ≡ length (flat_map one_live (map.keys m)) = length_permutation (flat_map one_live (map.keys m)) (flat_map one_live (open_ids c)) alike in
-      omega (arith, all, turned, key_count m, fewer (open_ids c))
 
 -- ---- by what a journal says
 

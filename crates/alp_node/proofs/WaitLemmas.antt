@@ -7,6 +7,7 @@ use Rattle.std.proofs.lemmas.Bool.{eqb-true}
 use Rattle.alp_base.proofs.NameLemmas.{and_left, and_right}
 use Rattle.std.proofs.Common.{◌≡◌, ℕ, zero, suc, ◌+◌, ◌<◌, ◌≤◌, List, [], ◌∷◌, ◌++◌, length, take, drop, get_or, slice_set, refl, sym, ◌∙◌, ap, subst, arith, eq-eqb, le_refl}
 use Rattle.alp_base.specs.declared.faults.Sizes.{Sizes}
+use Rattle.alp_base.specs.declared.ids.JoinNo.{JoinNo}
 use Rattle.alp_base.specs.declared.ids.TransId.{TransId}
 use Rattle.alp_files.specs.declared.call.Call.{Call}
 use Rattle.alp_files.specs.declared.call.Call.TheVariants as call
@@ -15,16 +16,21 @@ use Rattle.alp_files.specs.declared.refusal.Refusal.{Refusal}
 use Rattle.alp_files.specs.declared.refusal.Refusal.TheVariants as refusal
 use Rattle.alp_journal.specs.Answers.{if_over}
 use Rattle.alp_journal.specs.Counts.{log_need}
+use Rattle.alp_journal.specs.Desk.{file_trans}
 use Rattle.alp_journal.specs.Ids.{same_trans}
 use Rattle.alp_journal.proofs.IdLemmas.{same_trans-itself, same_trans-true}
 use Rattle.alp_locks.proofs.SoundLemmas.{each-more, each-both, each-filter}
+use Rattle.alp_coord.specs.declared.coordinator.Coordinator.{Coordinator}
+use Rattle.alp_worker.specs.declared.joins.Joins.{Joins}
 use Rattle.alp_queue.specs.Order.{is_of as is_waiter_of, waits}
 use Rattle.alp_queue.specs.declared.waiter.Waiter.{Waiter}
 use Rattle.alp_node.specs.Asks.{is_given}
 use Rattle.alp_node.specs.Shapes.{shape_of, no_open}
 use Rattle.alp_node.specs.Totals.{LiveMap}
 use Rattle.alp_node.specs.Dead.{cause_in}
-use Rattle.alp_node.specs.Waits.{is_of, is_file_on, has_waiting, grant_one, grant_of, outlives, without_dead, has_part, stays, live_calls, IsWithinLimits, IsFileCall, IsNamed, IsWaitingCall, IsOfOther, AreApart, is_asking, asks_for, IsOfCalls, AreWaiting}
+use Rattle.alp_worker.specs.declared.live.LiveJoin.{LiveJoin}
+use Rattle.alp_worker.specs.Lives.{is_open, join_at}
+use Rattle.alp_node.specs.Waits.{is_of, is_file_on, is_at, is_other_at, without_calls_of, has_waiting, has_file_on, grant_one, grant_of, outlives, without_dead, without_other_at, has_part, stays, live_calls, IsCurrent, IsWithinLimits, IsFileCall, IsNamed, IsWaitingCall, IsOfOther, AreApart, is_asking, asks_for, IsOfCalls, AreWaiting, AreVotersIdle}
 use Rattle.alp_node.specs.declared.dead.DeadPart.{DeadPart}
 use Rattle.alp_node.specs.declared.lives.Live.{Live}
 use Rattle.alp_node.specs.declared.lock_counts.LockCounts.{LockCounts}
@@ -117,13 +123,13 @@ module _ (server epoch m n : ℕ) (more : m ≤ n) (sizes : Sizes) where
       → IsWaitingCall server epoch m drawn sizes lives w → IsWaitingCall server epoch n drawn_then sizes now w
   call_later drawn drawn_then low lives now w was h = record {
     named = h.named;
+    current = h.current;
     file = λ z counted. (
         let o : IsFileCall server epoch m drawn sizes lives w z = h.file z counted in
-        let before : w.trans.counter ≤ drawn = o.begun in
         record {
           formed = o.formed;
           some = o.some;
-          begun = omega (arith, low, before);
+          begun = λ own. (let before : w.trans.counter ≤ drawn = o.begun own in omega (arith, low, before));
           limits = λ l is. let x = was z counted o l is in limits_later w z x.0 l x.2 (o.limits x.0 x.1);
         });
   }
@@ -142,18 +148,9 @@ pub grant_apart : (t : TransId) (ws : List WaitingCall) → AreApart ws → AreA
 grant_apart t [] h = tt
 grant_apart t (w ∷ ws) h = (go (is_file_on t w), grant_apart t ws h.1)
   where
-    as_granted : (v : WaitingCall) → IsOfOther w v → IsOfOther w (record v { is_granted = true })
-    as_granted v e = record { files = e.files; parts = e.parts }
-
-    granted_from : (v : WaitingCall) → IsOfOther w v → IsOfOther (record w { is_granted = true }) v
-    granted_from v e = record { files = e.files; parts = e.parts }
-
-    both_granted : (v : WaitingCall) → IsOfOther (record w { is_granted = true }) v → IsOfOther (record w { is_granted = true }) (record v { is_granted = true })
-    both_granted v e = record { files = e.files; parts = e.parts }
-
     go : (b : Bool) → AllByRecursion (IsOfOther (cond {A = WaitingCall} b (record w { is_granted = true }) w)) (grant_of t ws)
-    go true = grant_call (IsOfOther (record w { is_granted = true })) t both_granted ws (each-more (IsOfOther w) (IsOfOther (record w { is_granted = true })) granted_from ws h.0)
-    go false = grant_call (IsOfOther w) t as_granted ws h.0
+    go true = grant_call (IsOfOther w) t (λ v e. e) ws h.0
+    go false = grant_call (IsOfOther w) t (λ v e. e) ws h.0
 
 asking_one : (t u : TransId) (w : WaitingCall) → same_trans u t ≡ false → is_asking u (grant_one t w) ≡ is_asking u w
 asking_one t u w apart = go (is_file_on t w) refl
@@ -221,21 +218,39 @@ asks_undead client ds lives ws t alive live owned asks = any_filter (IsOwned liv
     keeps w own e = go w own (file_counts t w (and_left (is_file_on t w) (not w.is_granted) e)) (asking_is t w e) (map.get lives t) refl live
 
 -- and where those go that are of no live part
-pub asks_live : (client : ℕ) (lives : LiveMap) (ws : List WaitingCall) (t : TransId) → is_some (map.get lives t) ≡ true → AllByRecursion (IsOwned lives) ws → asks_for ws t ≡ true → asks_for (live_calls client lives ws) t ≡ true
-asks_live client lives ws t live owned asks = any_filter (IsOwned lives) (stays client lives) (is_asking t) ws keeps owned asks
+pub asks_live : (client : ℕ) (c : Coordinator) (k : Joins) (lives : LiveMap) (ws : List WaitingCall) (t : TransId) → ((l : Live) → map.get lives t ≡ Some l → has_part l.client c k t ≡ true) → is_some (map.get lives t) ≡ true
+    → AllByRecursion (IsOwned lives) ws → asks_for ws t ≡ true → asks_for (live_calls client c k ws) t ≡ true
+asks_live client c k lives ws t has live owned asks = any_filter (IsOwned lives) (stays client c k) (is_asking t) ws keeps owned asks
   where
-    by : (w : WaitingCall) (l : Live) → map.get lives w.trans ≡ Some l → w.client ≡ l.client → (b : Bool) → (w.client == client) ≡ b → (not b || has_part client (map.get lives w.trans)) ≡ true
-    by w l there its false e = refl
-    by w l there its true e = ap (has_part client) there ∙ eq-eqb l.client client (sym its ∙ eqb-true w.client client e)
+    by : (w : WaitingCall) (l : Live) → w.trans ≡ t → w.client ≡ l.client → has_part l.client c k t ≡ true → (b : Bool) → (w.client == client) ≡ b → (not b || has_part client c k w.trans) ≡ true
+    by w l at its there false e = refl
+    by w l at its there true e =
+        let same : client ≡ l.client = sym (eqb-true w.client client e) ∙ its in
+        (λ i. has_part (same i) c k (at i)) ∙ there
 
-    go : (w : WaitingCall) → IsOwned lives w → is_some w.counts ≡ true → w.trans ≡ t → (x : Option Live) → map.get lives t ≡ x → is_some x ≡ true → stays client lives w ≡ true
+    go : (w : WaitingCall) → IsOwned lives w → is_some w.counts ≡ true → w.trans ≡ t → (x : Option Live) → map.get lives t ≡ x → is_some x ≡ true → stays client c k w ≡ true
     go w own some at None e s = let wrong : false ≡ true = s in cc
-    go w own some at (Some l) e s =
-        let there : map.get lives w.trans ≡ Some l = ap (map.get lives) at ∙ e in
-        by w l there (own l there some) (w.client == client) refl
+    go w own some at (Some l) e s = by w l at (own l (ap (map.get lives) at ∙ e) some) (has l e) (w.client == client) refl
 
-    keeps : (w : WaitingCall) → IsOwned lives w → is_asking t w ≡ true → stays client lives w ≡ true
+    keeps : (w : WaitingCall) → IsOwned lives w → is_asking t w ≡ true → stays client c k w ≡ true
     keeps w own e = go w own (file_counts t w (and_left (is_file_on t w) (not w.is_granted) e)) (asking_is t w e) (map.get lives t) refl live
+
+-- and where those go of a client that has no live part of the transaction
+pub asks_apart : (client : ℕ) (t : TransId) (lives : LiveMap) (ws : List WaitingCall) (u : TransId) → ((l : Live) → map.get lives t ≡ Some l → (l.client == client) ≡ false) → is_some (map.get lives u) ≡ true
+    → AllByRecursion (IsOwned lives) ws → asks_for ws u ≡ true → asks_for (without_calls_of client t ws) u ≡ true
+asks_apart client t lives ws u other live owned asks = any_filter (IsOwned lives) (λ w. not (is_of client t w)) (is_asking u) ws keeps owned asks
+  where
+    theirs : (w : WaitingCall) → IsOwned lives w → is_some w.counts ≡ true → w.trans ≡ u → same_trans w.trans t ≡ true → (x : Option Live) → map.get lives u ≡ x → is_some x ≡ true → (w.client == client) ≡ false
+    theirs w own some at its None e s = let wrong : false ≡ true = s in cc
+    theirs w own some at its (Some l) e s = ap (λ (n : ℕ). n == client) (own l (ap (map.get lives) at ∙ e) some) ∙ other l (ap (map.get lives) (sym (same_trans-true w.trans t its) ∙ at) ∙ e)
+
+    passes : (b c : Bool) → (c ≡ true → b ≡ false) → not (b && c) ≡ true
+    passes false c h = refl
+    passes true false h = refl
+    passes true true h = let wrong : true ≡ false = h refl in cc
+
+    keeps : (w : WaitingCall) → IsOwned lives w → is_asking u w ≡ true → not (is_of client t w) ≡ true
+    keeps w own e = passes (w.client == client) (same_trans w.trans t) (λ its. theirs w own (file_counts u w (and_left (is_file_on u w) (not w.is_granted) e)) (asking_is u w e) its (map.get lives u) refl live)
 
 pub asks_other : (client : ℕ) (t : TransId) (ws : List WaitingCall) (u : TransId) → same_trans u t ≡ false → asks_for ws u ≡ true → asks_for (filter (λ w. not (is_of client t w)) ws) u ≡ true
 asks_other client t ws u apart asks =
@@ -244,6 +259,69 @@ asks_other client t ws u apart asks =
     go : (w : WaitingCall) (b : Bool) → same_trans w.trans t ≡ false → not (b && same_trans w.trans t) ≡ true
     go w true e = ap not e
     go w false e = refl
+
+-- who asks goes on where a Join or a Finish goes
+pub asks_without_other : (client number : ℕ) (ws : List WaitingCall) (u : TransId) → asks_for ws u ≡ true → asks_for (without_other_at client number ws) u ≡ true
+asks_without_other client number ws u asks =
+    any_filter (λ (w : WaitingCall). Unit {0}) (λ w. not (is_other_at client number w)) (is_asking u) ws (λ w o e. go (is_at client number w) w.counts (file_counts u w (and_left (is_file_on u w) (not w.is_granted) e)))
+    (each_so (λ (w : WaitingCall). Unit {0}) (λ w. tt) ws) asks
+  where
+    go : (b : Bool) (x : Option LockCounts) → is_some x ≡ true → not (b && is_none x) ≡ true
+    go b None e = let wrong : false ≡ true = e in cc
+    go true (Some n) e = refl
+    go false (Some n) e = refl
+
+-- ---- calls of parts that voted
+
+none_filter : (q p : WaitingCall → Bool) (ws : List WaitingCall) → list_any q ws ≡ false → list_any q (filter p ws) ≡ false
+none_filter q p [] h = refl
+none_filter q p (w ∷ ws) h = by (q w) refl h (none_filter q p ws)
+  where
+    go : (b : Bool) → q w ≡ false → list_any q (filter p ws) ≡ false → list_any q (cond {A = List WaitingCall} b (w ∷ filter p ws) (filter p ws)) ≡ false
+    go true e rest = ap (λ (x : Bool). x || list_any q (filter p ws)) e ∙ rest
+    go false e rest = rest
+
+    by : (d : Bool) → q w ≡ d → (d || list_any q ws) ≡ false → (list_any q ws ≡ false → list_any q (filter p ws) ≡ false) → list_any q (cond {A = List WaitingCall} (p w) (w ∷ filter p ws) (filter p ws)) ≡ false
+    by true e f more = let wrong : true ≡ false = f in cc
+    by false e f more = go (p w) e (more f)
+
+-- none waits where fewer do
+pub idle_fewer : (p : WaitingCall → Bool) (ls : List LiveJoin) (ws : List WaitingCall) → AreVotersIdle ls ws → AreVotersIdle ls (filter p ws)
+idle_fewer p ls ws h j x is voted = none_filter (is_file_on x.trans) p ws (h j x is voted)
+
+-- nor as one is granted its locks
+pub file_granted : (u t : TransId) (ws : List WaitingCall) → has_file_on u (grant_of t ws) ≡ has_file_on u ws
+file_granted u t [] = refl
+file_granted u t (w ∷ ws) = λ i. go (is_file_on t w) i || file_granted u t ws i
+  where
+    go : (b : Bool) → is_file_on u (cond {A = WaitingCall} b (record w { is_granted = true }) w) ≡ is_file_on u w
+    go true = refl
+    go false = refl
+
+pub idle_granted : (t : TransId) (ls : List LiveJoin) (ws : List WaitingCall) → AreVotersIdle ls ws → AreVotersIdle ls (grant_of t ws)
+idle_granted t ls ws h j x is voted = file_granted x.trans t ws ∙ h j x is voted
+
+-- a call that is no file call of the transaction
+pub file_pushed : (t : TransId) (ws : List WaitingCall) (w : WaitingCall) → is_file_on t w ≡ false → has_file_on t (ws ++ w ∷ []) ≡ has_file_on t ws
+file_pushed t [] w e = ap (λ (b : Bool). b || false) e
+file_pushed t (v ∷ vs) w e = ap (λ (b : Bool). is_file_on t v || b) (file_pushed t vs w e)
+
+-- a file call of a transaction of which none voted waits besides
+pub idle_pushed : (ls : List LiveJoin) (ws : List WaitingCall) (w : WaitingCall) → ((j : JoinNo) (x : LiveJoin) → join_at ls j ≡ Some x → is_open x.stage ≡ false → same_trans x.trans w.trans ≡ false) → AreVotersIdle ls ws → AreVotersIdle ls (ws ++ w ∷ [])
+idle_pushed ls ws w none h j x is voted = file_pushed x.trans ws w (away (is_some w.counts) (same_trans w.trans x.trans) refl) ∙ h j x is voted
+  where
+    away : (a b : Bool) → same_trans w.trans x.trans ≡ b → (a && b) ≡ false
+    away true true e = let wrong : true ≡ false = sym (ap (same_trans x.trans) (same_trans-true w.trans x.trans e) ∙ same_trans-itself x.trans) ∙ none j x is voted in cc
+    away true false e = refl
+    away false b e = refl
+
+-- whose file call waits did not vote
+pub called_unvoted : (ls : List LiveJoin) (ws : List WaitingCall) (t : TransId) → AreVotersIdle ls ws → has_file_on t ws ≡ true → (j : JoinNo) (x : LiveJoin) → join_at ls j ≡ Some x → is_open x.stage ≡ false → same_trans x.trans t ≡ false
+called_unvoted ls ws t h called j x is voted = go (same_trans x.trans t) refl
+  where
+    go : (b : Bool) → same_trans x.trans t ≡ b → b ≡ false
+    go false e = refl
+    go true e = let wrong : false ≡ true = sym (h j x is voted) ∙ ap (λ (u : TransId). has_file_on u ws) (same_trans-true x.trans t e) ∙ called in cc
 
 -- ---- a call that comes
 
@@ -380,7 +458,6 @@ module _ (server epoch m n : ℕ) (more : m ≤ n) (drawn : ℕ) (sizes : Sizes)
   waiting_parts was stays_live h = record {
     calls = each-both (IsLikeThen lives now) (IsWaitingCall server epoch m drawn sizes lives) (IsWaitingCall server epoch n drawn sizes now)
         (λ w from o. call_later server epoch m n more sizes drawn drawn (le_refl drawn) lives now w (λ z counted q l is. from z counted l is) o) ws was h.calls;
-    files = h.files;
     apart = h.apart;
     queued = each-more (IsOfCalls server epoch m lives ws) (IsOfCalls server epoch n now ws) (λ x o. record { live = stays_live x.trans o.live; asks = o.asks; beyond = λ k high. o.beyond k (omega (arith, more, high)) }) queue h.queued;
   }
@@ -394,6 +471,11 @@ pub waiting_later : (server epoch m n : ℕ) → m ≤ n → (drawn : ℕ) (size
 waiting_later server epoch m n more drawn sizes lives ws queue h = waiting_parts server epoch m n more drawn sizes lives lives ws queue (all_like lives ws) (λ t live. live) h
 
 -- each call is one of its transaction
+-- a file call is no Finish
+pub file_current : (epoch : ℕ) (t : TransId) (c : Call) → file_trans c ≡ Some t → IsCurrent epoch c
+file_current epoch t (call.Finish u commit) named = let wrong : None ≡ Some t = named in cc
+file_current epoch t c named = tt
+
 pub named_all : (server epoch given drawn : ℕ) (sizes : Sizes) (lives : LiveMap) (ws : List WaitingCall) → AllByRecursion (IsWaitingCall server epoch given drawn sizes lives) ws → AreNamed ws
 named_all server epoch given drawn sizes lives ws h = each-more (IsWaitingCall server epoch given drawn sizes lives) IsNamed (λ w o. o.named) ws h
 
@@ -402,15 +484,15 @@ pub not_like : (t : TransId) (l now : Live) (ws : List WaitingCall) → AreOther
 not_like t l now [] away = tt
 not_like t l now (w ∷ ws) away = ((λ e. let wrong : false ≡ true = sym away.0 ∙ e in cc), not_like t l now ws away.1)
 
--- and an id beyond the count has none
-pub none_newer : (server epoch given drawn : ℕ) (sizes : Sizes) (lives : LiveMap) (t : TransId) (ws : List WaitingCall) → drawn < t.counter → AllByRecursion (IsWaitingCall server epoch given drawn sizes lives) ws → AreOthers t ws
-none_newer server epoch given drawn sizes lives t [] high h = tt
-none_newer server epoch given drawn sizes lives t (w ∷ ws) high h = (go (is_file_on t w) refl, none_newer server epoch given drawn sizes lives t ws high h.1)
+-- and an id of the server beyond the count has none
+pub none_newer : (server epoch given drawn : ℕ) (sizes : Sizes) (lives : LiveMap) (t : TransId) (ws : List WaitingCall) → t.server ≡ server → drawn < t.counter → AllByRecursion (IsWaitingCall server epoch given drawn sizes lives) ws → AreOthers t ws
+none_newer server epoch given drawn sizes lives t [] own high h = tt
+none_newer server epoch given drawn sizes lives t (w ∷ ws) own high h = (go (is_file_on t w) refl, none_newer server epoch given drawn sizes lives t ws own high h.1)
   where
     go : (b : Bool) → is_file_on t w ≡ b → b ≡ false
     go false e = refl
     go true e =
         let n = counts_there w.counts (file_counts t w e) in
         let counter : w.trans.counter ≡ t.counter = ap (λ (u : TransId). u.counter) (file_at t w e) in
-        let low : w.trans.counter ≤ drawn = (h.0.file n.0 n.1).begun in
+        let low : w.trans.counter ≤ drawn = (h.0.file n.0 n.1).begun (ap (λ (u : TransId). u.server) (file_at t w e) ∙ own) in
         absurd (omega (arith, counter, low, high))

@@ -19,17 +19,16 @@ use Rattle.alp_journal.specs.declared.event.Event.TheVariants as event
 use Rattle.alp_journal.specs.declared.entry.Entry.{Entry}
 use Rattle.alp_journal.specs.Along.{state_after}
 use Rattle.alp_journal.specs.Coordinator.{Undrawn}
-use Rattle.alp_journal.specs.Holder.{Holder, Life, holder_after}
+use Rattle.alp_journal.specs.Holder.{Life}
 use Rattle.alp_journal.specs.Opening.{Start}
-use Rattle.alp_journal.specs.State.{State, is_other_server}
+use Rattle.alp_journal.specs.State.{State, state_deed}
 use Rattle.alp_journal.specs.Laws.{IsLawful}
 use Rattle.alp_journal.specs.Answered.{IsAnswered}
 use Rattle.alp_journal.specs.Account.{Account, state_of as account_state, IsQuiet, AreEarlier, AreOwnEvents}
 use Rattle.alp_coord.specs.Coordinators.{count_of, fate_in}
-use Rattle.alp_node.specs.Decisions.{IsPlain}
 use Rattle.alp_node.specs.DownStates.{DownState}
 use Rattle.alp_node.specs.NodeStates.{NodeState}
-use Rattle.alp_node.specs.Durable.{stored_by, Leaves}
+use Rattle.alp_node.specs.Durable.{IsStoredBy, Leaves}
 use Rattle.alp_node.specs.Nodes.{IsSoundStart, state_of, start_by, sent_in}
 use Rattle.alp_node.specs.ServerState.{SeesNoneToCome, PutNoneBeyond, AreMade}
 use Rattle.alp_node.specs.Sessions.{no_sessions}
@@ -39,9 +38,9 @@ use Rattle.alp_node.specs.declared.start.StartFault.TheVariants as fault
 
 -- ---- what a crash left
 
--- what the holder has with all that was tried last
-abbrev pub holder_then : State → Holder
-holder_then s = state_after holder_after s.holder s.pending
+-- what the journal says with all that was tried last
+abbrev pub state_then : State → State
+state_then s = state_after state_deed s s.pending
 
 -- It is what the journal says that the vault holds, or that with the whole of what was tried last; and the note has the last epoch, or
 -- the one after it, if there is one, which a restart put that was refused then.
@@ -49,20 +48,19 @@ pub record IsLeftOf (s : State) (c : Contents) : Type 0 where
   pub epoch : ℕ
   pub near : (epoch ≡ s.ids.epoch) ⊎ (epoch ≡ s.ids.epoch + 1)
   pub last : epoch < 2 ^ 32
-  pub either : Either (stored_by epoch s.holder) (stored_by epoch (holder_then s)) c
+  pub either : IsStoredBy epoch s c ⊎ IsStoredBy epoch (state_then s) c
 
 -- ---- a server that fell
 
 -- Of the state that a server fell in these stay: which it is, and that no other is of the run; the ids of files that it gave and those
 -- that it did not; that no decision has joins; what was applied; and that it was quiet.
-pub record IsPast (a : Account) (server epoch : ℕ) (sizes : Sizes) : Type 0 where
+pub record IsPast (a : Account) (server servers epoch : ℕ) (sizes : Sizes) : Type 0 where
   pub number : a.holder.server ≡ server
-  pub lone : (n : ℕ) → is_other_server (account_state a) n ≡ false
+  pub among : a.servers ≡ servers
   pub volume : a.sizes ≡ sizes
   pub now : a.ids.epoch ≡ epoch
   pub clock : a.holder.clock ≤ 2 ^ 62
   pub unborn : (t : TransId) (l : Life) → a.holder.lives t ≡ Some l → PutNoneBeyond a.holder.server a.ids.epoch a.ids.files l.edits
-  pub plain : (t : TransId) → IsPlain (a.fates t)
   pub made : AreMade a.holder.server a.ids.epoch a.ids.files a.holder.made
   pub born : SeesNoneToCome a.holder.server a.ids.epoch a.ids.files (map.get a.holder.cells)
   pub earlier : AreEarlier a.holder.kept a.holder.applied
@@ -76,7 +74,7 @@ pub record IsPastRight {V : Type 0} (o : Start) (sizes : Sizes) (d : DownState V
   pub own : AreOwnEvents d.journal
   pub state : Account
   pub says : state_of o d.journal ≡ account_state state
-  pub past : IsPast state d.server d.epoch sizes
+  pub past : IsPast state d.server d.servers d.epoch sizes
 
 -- what it was started on
 abbrev pub start_of : {V : Type 0} → Ghosts V → DownState V → Start
@@ -100,7 +98,7 @@ pub record HasFallen {V : Type 0} (G : Ghosts V) (pick : ℕ) (n : NodeState V) 
   pub opening : d.opening ≡ n.opening
   pub journal : d.journal ≡ n.journal
   pub server : d.server ≡ n.kept.server
-  pub servers : d.servers ≡ n.servers
+  pub servers : d.servers ≡ n.kept.servers
   pub epoch : d.epoch ≡ n.kept.epoch
   pub crashed : G.crashed n.kept.vault pick d.vault
   pub same : IsSameVault G.tells G.volume G.server G.servers n.kept.vault d.vault
@@ -237,7 +235,7 @@ pub record HasRestarted {V : Type 0} (G : Ghosts V) (d : DownState V) (n : NodeS
   pub low : d.epoch < 4294967295
   pub opening : n.opening ≡ d.opening
   pub server : n.kept.server ≡ d.server
-  pub servers : n.servers ≡ d.servers
+  pub servers : n.kept.servers ≡ d.servers
   pub epoch : n.kept.epoch ≡ d.epoch + 1
   pub journal : n.journal ≡ d.journal ++ entry_again (record { epoch = n.kept.epoch; clock = n.kept.clock }) ∷ []
   pub nobody : KeepsNobody n.kept

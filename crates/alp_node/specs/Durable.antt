@@ -1,56 +1,90 @@
 -- What a server's vault holds by its journal, and what a crash leaves of it.
-use Rattle.std.specs.Prelude.{◌≡◌, ◌⊎◌, ℕ, false, IsTrue, List}
-use Rattle.std.specs.FinMap as map
-use Rattle.alp_base.specs.Crashes.{Only, NoMore, Either, Adds}
-use Rattle.alp_base.specs.Notes.{Notes}
-use Rattle.alp_fields.specs.ClockNote.{clock_name, clock_form}
-use Rattle.alp_fields.specs.declared.clock_note.ClockNote.{ClockNote}
-use Rattle.alp_files.specs.Needs.{Intents}
+use Rattle.std.specs.Prelude.{◌≡◌, ◌⊎◌, ℕ, false, IsTrue, List, Option, None, Some}
+use Rattle.alp_base.specs.Crashes.{Only, NoMore, Adds}
+use Rattle.alp_base.specs.Notes.{Notes, notes_after}
+use Rattle.alp_base.specs.declared.bytes.NoteChange.{NoteChange}
+use Rattle.alp_base.specs.declared.ids.JoinNo.{JoinNo}
+use Rattle.alp_base.specs.declared.ids.TransId.{TransId}
+use Rattle.alp_base.specs.declared.key.Resource.{Resource}
+use Rattle.alp_fields.specs.ClockNote.{clock_kept}
+use Rattle.alp_fields.specs.DecisionNote.{decision_name}
+use Rattle.alp_fields.specs.ReadyNote.{ready_name}
+use Rattle.alp_fields.specs.declared.ready_note.ReadyPart.{ReadyPart}
 use Rattle.alp_files.specs.Changes.{edits_of}
 use Rattle.alp_files.specs.Edits.{edits_map}
+use Rattle.alp_files.specs.Holdings.{held_by}
+use Rattle.alp_files.specs.Needs.{Intents, intents_of}
 use Rattle.alp_trans.specs.Parts.{change_of}
 use Rattle.alp_vault.specs.Contents.{Contents}
+use Rattle.alp_vault.specs.Volumes.{AreServerNotes}
 use Rattle.alp_vault.specs.declared.vault.Vault.{Ghosts}
 use Rattle.alp_journal.specs.declared.entry.Entry.{Entry}
 use Rattle.alp_journal.specs.Along.{state_after}
 use Rattle.alp_journal.specs.Deeds.{Deed}
-use Rattle.alp_journal.specs.Holder.{Holder, holder_after}
+use Rattle.alp_journal.specs.Holder.{Life}
 use Rattle.alp_journal.specs.Moves.{tried}
-use Rattle.alp_journal.specs.State.{State}
+use Rattle.alp_journal.specs.Participant.{Phase, Ready}
+use Rattle.alp_journal.specs.State.{State, state_deed}
+use Rattle.alp_ready.specs.NoteLooks.{ready_at, decision_at}
+use Rattle.alp_node.specs.Noted.{decision_kept}
 
 -- ---- what is held
 
--- a server has the note of its epoch and clock, and no other
-abbrev pub clock_notes : ClockNote → Notes
-clock_notes c = map.insert map.empty clock_name (clock_form.spell c)
+-- the note has the locks of the part and what it intends
+pub record IsKeptOf (l : Life) (p : ReadyPart) : Type 0 where
+  pub held : (r : Resource) → held_by p.locks r ≡ l.held r
+  pub intents : intents_of (edits_of p.change) ≡ intents_of l.edits
 
--- of this epoch and this holder a vault has the cells, and the clock that a restart finds
-abbrev pub stored_by : ℕ → Holder → Contents
-stored_by epoch h = record { cells = h.cells; notes = clock_notes (record { epoch = epoch; clock = h.kept }) }
+abbrev pub IsKeptIf : Option Life → ReadyPart → Type 0
+IsKeptIf None p = ⊥
+IsKeptIf (Some l) p = IsKeptOf l p
 
--- what the journal says that the vault holds
-abbrev pub said_of : State → Contents
-said_of s = stored_by s.ids.epoch s.holder
+-- A ready part has its note, with its transaction, its client and the time of its vote; and no other join has one.
+abbrev pub IsReadyNote : (TransId → Option Life) → Phase → Option ReadyPart → Type 0
+IsReadyNote lives (Ready t client ts) None = ⊥
+IsReadyNote lives (Ready t client ts) (Some p) = (p.trans ≡ t) × (p.client ≡ client) × (p.ts ≡ ts) × IsKeptIf (lives t) p
+IsReadyNote lives phase x = x ≡ None
 
--- and with these deeds besides
-abbrev pub said_with : State → List Deed → Contents
-said_with s ds = stored_by s.ids.epoch (state_after holder_after s.holder ds)
+-- What the notes of a server keep by its journal: that epoch and the clock that a restart finds; each part that voted and whose
+-- outcome is not known; each decision that a part on another server has not applied. Nothing else stands.
+pub record AreNotesOf (s : State) (epoch : ℕ) (notes : Notes) : Type 0 where
+  pub clock : clock_kept notes ≡ record { epoch = epoch; clock = s.holder.kept }
+  pub ready : (j : JoinNo) → ready_name.Fits j → IsReadyNote s.holder.lives (s.phases j) (ready_at notes j)
+  pub decided : (t : TransId) → decision_name.Fits t → decision_at notes t ≡ decision_kept (s.fates t)
+  pub format : AreServerNotes s.holder.server s.servers notes
+
+-- the vault has the cells that the journal says, and its notes, of that epoch
+pub record IsStoredBy (epoch : ℕ) (s : State) (c : Contents) : Type 0 where
+  pub cells : c.cells ≡ s.holder.cells
+  pub notes : AreNotesOf s epoch c.notes
+
+-- it holds what the journal says
+abbrev pub IsSaid : State → Contents → Type 0
+IsSaid s c = IsStoredBy s.ids.epoch s c
+
+-- and what that comes to with these deeds besides
+abbrev pub IsSaidWith : State → List Deed → Contents → Type 0
+IsSaidWith s ds c = IsStoredBy s.ids.epoch (state_after state_deed s ds) c
 
 -- what the vault would hold with all that an entry was to bring about
-abbrev pub said_by : State → Entry → Contents
-said_by s e = said_with s (tried s e)
+abbrev pub IsSaidBy : State → Entry → Contents → Type 0
+IsSaidBy s e c = IsSaidWith s (tried s e) c
 
 -- and with all that a stopped server tried last
-abbrev pub said_then : State → Contents
-said_then s = said_with s s.pending
+abbrev pub IsSaidThen : State → Contents → Type 0
+IsSaidThen s c = IsSaidWith s s.pending c
+
+-- one of the two
+abbrev pub HeldOr : Contents → (Contents → Type 0) → Contents → Type 0
+HeldOr held P c = (c ≡ held) ⊎ P c
 
 -- ---- what a crash leaves
 
 -- A crash leaves what the journal says, and nothing else. Where the server went down as it wrote, it may also leave that with
 -- the whole of what was written.
 pub record IsDurable (s : State) (leaves : Contents → Type 0) : Type 0 where
-  pub up : s.is_down ≡ false → Only (said_of s) leaves
-  pub down : NoMore (Either (said_of s) (said_then s)) leaves
+  pub up : s.is_down ≡ false → NoMore (IsSaid s) leaves
+  pub down : NoMore (λ c. IsSaid s c ⊎ IsSaidThen s c) leaves
 
 -- a vault that serves has nothing half made: a crash leaves what it holds
 abbrev pub IsSettled : {V : Type 0} → Ghosts V → V → Type 0
@@ -69,7 +103,7 @@ Besides G v P c = G.may_leave v c ⊎ (c ≡ G.held v) ⊎ P c
 abbrev pub NoOther : Contents → Type 0
 NoOther c = ⊥
 
--- what was held, with these intents and this clock
-pub record IsWritten (intents : Intents) (clock : ClockNote) (before c : Contents) : Type 0 where
+-- what was held, with these intents and these changes of notes
+pub record IsWritten (intents : Intents) (changes : List NoteChange) (before c : Contents) : Type 0 where
   pub cells : c.cells ≡ edits_map (edits_of (change_of intents)) before.cells
-  pub notes : c.notes ≡ map.insert before.notes clock_name (clock_form.spell clock)
+  pub notes : c.notes ≡ notes_after changes before.notes

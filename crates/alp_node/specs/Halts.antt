@@ -1,14 +1,17 @@
 -- What a fault of the vault comes to.
-use Rattle.std.specs.Prelude.{◌≡◌, ℕ, ◌≤◌, Bool, true, false, IsTrue, List, [], ◌∷◌, Option, Some, Result, Ok, Err}
+use Rattle.std.specs.Prelude.{◌≡◌, ℕ, ◌^◌, ◌≤◌, Bool, true, false, IsTrue, List, [], ◌∷◌, Option, Some, Result, Ok, Err}
 use Rattle.alp_base.specs.Causes.{Rose}
 use Rattle.alp_base.specs.declared.allowance.Allowance.{Allowance}
 use Rattle.alp_base.specs.declared.allowance.Allowance.TheVariants.{Spent}
 use Rattle.alp_files.specs.declared.reply.Reply.{Reply}
 use Rattle.alp_files.specs.declared.reply.Reply.TheVariants as reply
 use Rattle.alp_files.specs.declared.refusal.Refusal.TheVariants as refusal
+use Rattle.alp_files.specs.declared.refusal.Why.TheVariants as why
 use Rattle.alp_vault.specs.declared.vault.Vault.{Ghosts}
 use Rattle.alp_journal.specs.declared.act.Act.{Act}
 use Rattle.alp_journal.specs.declared.act.Act.TheVariants as act
+use Rattle.alp_journal.specs.declared.message.Message.{Message}
+use Rattle.alp_journal.specs.declared.message.Message.TheVariants as msg
 use Rattle.alp_node.specs.declared.stored.StoreFault.{StoreFault}
 use Rattle.alp_node.specs.declared.stored.StoreFault.TheVariants as fault
 
@@ -32,10 +35,21 @@ says_shut (Some (reply.Refused refusal.Down)) = true
 says_shut (Some (reply.Refused refusal.JournalFull)) = true
 says_shut r = false
 
--- the vault failed or was stopped where the acts say so, and nothing is said to another server
+-- a time that a message tells
+abbrev pub IsTimelyMessage : Message → Type 0
+IsTimelyMessage (msg.Ready t j ts) = ts ≤ 2 ^ 62
+IsTimelyMessage (msg.Commit t j stamp) = stamp.ts ≤ 2 ^ 62
+IsTimelyMessage m = Unit {0}
+
+-- what is said to another server tells no time beyond the last, and no vote says that a read failed
+abbrev pub MaySay : Message → Type 0
+MaySay (msg.No t j why.ReadFault) = ⊥
+MaySay m = IsTimelyMessage m
+
+-- the vault failed or was stopped where the acts say so, and what is said to other servers may be said
 abbrev pub HaveCauses : ℕ → ℕ → Allowance → List Act → Type 0
 HaveCauses before now allowance [] = Unit {0}
 HaveCauses before now allowance (act.Failed ∷ more) = Rose before now × HaveCauses before now allowance more
 HaveCauses before now allowance (act.Stopped ∷ more) = (allowance ≡ Spent) × HaveCauses before now allowance more
-HaveCauses before now allowance (act.Sent to message ∷ more) = ⊥
+HaveCauses before now allowance (act.Sent to message ∷ more) = MaySay message × HaveCauses before now allowance more
 HaveCauses before now allowance (_ ∷ more) = HaveCauses before now allowance more

@@ -1,8 +1,11 @@
 pub mod Sessions
 pub mod Orders
+pub mod Noted
+pub mod Opens
+pub mod Outcomes
 pub mod Durable
+pub mod Paired
 pub mod Transactions
-pub mod Decisions
 pub mod ServerState
 pub mod Asks
 pub mod Shapes
@@ -19,6 +22,7 @@ pub mod Releases
 pub mod Draws
 pub mod Calls
 pub mod Turns
+pub mod Votes
 pub mod Steps
 pub mod Served
 pub mod Starts
@@ -26,3 +30,6 @@ pub mod NodeStates
 pub mod Nodes
 pub mod DownStates
 pub mod Downs
+pub mod Arrivals
+pub mod Says
+pub mod Writes

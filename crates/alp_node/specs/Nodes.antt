@@ -1,13 +1,10 @@
 -- A server and its journal.
-use Rattle.std.specs.Prelude.{◌≡◌, ℕ, ◌<◌, ◌≤◌, ◌||◌, slice_get, Bool, true, false, IsTrue, List, [], ◌∷◌, ◌++◌, length, flat_map, Option, Some, is_some, is_none, IsSome, ◌↔◌}
+use Rattle.std.specs.Prelude.{◌≡◌, ℕ, ◌<◌, ◌≤◌, ◌||◌, Bool, true, false, IsTrue, List, [], ◌∷◌, ◌++◌, length, flat_map, Option, Some, is_some}
 use Rattle.std.specs.FinMap as map
-use Rattle.std.specs.List.{list_any, Contains}
-use Rattle.std.specs.List.Sorted.{IsStrictlySortedBy}
+use Rattle.std.specs.List.{list_any, AllByRecursion}
 use Rattle.alp_base.specs.Causes.{Rose}
 use Rattle.alp_base.specs.declared.allowance.Allowance.{Allowance}
 use Rattle.alp_base.specs.declared.faults.Sizes.{Sizes}
-use Rattle.alp_base.specs.declared.ids.TransId.{TransId}
-use Rattle.alp_base.specs.Orders.{trans_cmp}
 use Rattle.alp_files.specs.Apart.{AreSized}
 use Rattle.alp_files.specs.Sound.{AreSound}
 use Rattle.alp_files.specs.declared.reply.Reply.{Reply}
@@ -25,17 +22,16 @@ use Rattle.alp_journal.specs.Opening.{Start, start_at}
 use Rattle.alp_journal.specs.State.{State, opened}
 use Rattle.alp_journal.specs.Moves.{next, is_stop}
 use Rattle.alp_journal.specs.Laws.{IsLawful}
-use Rattle.alp_journal.specs.Answered.{IsAnswered, IsAnsweredEntry, entries_limit}
-use Rattle.alp_journal.specs.Account.{Account, state_of as account_state, AreOwnEvents}
+use Rattle.alp_journal.specs.Answered.{IsAnswered, IsAnsweredEntry, entries_limit, is_read_fault}
+use Rattle.alp_journal.specs.Account.{Account, state_of as account_state}
 use Rattle.alp_node.specs.NodeStates.{NodeState}
 use Rattle.alp_node.specs.ServerState.{IsAs, IsReady}
 use Rattle.alp_node.specs.Durable.{IsDurable}
-use Rattle.alp_node.specs.Halts.{HaveCauses, IsUncounted, says_shut}
+use Rattle.alp_node.specs.Halts.{HaveCauses, MaySay, IsUncounted, says_shut}
 use Rattle.alp_node.specs.Orders.{is_answered, is_fault_now}
 use Rattle.alp_node.specs.Sessions.{no_sessions}
 use Rattle.alp_node.specs.Steps.{IsNoted}
 use Rattle.alp_node.specs.declared.sessions.CallOrder.{CallOrder}
-use Rattle.alp_node.specs.declared.sessions.CallOrder.TheVariants as order
 
 -- the state that a journal leaves
 abbrev pub state_of : Start → List Entry → State
@@ -57,12 +53,11 @@ pub record IsSoundStart (o : Start) : Type 0 where
   pub decisions : o.decisions ≡ []
 
 -- The journal is lawful, each of its entries has its cause, and the server keeps what its state says, with this in its
--- vault: a server that runs alone, and is given calls and timeouts. The files were sound when it was started.
+-- vault. The files were sound when it was started.
 pub record IsRight {V : Type 0} (o : Start) (held : Contents) (n : NodeState V) : Type 0 where
   pub opening : IsSoundStart o
   pub lawful : IsLawful o n.journal
   pub caused : IsAnswered o n.journal
-  pub own : AreOwnEvents n.journal
   pub state : Account
   pub says : state_of o n.journal ≡ account_state state
   pub kept : IsAs state held n.kept
@@ -79,16 +74,16 @@ sent_in journal = flat_map (λ (e : Entry). flat_map sent_by e.acts) journal
 
 -- ---- what holds of a server
 
--- What holds of each server that the calls make, by what its vault shows: the vault is of this server and these sizes, the note
--- has its epoch, nothing was said to another server, and where the vault tells what it holds, all is as the journal says, after a
--- crash too.
+-- What holds of each server that the calls make, by what its vault shows: the vault is of this server and these sizes, its notes are
+-- those of what the server keeps, what was said to other servers may be said, and where the vault tells what it holds, all is as the
+-- journal says, after a crash too.
 pub record IsConsistent {V : Type 0} (G : Ghosts V) (n : NodeState V) : Type 0 where
   pub number : G.server n.kept.vault ≡ n.kept.server
-  pub all : G.servers n.kept.vault ≡ n.servers
+  pub all : G.servers n.kept.vault ≡ n.kept.servers
   pub sizes : n.kept.sizes ≡ G.volume n.kept.vault
   pub ready : IsReady (length n.journal) (G.serves n.kept.vault) n.kept
   pub noted : IsNoted G n.kept
-  pub mute : sent_in n.journal ≡ []
+  pub said : AllByRecursion (λ (x : Envelope). MaySay x.message) (sent_in n.journal)
   pub right : IsTrue (G.tells n.kept.vault) → IsRight (start_in G n) (G.held n.kept.vault) n
   pub durable : IsTrue (G.tells n.kept.vault) → IsDurable (state_of (start_in G n) n.journal) (G.may_leave n.kept.vault)
 
@@ -106,27 +101,27 @@ pub record IsNew {V : Type 0} (volume : V → Sizes) (server : ℕ) (n : NodeSta
   pub locks : n.kept.locks ≡ record { held = map.empty; waiting = []; woken = [] }
   pub up : n.kept.is_down ≡ false
 
--- it has its cause in that state, which names a read that failed only where the count of faults rose
+-- it has its cause in that state, which names a read that failed only where the reply shows it and the count of faults rose
 abbrev pub HasCause : ℕ → ℕ → State → Entry → Type 0
-HasCause before now s e = (failed : Bool) × IsAnsweredEntry failed s e × (failed ≡ true → Rose before now)
+HasCause before now s e = (failed : Bool) × IsAnsweredEntry failed s e × (failed ≡ true → Rose before now × (is_read_fault e.reply ≡ true))
 
 -- One entry more: this event, which is this among the calls of its client, this reply, and what came about, with its cause where
--- the vault tells. Nothing is said to another server. Each call that is not astray has a reply, each event by which the server goes down, and nothing else. A
+-- the vault tells. Each call that is not astray has a reply, each event by which the server goes down, and nothing else. A
 -- vault that failed or was stopped has its cause, and just then the server is down; only then it says so, and it does not say that
--- its journal is full. It goes down only in the next call of a session, and then the reply says nothing else. Of any vault the
+-- its journal is full. Where it goes down the reply says nothing else. Of any vault the
 -- count of faults never falls; it rises where the reply shows that a read failed, and else it stays, but where the server goes
 -- down.
-pub record Answered (here : ℕ) (o : Option CallOrder) (tells : Bool) (s : State) (before after : List Entry) (e : Event) (r : Option Reply) (faults_before faults_now : ℕ) (allowance : Allowance) (is_down : Bool) : Type 0 where
+pub record Answered (o : Option CallOrder) (tells : Bool) (s : State) (before after : List Entry) (e : Event) (r : Option Reply) (faults_before faults_now : ℕ) (allowance : Allowance) (is_down : Bool) : Type 0 where
   pub acts : List Act
   pub entry : after ≡ before ++ (record { event = e; reply = r; acts = acts }) ∷ []
   pub cause : IsTrue tells → HasCause faults_before faults_now s (record { event = e; reply = r; acts = acts })
   pub replies : is_some r ≡ (is_answered o || is_down)
   pub later : faults_before ≤ faults_now
-  pub told : is_fault_now here o r ≡ true → Rose faults_before faults_now
-  pub still : (is_fault_now here o r || is_down) ≡ false → faults_now ≡ faults_before
+  pub told : is_fault_now o r ≡ true → Rose faults_before faults_now
+  pub still : (is_fault_now o r || is_down) ≡ false → faults_now ≡ faults_before
   pub down : is_down ≡ list_any is_stop acts
   pub said_down : says_shut r ≡ true → (is_down ≡ true) × (r ≡ Some (reply.Refused refusal.Down))
-  pub halts : is_down ≡ true → (o ≡ Some order.Next) × (r ≡ Some (reply.Refused refusal.Down))
+  pub halts : is_down ≡ true → r ≡ Some (reply.Refused refusal.Down)
   pub causes : HaveCauses faults_before faults_now allowance acts
 
 -- Memory was wanting: there is no entry more, sessions and clock are as before, and the vault holds, counts and allows what it
@@ -144,18 +139,3 @@ HasRoom n = length n.journal < entries_limit
 
 abbrev pub IsFull : {V : Type 0} → NodeState V → Type 0
 IsFull n = entries_limit ≤ length n.journal
-
--- these are the transactions that are live, least id first
-pub record AreLive (s : State) (ts : List TransId) : Type 0 where
-  pub rise : IsStrictlySortedBy trans_cmp ts
-  pub live : (t : TransId) → Contains ts t ↔ IsSome (s.holder.lives t)
-
--- the first of those that are live, if one is
-pub record IsLeastLive (s : State) (x : Option TransId) : Type 0 where
-  pub all : List TransId
-  pub live : AreLive s all
-  pub first : x ≡ slice_get all 0
-
--- it tells whether none is live
-abbrev pub IsNoneLive : Bool → State → Type 0
-IsNoneLive none s = (x : Option TransId) × IsLeastLive s x × (none ≡ is_none x)

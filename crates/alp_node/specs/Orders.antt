@@ -7,7 +7,7 @@ use Rattle.alp_files.specs.declared.reply.Reply.TheVariants as reply
 use Rattle.alp_files.specs.declared.refusal.Refusal.TheVariants as refusal
 use Rattle.alp_journal.specs.declared.event.Event.{Event}
 use Rattle.alp_journal.specs.declared.event.Event.TheVariants as event
-use Rattle.alp_journal.specs.Answered.{is_fault_reply}
+use Rattle.alp_journal.specs.Answered.{is_read_fault}
 use Rattle.alp_journal.specs.Desk.{Session}
 use Rattle.alp_node.specs.Sessions.{session_at}
 use Rattle.alp_node.specs.declared.server_state.ServerState.{ServerState}
@@ -49,6 +49,6 @@ is_answered (Some order.Astray) = false
 is_answered (Some o) = true
 
 -- the reply shows that a read failed in this step: what a repeat is answered tells of an earlier one
-abbrev pub is_fault_now : ℕ → Option CallOrder → Option Reply → Bool
-is_fault_now here (Some order.Repeat) r = false
-is_fault_now here o r = is_fault_reply here r
+abbrev pub is_fault_now : Option CallOrder → Option Reply → Bool
+is_fault_now (Some order.Repeat) r = false
+is_fault_now o r = is_read_fault r

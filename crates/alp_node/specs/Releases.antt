@@ -59,7 +59,7 @@ buried k client = record k { waits = without_dead client k.dead k.waits; dead = 
 
 -- nor any other call of the client that is of no live part
 abbrev pub cleared : {V : Type 0} → ServerState V → ℕ → ServerState V
-cleared k client = record k { waits = live_calls client k.lives (without_dead client k.dead k.waits); dead = without_client client k.dead }
+cleared k client = record k { waits = live_calls client k.coordinator k.joins (without_dead client k.dead k.waits); dead = without_client client k.dead }
 
 -- the acts of these grants
 abbrev pub grant_acts : List TransId → List Act

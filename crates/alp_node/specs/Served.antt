@@ -1,4 +1,4 @@
--- The events that a server that runs alone answers.
+-- The events that a server answers.
 use Rattle.std.specs.Prelude.{◌≡◌, ◌^◌, ◌≤◌, Some}
 use Rattle.std.specs.FinMap as map
 use Rattle.alp_base.specs.declared.ids.TransId.{TransId}
@@ -15,9 +15,10 @@ use Rattle.alp_journal.specs.declared.event.Event.{Event}
 use Rattle.alp_journal.specs.declared.event.Event.TheVariants as event
 use Rattle.alp_node.specs.declared.server_state.ServerState.{ServerState}
 use Rattle.alp_node.specs.Calls.{IsServedCall}
+use Rattle.alp_node.specs.Halts.{IsTimelyMessage}
 use Rattle.alp_node.specs.Shapes.{ReadsSome}
 
--- What a server that runs alone asks of an event. Each line says what it leaves out, and what of that ends with several servers.
+-- What a server asks of an event. Each line says what it leaves out.
 
 -- a call that may be asked
 abbrev pub IsAskable : Call → Type 0
@@ -53,15 +54,10 @@ IsServed (event.Timeout t) = Unit {0}
 -- a tick, and a force: nothing is left out
 IsServed event.Tick = Unit {0}
 IsServed event.Force = Unit {0}
--- left out is the message of another server, which ends with several servers; a restart is no event of a server that is up, and stays
--- out
-IsServed e = ⊥
-
--- events at which a server that runs alone has nothing to do
-abbrev pub IsIdleEvent : Event → Type 0
-IsIdleEvent event.Tick = Unit {0}
-IsIdleEvent event.Force = Unit {0}
-IsIdleEvent e = ⊥
+-- any message, from whomever, which tells no time later than the last there is: later times are no times
+IsServed (event.Arrive from m) = IsTimelyMessage m
+-- a restart is no event of a server that is up
+IsServed event.Restart = ⊥
 
 -- what each live part intends leaves well-formed files
 abbrev pub AreLivesSound : {V : Type 0} → Contents → ServerState V → Type 0

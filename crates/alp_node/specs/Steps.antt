@@ -15,11 +15,11 @@ use Rattle.alp_journal.specs.declared.act.Act.{Act}
 use Rattle.alp_journal.specs.declared.event.Event.{Event}
 use Rattle.alp_journal.specs.declared.event.Event.TheVariants as event
 use Rattle.alp_journal.specs.declared.entry.Entry.{Entry}
+use Rattle.alp_journal.specs.declared.message.Message.TheVariants as msg
+use Rattle.alp_journal.specs.Answered.{is_read_fault}
 use Rattle.alp_journal.specs.Moves.{is_stop}
 use Rattle.alp_journal.specs.Account.{Account, state_of, Leads}
-use Rattle.alp_fields.specs.ClockNote.{clock_kept}
 use Rattle.alp_vault.specs.Vault.{IsSameVault}
-use Rattle.alp_vault.specs.Volumes.{AreNotesSoFar}
 use Rattle.alp_vault.specs.Contents.{Contents}
 use Rattle.alp_vault.specs.declared.vault.Vault.{Ghosts}
 use Rattle.alp_node.specs.declared.answer.Answer.{Answer}
@@ -30,8 +30,9 @@ use Rattle.alp_node.specs.declared.sessions.CallOrder.TheVariants as order
 use Rattle.alp_node.specs.declared.sessions.Turn.{Turn}
 use Rattle.alp_node.specs.declared.sessions.Sessions.{Sessions}
 use Rattle.alp_node.specs.Dead.{without_part}
-use Rattle.alp_node.specs.Durable.{said_by, Leaves, Besides, NoOther}
+use Rattle.alp_node.specs.Durable.{IsSaidBy, Leaves, Besides, NoOther}
 use Rattle.alp_node.specs.Halts.{HaveCauses, IsUncounted, says_shut}
+use Rattle.alp_node.specs.Noted.{AreNotesFor}
 use Rattle.alp_node.specs.Orders.{is_answered, is_fault_now}
 use Rattle.alp_node.specs.Releases.{let_go}
 use Rattle.alp_node.specs.Waits.{without_calls_of}
@@ -43,51 +44,59 @@ use Rattle.alp_node.specs.Turns.{HasTurned}
 abbrev pub entry_of : Event → Answer → Entry
 entry_of e a = record { event = e; reply = a.kept; acts = a.acts }
 
--- the time that a client saw, where it begins a transaction
+-- a time that an event brings: what the client saw that begins a transaction, of a vote, or of a commit
 abbrev pub seen_in : Event → ℕ
 seen_in (event.Call client epoch number (call.Begin seen)) = seen.ts
+seen_in (event.Arrive from (msg.Ready t j ts)) = ts
+seen_in (event.Arrive from (msg.Commit t j stamp)) = stamp.ts
 seen_in _ = 0
 
--- by an event the clock comes at most to one more than the greater of what it was and what the client saw
+-- by an event the clock comes at most to one more than the greater of what it was and what that brings
 abbrev pub IsTimely : ℕ → Event → ℕ → Type 0
 IsTimely before e now = now ≤ max before (seen_in e) + 1
 
 -- The entry of the answered event is lawful and has its cause, the server keeps what its state says then, and the clock is no
--- later than it may be. That a read of the device failed shows only where the count of faults rose.
+-- later than it may be. That a read of the device failed shows in the reply, and only where the count of faults rose.
 pub record Stepped {V : Type 0} (a : Account) (before now : ℕ) (held : Contents) (new : ServerState V) (e : Event) (x : Answer) : Type 0 where
   pub failed : Bool
   pub next : Account
   pub leads : Leads failed a (entry_of e x) next
-  pub rose : failed ≡ true → Rose before now
+  pub rose : failed ≡ true → Rose before now × (is_read_fault x.kept ≡ true)
   pub kept : IsAs next held new
   pub clock : IsTimely a.holder.clock e new.clock
 
 -- which server it is stays as it was, and so does what its vault is; nobody adds to the allowance of that
 pub record IsSeated {V : Type 0} (G : Ghosts V) (old new : ServerState V) : Type 0 where
   pub server : new.server ≡ old.server
+  pub servers : new.servers ≡ old.servers
   pub sizes : new.sizes ≡ old.sizes
   pub epoch : new.epoch ≡ old.epoch
   pub same : IsSameVault G.tells G.volume G.server G.servers old.vault new.vault
   pub spends : Spends (G.allowance old.vault) (G.allowance new.vault)
 
--- while the server is up, the notes of its vault are in its format, and one has its epoch
+-- its vault is of this server, one of so many, with these sizes
+pub record IsOn {V : Type 0} (G : Ghosts V) (k : ServerState V) : Type 0 where
+  pub server : G.server k.vault ≡ k.server
+  pub servers : G.servers k.vault ≡ k.servers
+  pub sizes : k.sizes ≡ G.volume k.vault
+
+-- while the server is up, the notes of its vault are those of what it keeps
 abbrev pub IsNoted : {V : Type 0} → Ghosts V → ServerState V → Type 0
-IsNoted G k = (k.is_down ≡ false → AreNotesSoFar (G.server k.vault) (G.servers k.vault) (G.held k.vault).notes) × (k.is_down ≡ false → (clock_kept (G.held k.vault).notes).epoch ≡ k.epoch)
+IsNoted G k = k.is_down ≡ false → AreNotesFor k (G.held k.vault).notes
 
 -- Of any vault: what is handed out is what the entry keeps, and each call that is not astray has a reply, each event by which the
 -- server goes down, and nothing else. A vault that failed or was stopped has its cause, and just then the server is down; only
--- then it says so, and it never says that its journal is full. It goes down only in the next call of a session, and then the
--- answer says nothing else. The count of faults never falls; it rises where the answer shows that a read failed, and else it
+-- then it says so, and it never says that its journal is full. Where it goes down the answer says nothing else. The count of faults never falls; it rises where the answer shows that a read failed, and else it
 -- stays, but where the server goes down.
-pub record IsGiven (here : ℕ) (o : Option CallOrder) (before now : ℕ) (allowance : Allowance) (is_down : Bool) (a : Answer) : Type 0 where
+pub record IsGiven (o : Option CallOrder) (before now : ℕ) (allowance : Allowance) (is_down : Bool) (a : Answer) : Type 0 where
   pub handed : a.handed ≡ a.kept
   pub replies : is_some a.kept ≡ (is_answered o || is_down)
   pub later : before ≤ now
-  pub told : is_fault_now here o a.kept ≡ true → Rose before now
-  pub still : (is_fault_now here o a.kept || is_down) ≡ false → now ≡ before
+  pub told : is_fault_now o a.kept ≡ true → Rose before now
+  pub still : (is_fault_now o a.kept || is_down) ≡ false → now ≡ before
   pub down : is_down ≡ list_any is_stop a.acts
   pub said_down : says_shut a.kept ≡ true → (is_down ≡ true) × (a.kept ≡ Some (reply.Refused refusal.Down))
-  pub halts : is_down ≡ true → (o ≡ Some order.Next) × (a.kept ≡ Some (reply.Refused refusal.Down))
+  pub halts : is_down ≡ true → a.kept ≡ Some (reply.Refused refusal.Down)
   pub causes : HaveCauses before now allowance a.acts
 
 -- Where memory was wanting, the server keeps what it kept, and its vault holds, counts and allows what it did. Of any vault its
@@ -106,7 +115,7 @@ pub record IsStepAs {V : Type 0} (G : Ghosts V) (o : Option CallOrder) (old new 
   -- where the vault tells what it holds, by what the journal says
   pub stepped : IsTrue (G.tells old.vault) → (a : Account) → IsAs a (G.held old.vault) old → IfOk r (Stepped a (G.faults old.vault) (G.faults new.vault) (G.held new.vault) new e)
   -- and of any vault
-  pub given : IfOk r (IsGiven old.server o (G.faults old.vault) (G.faults new.vault) (G.allowance new.vault) new.is_down)
+  pub given : IfOk r (IsGiven o (G.faults old.vault) (G.faults new.vault) (G.allowance new.vault) new.is_down)
   pub ready : (steps : ℕ) → IsReady steps (G.serves old.vault) old → OnOk r (IsReady (steps + 1) (G.serves new.vault) new)
   pub noted : IsNoted G old → IsNoted G new
   pub still : OnErr r (IsStill G old new)
@@ -115,7 +124,7 @@ pub record IsStepAs {V : Type 0} (G : Ghosts V) (o : Option CallOrder) (old new 
   -- through the step a crash leaves what it might have left before, or all that the entry was to bring about, and nothing else where
   -- memory was wanting
   pub leaves : IsTrue (G.tells old.vault) → (a : Account) → IsAs a (G.held old.vault) old
-      → MatchResult r (λ x. Leaves G old.vault new.vault (Besides G old.vault (λ c. c ≡ said_by (state_of a) (entry_of e x)))) (λ _. Leaves G old.vault new.vault (Besides G old.vault NoOther))
+      → MatchResult r (λ x. Leaves G old.vault new.vault (Besides G old.vault (IsSaidBy (state_of a) (entry_of e x)))) (λ _. Leaves G old.vault new.vault (Besides G old.vault NoOther))
 
 -- what the next call of a session comes to
 abbrev pub IsStep : {V : Type 0} → Ghosts V → (old new : ServerState V) → Event → Result Answer OutOfMemory → Type 0

@@ -2,15 +2,24 @@
 use Rattle.std.specs.Prelude.{◌≡◌, ℕ, ◌<◌, ◌≤◌, Bool, true, false, not, ◌==◌, ◌&&◌, ◌||◌, List, [], ◌∷◌, filter, find, length, Option, None, Some, is_some, is_none, if◌then◌else◌, map as list_map}
 use Rattle.std.specs.List.{list_any, AllByRecursion}
 use Rattle.std.specs.FinMap as map
+use Rattle.alp_base.specs.declared.ids.JoinNo.{JoinNo}
 use Rattle.alp_base.specs.declared.ids.TransId.{TransId}
 use Rattle.alp_base.specs.declared.faults.Sizes.{Sizes}
 use Rattle.alp_base.specs.declared.key.Resource.TheVariants.{Whole}
 use Rattle.alp_files.specs.Locks.{IsFormed}
 use Rattle.alp_files.specs.declared.call.Call.{Call}
+use Rattle.alp_files.specs.declared.call.Call.TheVariants as call
 use Rattle.alp_journal.specs.Counts.{log_need}
 use Rattle.alp_journal.specs.Desk.{Waiting, file_trans, part_trans}
 use Rattle.alp_journal.specs.Ids.{same_trans}
+use Rattle.alp_journal.specs.Coordinator.{client_of}
+use Rattle.alp_journal.specs.State.{is_this}
 use Rattle.alp_queue.specs.declared.waiter.Waiter.{Waiter}
+use Rattle.alp_coord.specs.Coordinators.{fate_in}
+use Rattle.alp_coord.specs.declared.coordinator.Coordinator.{Coordinator}
+use Rattle.alp_worker.specs.declared.joins.Joins.{Joins}
+use Rattle.alp_worker.specs.declared.live.LiveJoin.{LiveJoin}
+use Rattle.alp_worker.specs.Lives.{is_open, join_at, part_of}
 use Rattle.alp_node.specs.Dead.{cause_in}
 use Rattle.alp_node.specs.Shapes.{shape_of, ReadsSome}
 use Rattle.alp_node.specs.Totals.{LiveMap}
@@ -38,6 +47,23 @@ is_file_on t w = is_some w.counts && same_trans w.trans t
 
 abbrev pub is_at : ℕ → ℕ → WaitingCall → Bool
 is_at client number w = w.client == client && w.number == number
+
+-- it is the client's Join or Finish with this number
+abbrev pub is_other_at : ℕ → ℕ → WaitingCall → Bool
+is_other_at client number w = is_at client number w && is_none w.counts
+
+-- the transaction of a Finish, and of a Join
+abbrev pub finish_trans : Call → Option TransId
+finish_trans (call.Finish t commit) = Some t
+finish_trans c = None
+
+abbrev pub join_trans : Call → Option TransId
+join_trans (call.Join t) = Some t
+join_trans c = None
+
+-- such a call of the client on the transaction waits, by that number
+abbrev pub HasOtherAt : (Call → Option TransId) → ℕ → ℕ → TransId → List WaitingCall → Type 0
+HasOtherAt of client number t ws = (w : WaitingCall) × (find (is_at client number) ws ≡ Some w) × (w.counts ≡ None) × (file_trans w.call ≡ None) × (of w.call ≡ Some t)
 
 abbrev pub has_waiting : ℕ → TransId → List WaitingCall → Bool
 has_waiting client t ws = list_any (is_of client t) ws
@@ -72,8 +98,8 @@ grant_of t ws = list_map (grant_one t) ws
 abbrev pub without_calls_of : ℕ → TransId → List WaitingCall → List WaitingCall
 without_calls_of client t ws = filter (λ w. not (is_of client t w)) ws
 
-abbrev pub without_call_at : ℕ → ℕ → List WaitingCall → List WaitingCall
-without_call_at client number ws = filter (λ w. not (is_at client number w)) ws
+abbrev pub without_other_at : ℕ → ℕ → List WaitingCall → List WaitingCall
+without_other_at client number ws = filter (λ w. not (is_other_at client number w)) ws
 
 -- of a client's calls those that are of no dead part, and all of the others'
 abbrev pub outlives : ℕ → List DeadPart → WaitingCall → Bool
@@ -82,17 +108,16 @@ outlives client ds w = not (w.client == client) || is_none (cause_in ds client w
 abbrev pub without_dead : ℕ → List DeadPart → List WaitingCall → List WaitingCall
 without_dead client ds ws = filter (outlives client ds) ws
 
--- the live part is the client's
-abbrev pub has_part : ℕ → Option Live → Bool
-has_part client None = false
-has_part client (Some l) = l.client == client
+-- the client has a live part of the transaction: it runs here for the client, or is finishing, or the client has a live join of it
+abbrev pub has_part : ℕ → Coordinator → Joins → TransId → Bool
+has_part client c k t = is_this client (client_of (fate_in c t)) || is_some (part_of client t k.lives)
 
 -- of a client's calls those that are of a live part, and all of the others'
-abbrev pub stays : ℕ → LiveMap → WaitingCall → Bool
-stays client lives w = not (w.client == client) || has_part client (map.get lives w.trans)
+abbrev pub stays : ℕ → Coordinator → Joins → WaitingCall → Bool
+stays client c k w = not (w.client == client) || has_part client c k w.trans
 
-abbrev pub live_calls : ℕ → LiveMap → List WaitingCall → List WaitingCall
-live_calls client lives ws = filter (stays client lives) ws
+abbrev pub live_calls : ℕ → Coordinator → Joins → List WaitingCall → List WaitingCall
+live_calls client c k ws = filter (stays client c k) ws
 
 -- ---- what is so of them between two steps, whatever the vault tells
 
@@ -113,21 +138,27 @@ pub record IsWithinLimits (server epoch given : ℕ) (sizes : Sizes) (w : Waitin
   pub locks : n.made ≤ 1024
   pub log : log_need l.part.counts.cells n.made ≤ sizes.area
 
--- a file call is one of the grammar, of a transaction that was begun, and within the limits of its part as long as that is live
+-- A file call is one of the grammar, and within the limits of its part as long as that is live. A transaction of this server was begun
+-- of which one waits.
 pub record IsFileCall (server epoch given drawn : ℕ) (sizes : Sizes) (lives : LiveMap) (w : WaitingCall) (n : LockCounts) : Type 0 where
   pub formed : IsFormed w.call
   pub some : ReadsSome w.call
-  pub begun : w.trans.counter ≤ drawn
+  pub begun : w.trans.server ≡ server → w.trans.counter ≤ drawn
   pub limits : (l : Live) → map.get lives w.trans ≡ Some l → IsWithinLimits server epoch given sizes w n l
+
+-- a Finish is of a transaction of this epoch
+abbrev pub IsCurrent : ℕ → Call → Type 0
+IsCurrent epoch (call.Finish t commit) = t.epoch ≡ epoch
+IsCurrent epoch c = Unit {0}
 
 pub record IsWaitingCall (server epoch given drawn : ℕ) (sizes : Sizes) (lives : LiveMap) (w : WaitingCall) : Type 0 where
   pub named : IsNamed w
+  pub current : IsCurrent epoch w.call
   pub file : (n : LockCounts) → w.counts ≡ Some n → IsFileCall server epoch given drawn sizes lives w n
 
--- no two file calls are of one transaction, and no two calls of one part
-pub record IsOfOther (w v : WaitingCall) : Type 0 where
-  pub files : (is_some w.counts && is_file_on w.trans v) ≡ false
-  pub parts : is_of w.client w.trans v ≡ false
+-- no two file calls are of one transaction
+abbrev pub IsOfOther : WaitingCall → WaitingCall → Type 0
+IsOfOther w v = (is_some w.counts && is_file_on w.trans v) ≡ false
 
 abbrev pub AreApart : List WaitingCall → Type 0
 AreApart [] = Unit {0}
@@ -146,9 +177,12 @@ pub record IsOfCalls (server epoch given : ℕ) (lives : LiveMap) (ws : List Wai
   pub asks : asks_for ws x.trans ≡ true
   pub beyond : (n : ℕ) → given < n → map.get x.after (Whole (record { server = server; epoch = epoch; counter = n })) ≡ None
 
--- each of them is so, and so is the table's queue; and so far file calls alone wait
+-- each of them is so, and so is the table's queue
 pub record AreWaiting (server epoch given drawn : ℕ) (sizes : Sizes) (lives : LiveMap) (ws : List WaitingCall) (queue : List Waiter) : Type 0 where
   pub calls : AllByRecursion (IsWaitingCall server epoch given drawn sizes lives) ws
-  pub files : AllByRecursion (λ (w : WaitingCall). is_some w.counts ≡ true) ws
   pub apart : AreApart ws
   pub queued : AllByRecursion (IsOfCalls server epoch given lives ws) queue
+
+-- no file call waits of a transaction whose part here voted
+abbrev pub AreVotersIdle : List LiveJoin → List WaitingCall → Type 0
+AreVotersIdle ls ws = (j : JoinNo) (x : LiveJoin) → join_at ls j ≡ Some x → is_open x.stage ≡ false → has_file_on x.trans ws ≡ false

@@ -1,6 +1,5 @@
 //! The answer to an event, whatever it is.
 ghost use Rattle.std.specs.Prelude.{◌≡◌, ◌≢◌, ◌≤◌, IsTrue, IfOk, IfSome, None, Ok, Some, false, []};
-ghost use Rattle.std.specs.FinMap as map;
 ghost use Rattle.alp_files.specs.declared.call.Call.TheVariants as call;
 ghost use Rattle.alp_journal.specs.declared.event.Event.TheVariants as event;
 ghost use Rattle.alp_journal.specs.Desk.{file_trans};
@@ -8,9 +7,11 @@ ghost use Rattle.alp_files.specs.declared.refusal.Refusal.TheVariants as refusal
 ghost use Rattle.alp_node.specs.Calls.{IsServedCall};
 ghost use Rattle.alp_node.specs.Orders.{order_of, order_in};
 ghost use Rattle.alp_node.specs.ServerState.{IsReadyForMore, IsOfJournal};
-ghost use Rattle.alp_node.specs.Served.{IsServed, IsIdleEvent, IsAskable, IsTurnCall, AreLivesSound};
+ghost use Rattle.alp_node.specs.Served.{IsServed, IsAskable, IsTurnCall, AreLivesSound};
 ghost use Rattle.alp_node.specs.Sessions.{session_at};
-ghost use Rattle.alp_node.specs.Steps.{IsStep, IsStepAs, IsNoted, IsTurn, IsOf, told_answer, refused_answer};
+ghost use Rattle.alp_node.specs.Standings.{standing_of};
+ghost use Rattle.alp_node.specs.declared.served.Standing.TheVariants as standing;
+ghost use Rattle.alp_node.specs.Steps.{IsStep, IsStepAs, IsNoted, IsOn, IsTurn, told_answer, refused_answer};
 ghost use Rattle.alp_node.specs.declared.sessions.CallOrder.TheVariants as order;
 
 use crate::answer::Answer;
@@ -31,12 +32,12 @@ impl<V: Vault> ServerState<V> {
         commit: bool,
     ) -> Result<Answer, OutOfMemory>
         requires turn { IsTurn self.old.sessions turn.now }
-        requires own { IsOf turn.now.client (map.get self.old.lives trans) }
+        requires works { standing_of self.old turn.now.client trans ≡ standing.Work }
         requires here { trans.server ≡ self.old.server }
         requires up { self.old.is_down ≡ false }
         requires ready { IsReadyForMore (V.serves self.old.vault) self.old }
         requires noted { IsNoted V.Vault self.old }
-        requires sized { self.old.sizes ≡ V.volume self.old.vault }
+        requires on { IsOn V.Vault self.old }
         requires known { IsTrue (V.tells self.old.vault) → IsOfJournal (V.held self.old.vault) self.old }
         requires sound { IsTrue (V.tells self.old.vault) → AreLivesSound (V.held self.old.vault) self.old }
         ensures { IsStep V.Vault self.old self.new (event.Call turn.now.client self.old.epoch turn.now.number (call.Finish trans commit)) result }
@@ -56,7 +57,7 @@ impl<V: Vault> ServerState<V> {
         requires up { self.old.is_down ≡ false }
         requires ready { IsReadyForMore (V.serves self.old.vault) self.old }
         requires noted { IsNoted V.Vault self.old }
-        requires sized { self.old.sizes ≡ V.volume self.old.vault }
+        requires on { IsOn V.Vault self.old }
         requires known { IsTrue (V.tells self.old.vault) → IsOfJournal (V.held self.old.vault) self.old }
         requires sound { IsTrue (V.tells self.old.vault) → AreLivesSound (V.held self.old.vault) self.old }
         ensures { IsStep V.Vault self.old self.new (event.Call turn.now.client self.old.epoch turn.now.number (call.Finish trans commit)) result }
@@ -67,7 +68,9 @@ impl<V: Vault> ServerState<V> {
         match self.standing(turn.client, &trans) {
             Standing::Work => self.finish_own(turn, trans, commit),
             Standing::Ended(cause) => Ok(self.tell_dead(turn, trans, commit, cause)),
+            Standing::Finishing => Ok(self.refuse(turn, Refusal::Finishing)),
             Standing::Unknown => Ok(self.refuse(turn, Refusal::UnknownTrans)),
+            Standing::Joining => unreachable!(),
         }
     }
 
@@ -79,7 +82,7 @@ impl<V: Vault> ServerState<V> {
         requires ready { IsReadyForMore (V.serves self.old.vault) self.old }
         requires known { IsTrue (V.tells self.old.vault) → IsOfJournal (V.held self.old.vault) self.old }
         requires noted { IsNoted V.Vault self.old }
-        requires sized { self.old.sizes ≡ V.volume self.old.vault }
+        requires on { IsOn V.Vault self.old }
         requires sound { IsTrue (V.tells self.old.vault) → AreLivesSound (V.held self.old.vault) self.old }
         ensures { IsStep V.Vault self.old self.new (event.Call turn.now.client self.old.epoch turn.now.number call.now) result }
     {
@@ -96,7 +99,7 @@ impl<V: Vault> ServerState<V> {
             return Ok(self.outcome(turn, *trans));
         }
         if let Call::Join { trans } = call {
-            return Ok(self.join(turn, *trans));
+            return self.join(turn, *trans);
         }
         let Some(trans) = trans_of(call) else {
             unreachable!()
@@ -113,7 +116,7 @@ impl<V: Vault> ServerState<V> {
         requires ready { IsReadyForMore (V.serves self.old.vault) self.old }
         requires known { IsTrue (V.tells self.old.vault) → IsOfJournal (V.held self.old.vault) self.old }
         requires noted { IsNoted V.Vault self.old }
-        requires sized { self.old.sizes ≡ V.volume self.old.vault }
+        requires on { IsOn V.Vault self.old }
         requires sound { IsTrue (V.tells self.old.vault) → AreLivesSound (V.held self.old.vault) self.old }
         ensures { IsStep V.Vault self.old self.new (event.Call client self.old.epoch number call.now) result }
     {
@@ -161,7 +164,7 @@ impl<V: Vault> ServerState<V> {
         requires ready { IsReadyForMore (V.serves self.old.vault) self.old }
         requires known { IsTrue (V.tells self.old.vault) → IsOfJournal (V.held self.old.vault) self.old }
         requires noted { IsNoted V.Vault self.old }
-        requires sized { self.old.sizes ≡ V.volume self.old.vault }
+        requires on { IsOn V.Vault self.old }
         requires sound { IsTrue (V.tells self.old.vault) → AreLivesSound (V.held self.old.vault) self.old }
         ensures { IsStepAs V.Vault (Some (order_of self.old.epoch epoch number call.now (session_at self.old.sessions client))) self.old self.new (event.Call client epoch number call.now) result }
     {
@@ -179,17 +182,6 @@ impl<V: Vault> ServerState<V> {
         }
     }
 
-    // An event at which there is nothing to do: a server that runs alone has sent nothing that it might say again, and each of its
-    // commits is forced.
-    fn idle(&mut self, event: &Event) -> Answer
-        requires idle { IsIdleEvent event.now }
-        requires up { self.old.is_down ≡ false }
-        ensures { IsStepAs V.Vault None self.old self.new event.now (Ok result) }
-    {
-        let _ = event;
-        Answer::silence(Acts::new(Vec::new(self.alloc)))
-    }
-
     /// The answer to an event that is served.
     pub fn answer(&mut self, event: &Event) -> Result<Answer, OutOfMemory>
         requires served { IsServed event.now }
@@ -197,7 +189,7 @@ impl<V: Vault> ServerState<V> {
         requires ready { IsReadyForMore (V.serves self.old.vault) self.old }
         requires known { IsTrue (V.tells self.old.vault) → IsOfJournal (V.held self.old.vault) self.old }
         requires noted { IsNoted V.Vault self.old }
-        requires sized { self.old.sizes ≡ V.volume self.old.vault }
+        requires on { IsOn V.Vault self.old }
         requires sound { IsTrue (V.tells self.old.vault) → AreLivesSound (V.held self.old.vault) self.old }
         ensures { IsStepAs V.Vault (order_in self.old event.now) self.old self.new event.now result }
     {
@@ -208,10 +200,7 @@ impl<V: Vault> ServerState<V> {
                 number,
                 call,
             } => self.call(*client, *epoch, *number, call),
-            Event::Timeout { trans } => self.time_out(*trans),
-            Event::Tick => Ok(self.idle(event)),
-            Event::Force => Ok(self.idle(event)),
-            _ => unreachable!(),
+            _ => self.answer_event(event),
         }
     }
 }

@@ -1,5 +1,5 @@
 //! Sessions and transactions begin.
-ghost use Rattle.std.specs.Prelude.{◌≡◌, ◌≤◌, ◌^◌, None, false, nat_le, IfOk, OnOk, OnErr};
+ghost use Rattle.std.specs.Prelude.{◌≡◌, ◌+◌, ◌≤◌, ◌^◌, None, false, nat_le, length, IfOk, OnOk, OnErr};
 ghost use Rattle.std.specs.FinMap as map;
 ghost use Rattle.alp_files.specs.declared.call.Call.TheVariants as call;
 ghost use Rattle.alp_files.specs.declared.refusal.Refusal.TheVariants as refusal;
@@ -69,12 +69,13 @@ impl<V: Vault> ServerState<V> {
         Ok(Answer::begun(trans, Acts::new(acts)))
     }
 
-    // That as many transactions as there may be count here already, if it is so.
-    fn too_many(&self) -> Result<Option<Refusal>, OutOfMemory>
-        ensures { IfOk result (λ r. r ≡ if_over (nat_le 64 (counted_of self.now.coordinator)) (refusal.TooMany what.Transactions 64)) }
+    /// That as many transactions as there may be count here already, if it is so.
+    pub(super) fn too_many(&self) -> Result<Option<Refusal>, OutOfMemory>
+        requires { counted_of self.now.coordinator + length self.now.joins.lives ≤ 64 }
+        ensures { IfOk result (λ r. r ≡ if_over (nat_le 64 (counted_of self.now.coordinator + length self.now.joins.lives)) (refusal.TooMany what.Transactions 64)) }
     {
-        let count = self.coordinator.counted()?;
-        if count < MOST_TRANSACTIONS {
+        let own = self.coordinator.counted()?;
+        if own + self.joins.len() < MOST_TRANSACTIONS {
             return Ok(None);
         }
         Ok(Some(Refusal::TooMany {
@@ -104,8 +105,8 @@ impl<V: Vault> ServerState<V> {
         Ok(trans)
     }
 
-    // The transaction is live from now on. It holds no lock.
-    fn enter(&mut self, trans: TransId, live: Live) -> Result<(), OutOfMemory>
+    /// The part is live from now on. It holds no lock.
+    pub(super) fn enter(&mut self, trans: TransId, live: Live) -> Result<(), OutOfMemory>
         requires new { map.get self.old.lives trans ≡ None }
         requires idle { live.part.counts ≡ no_counts }
         ensures ok { OnOk result (self.new ≡ with_trans self.old trans live) }
@@ -132,6 +133,6 @@ impl<V: Vault> ServerState<V> {
         ensures { self.new ≡ cleared self.old client }
     {
         self.bury(client);
-        self.waits.clear(client, &self.lives);
+        self.waits.clear(client, &self.coordinator, &self.joins);
     }
 }

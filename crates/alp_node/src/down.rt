@@ -14,8 +14,8 @@ use crate::node::Node;
 use crate::opened::Opened;
 use crate::server_state::ServerState;
 use crate::sessions::Sessions;
-use crate::start::StartFault;
-use crate::stored::{StoreFault, store};
+use crate::start::{StartFault, put_clock};
+use crate::stored::StoreFault;
 use crate::waits::Waits;
 use alp_base::{OutOfMemory, VaultFault};
 use alp_calls::are_server_notes;
@@ -25,6 +25,7 @@ use alp_journal::{Act, Acts, Entry, Event, Journal, Parts, Stamps};
 use alp_locks::LockTable;
 use alp_trans::Part;
 use alp_vault::Vault;
+use alp_worker::Joins;
 use std::alloc::Global;
 use std::marker::Model;
 
@@ -65,11 +66,11 @@ impl<V: Vault> Node<V> {
             opening,
             kept,
             journal,
-            servers,
         } = self;
         let ServerState {
             alloc,
             server,
+            servers,
             epoch,
             vault,
             ..
@@ -136,7 +137,7 @@ fn raise<V: Vault>(
         Ok(clock) => clock,
         Err(fault) => return Err((rested(vault), fault)),
     };
-    match store(alloc, &mut vault, &Part::new(alloc), clock) {
+    match put_clock(alloc, &mut vault, clock) {
         Ok(()) => Ok((vault, clock)),
         Err(StoreFault::OutOfMemory) => {
             Err((rested(vault), StartFault::Vault(VaultFault::OutOfMemory)))
@@ -177,7 +178,13 @@ fn fill(alloc: Global, journal: &mut Journal, mut acts: Vec<Act>, clock: ClockNo
 }
 
 // A server that keeps nothing of a client.
-fn with_nobody<V: Vault>(alloc: Global, server: u8, clock: ClockNote, vault: V) -> ServerState<V>
+fn with_nobody<V: Vault>(
+    alloc: Global,
+    server: u8,
+    servers: u8,
+    clock: ClockNote,
+    vault: V,
+) -> ServerState<V>
     ensures nobody { KeepsNobody result }
     ensures run { IsOf server clock.epoch 0 result.coordinator }
     ensures sound { IsSound result.locks }
@@ -190,11 +197,13 @@ fn with_nobody<V: Vault>(alloc: Global, server: u8, clock: ClockNote, vault: V) 
     ServerState {
         alloc,
         server,
+        servers,
         sizes,
         epoch: clock.epoch,
         clock: clock.clock,
         given: 0,
         coordinator: Coordinator::new(alloc, server, clock.epoch),
+        joins: Joins::new(alloc, server, clock.epoch),
         sessions: Sessions::new(),
         lives: Lives::new(alloc),
         dead: Dead::new(alloc),
@@ -278,9 +287,8 @@ impl<V: Vault> Down<V> {
                 vault.knows();
                 Ok(Node {
                     opening,
-                    kept: with_nobody(alloc, server, clock, vault),
+                    kept: with_nobody(alloc, server, servers, clock, vault),
                     journal,
-                    servers,
                 })
             }
             Err((vault, fault)) => {

@@ -1,21 +1,22 @@
 //! Transactions end.
-ghost use Rattle.std.specs.Prelude.{◌≡◌, ℕ, ◌+◌, ◌<◌, ◌≤◌, ◌^◌, [], ◌∷◌, ◌++◌, IsTrue, IfOk, Ok, None, Some, true, false, length, vec_capacity};
+ghost use Rattle.std.specs.Prelude.{◌≡◌, ◌≢◌, ℕ, ◌+◌, ◌<◌, ◌≤◌, [], ◌∷◌, ◌++◌, IsTrue, IfOk, Ok, Some, true, false, length, vec_capacity};
 ghost use Rattle.std.specs.FinMap as map;
 ghost use Rattle.alp_calls.specs.declared.fault.CallFault.TheVariants as call_fault;
-ghost use Rattle.alp_files.specs.Sound.{AreSound};
-ghost use Rattle.alp_files.specs.Changes.{edits_of};
-ghost use Rattle.alp_files.specs.Edits.{edits_map};
-ghost use Rattle.alp_trans.specs.Parts.{change_of};
 ghost use Rattle.alp_files.specs.declared.call.Call.TheVariants as call;
 ghost use Rattle.alp_journal.specs.declared.act.Act.TheVariants as act;
 ghost use Rattle.alp_journal.specs.declared.event.Event.TheVariants as event;
 ghost use Rattle.alp_journal.specs.Deeds.{Ends};
-ghost use Rattle.alp_coord.specs.Coordinators.{IsAlong, Comes};
+ghost use Rattle.alp_coord.specs.Coordinators.{IsAlong, Comes, fate_in};
+ghost use Rattle.alp_journal.specs.Coordinator.{joins_of as joins_of_said};
+ghost use Rattle.alp_node.specs.Served.{AreLivesSound};
+ghost use Rattle.alp_node.specs.Votes.{own_why};
+ghost use Rattle.alp_vault.specs.Contents.{Contents};
+ghost use Rattle.alp_journal.specs.Account.{Account, state_of};
+ghost use Rattle.alp_journal.specs.Messages.{why_not_own};
 ghost use Rattle.alp_node.specs.declared.lives.Live.{Live as ALive};
-ghost use Rattle.alp_node.specs.Dead.{cause_in};
 ghost use Rattle.alp_node.specs.Standings.{standing_of};
 ghost use Rattle.alp_node.specs.declared.served.Standing.TheVariants as standing;
-ghost use Rattle.alp_node.specs.ServerState.{IsReadyForMore, IsOfJournal};
+ghost use Rattle.alp_node.specs.ServerState.{IsAs, IsReadyForMore, IsOfJournal};
 ghost use Rattle.alp_files.specs.declared.reply.Reply.TheVariants as reply;
 ghost use Rattle.std.specs.Result.{IsErr};
 ghost use Rattle.alp_files.specs.declared.refusal.Refusal.TheVariants as refusal;
@@ -23,72 +24,78 @@ ghost use Rattle.alp_files.specs.declared.refusal.Cause.TheVariants as cause;
 ghost use Rattle.alp_calls.specs.Parts.{IsPart};
 ghost use Rattle.alp_node.specs.Releases.{grant_acts, granted_behind};
 ghost use Rattle.alp_node.specs.Waits.{has_waiting};
-ghost use Rattle.alp_node.specs.Steps.{IsStep, IsStepAs, IsNoted, IsTurn, IsOf, IsRefused, IsDown, counted_in, ended, refused_answer};
+ghost use Rattle.alp_node.specs.Steps.{IsStep, IsNoted, IsOn, IsTurn, IsRefused, IsDown, counted_in, ended, refused_answer};
 
 use crate::answer::Answer;
+use crate::decide::Decided;
+use crate::messages::{tell_aborts, tell_asks};
 use crate::server_state::ServerState;
 use crate::sessions::Turn;
-use crate::stored::{StoreFault, store};
-use alp_base::{OutOfMemory, Stamp, TransId};
+use crate::waits::WaitingCall;
+use alp_base::{JoinNo, OutOfMemory, Stamp, TransId};
 use alp_calls::CallFault;
-use alp_fields::ClockNote;
-use alp_files::{Cause, Refusal, Reply, Why};
-use alp_journal::{Act, Acts, Parts};
+use alp_files::{Call, Cause, Refusal, Reply, Why};
+use alp_journal::{Act, Acts};
 use alp_vault::Vault;
-use std::alloc::Global;
-
-/// The last time of a clock.
-const CLOCK_END: u64 = 1 << 62;
-
-// The decision that a transaction is committed, which no other server has a part in.
-fn decision(alloc: Global, stamp: Stamp) -> Act
-    ensures { result ≡ act.Decided stamp [] }
-{
-    Act::Decided {
-        stamp,
-        parts: Parts::new(Vec::new(alloc)),
-    }
-}
 
 impl<V: Vault> ServerState<V> {
     // The part ends without effect, its client is told why, and nothing of it is to be told any more.
-    fn end(&mut self, turn: &Turn, trans: TransId, cause: Cause, mut acts: Vec<Act>) -> Answer
+    fn end(&mut self, turn: &Turn, trans: TransId, cause: Cause, acts: &mut Vec<Act>)
         requires client { turn.now.client ≤ 16 }
-        requires room { length acts.items + length self.old.locks.waiting ≤ vec_capacity acts }
+        requires room { length acts.old.items + length self.old.locks.waiting ≤ vec_capacity acts.old }
         requires none { self.old.locks.woken ≡ [] }
         requires most { map.len self.old.lives ≤ 64 }
         requires part { (t : TransId) (l : ALive) → map.get self.old.lives t ≡ Some l → IsPart l.part }
         ensures kept { self.new ≡ record (ended self.old turn.now trans (reply.Refused (refusal.Aborted cause))) { coordinator = self.new.coordinator } }
         ensures along { IsAlong self.old.coordinator self.new.coordinator }
         ensures ends { (client : ℕ) → Comes (Ends trans client cause) self.old.coordinator self.new.coordinator }
-        ensures answer { result ≡ refused_answer (refusal.Aborted cause) (acts.items ++ grant_acts (granted_behind self.old trans)) }
+        ensures acts { acts.new.items ≡ acts.old.items ++ grant_acts (granted_behind self.old trans) }
+        ensures few { length acts.new.items ≤ length acts.old.items + length self.old.locks.waiting }
+        ensures capacity { vec_capacity acts.new ≡ vec_capacity acts.old }
     {
-        self.release(trans, &mut acts);
+        self.release(trans, acts);
         self.coordinator.end(&trans, cause);
         self.waits.remove_of(turn.client, &trans);
         self.dead.remove(turn.client, trans);
-        let refusal = Refusal::Aborted { cause };
-        self.sessions.count(turn, Reply::Refused(refusal));
-        Answer::refused(refusal, Acts::new(acts))
+        self.sessions
+            .count(turn, Reply::Refused(Refusal::Aborted { cause }));
     }
 
-    /// A live transaction of the client ends without effect, as its client asked.
+    // The parts of a transaction on other servers.
+    pub(super) fn joins_of(&self, trans: &TransId) -> Result<Vec<JoinNo>, OutOfMemory>
+        ensures { IfOk result (λ v. v.items ≡ joins_of_said (fate_in self.now.coordinator trans.now)) }
+    {
+        let members = self.coordinator.members(trans);
+        let mut joins = Vec::with_capacity(self.alloc, members.len())?;
+        for member in members {
+            joins.push(member.join)?;
+        }
+        Ok(joins)
+    }
+
+    /// A running transaction of the client ends without effect, as its client asked.
     pub fn abort(&mut self, turn: &Turn, trans: TransId) -> Result<Answer, OutOfMemory>
         requires turn { IsTurn self.old.sessions turn.now }
-        requires own { IsOf turn.now.client (map.get self.old.lives trans) }
+        requires works { standing_of self.old turn.now.client trans ≡ standing.Work }
         requires here { trans.server ≡ self.old.server }
         requires up { self.old.is_down ≡ false }
         requires ready { IsReadyForMore (V.serves self.old.vault) self.old }
         ensures { IsStep V.Vault self.old self.new (event.Call turn.now.client self.old.epoch turn.now.number (call.Finish trans false)) result }
     {
-        let acts = self.released(trans)?;
-        Ok(self.end(turn, trans, Cause::Asked, acts))
+        let joins = self.joins_of(&trans)?;
+        let mut acts = self.released(trans, joins.len())?;
+        self.end(turn, trans, Cause::Asked, &mut acts);
+        tell_aborts(&mut acts, trans, joins.as_slice(), Cause::Asked);
+        let refusal = Refusal::Aborted {
+            cause: Cause::Asked,
+        };
+        Ok(Answer::refused(refusal, Acts::new(acts)))
     }
 
     /// A part of the client that ended for that cause is known of from now on.
     pub fn tell_dead(&mut self, turn: &Turn, trans: TransId, commit: bool, cause: Cause) -> Answer
         requires turn { IsTurn self.old.sessions turn.now }
-        requires dead { standing_of turn.now.client (map.get self.old.lives trans) (cause_in self.old.dead turn.now.client trans) ≡ standing.Ended cause }
+        requires dead { standing_of self.old turn.now.client trans ≡ standing.Ended cause }
         requires here { trans.server ≡ self.old.server }
         requires up { self.old.is_down ≡ false }
         requires ready { IsReadyForMore (V.serves self.old.vault) self.old }
@@ -99,91 +106,118 @@ impl<V: Vault> ServerState<V> {
         self.refuse(turn, Refusal::Aborted { cause })
     }
 
-    /// Time runs out for a transaction: where it is live it ends without effect, and its client is to be told.
-    pub fn time_out(&mut self, trans: TransId) -> Result<Answer, OutOfMemory>
-        requires up { self.old.is_down ≡ false }
-        requires ready { IsReadyForMore (V.serves self.old.vault) self.old }
-        ensures { IsStepAs V.Vault None self.old self.new (event.Timeout trans) result }
-    {
-        let Some(live) = self.lives.get(&trans) else {
-            return Ok(Answer::silence(Acts::new(Vec::new(self.alloc))));
-        };
-        let client = live.client;
-        let mut acts = self.released(trans)?;
-        self.dead.add(client, trans, Cause::TimedOut)?;
-        self.release(trans, &mut acts);
-        self.coordinator.end(&trans, Cause::TimedOut);
-        Ok(Answer::silence(Acts::new(acts)))
-    }
-
-    /// A live transaction of the client is committed, or this server's own vote is against it at the end of the clock.
+    /// A running transaction of the client is to be committed. Where it has parts on other servers they are asked for their votes,
+    /// and the call waits; else it is committed at once, or this server's own vote is against it.
     pub fn commit(&mut self, turn: &Turn, trans: TransId) -> Result<Answer, OutOfMemory>
         requires turn { IsTurn self.old.sessions turn.now }
-        requires own { IsOf turn.now.client (map.get self.old.lives trans) }
+        requires works { standing_of self.old turn.now.client trans ≡ standing.Work }
         requires idle { has_waiting turn.now.client trans self.old.waits ≡ false }
         requires here { trans.server ≡ self.old.server }
         requires up { self.old.is_down ≡ false }
         requires ready { IsReadyForMore (V.serves self.old.vault) self.old }
         requires noted { IsNoted V.Vault self.old }
-        requires sized { self.old.sizes ≡ V.volume self.old.vault }
+        requires on { IsOn V.Vault self.old }
         requires known { IsTrue (V.tells self.old.vault) → IsOfJournal (V.held self.old.vault) self.old }
-        requires sound { IsTrue (V.tells self.old.vault) → (l : ALive) → map.get self.old.lives trans ≡ Some l → AreSound (edits_map (edits_of (change_of l.part.intents)) (V.held self.old.vault).cells) }
+        requires sound { IsTrue (V.tells self.old.vault) → AreLivesSound (V.held self.old.vault) self.old }
         ensures { IsStep V.Vault self.old self.new (event.Call turn.now.client self.old.epoch turn.now.number (call.Finish trans true)) result }
     {
-        if self.clock >= CLOCK_END {
-            let acts = self.released(trans)?;
-            return Ok(self.end(turn, trans, against(self.server, Why::ClockEnd), acts));
+        let joins = self.joins_of(&trans)?;
+        if !joins.is_empty() {
+            return self.ask_for_votes(turn, trans, joins.as_slice());
         }
-        self.decide(turn, trans)
+        match self.own_vote(&trans)? {
+            Some(why) => self.vote_against_own(turn, trans, why),
+            None => self.commit_alone(turn, trans),
+        }
     }
 
-    // One commit of the vault makes the intents cells, with the note of the new clock.
-    fn decide(&mut self, turn: &Turn, trans: TransId) -> Result<Answer, OutOfMemory>
+    // A transaction without parts elsewhere is committed at the next time.
+    fn commit_alone(&mut self, turn: &Turn, trans: TransId) -> Result<Answer, OutOfMemory>
         requires turn { IsTurn self.old.sessions turn.now }
-        requires own { IsOf turn.now.client (map.get self.old.lives trans) }
+        requires works { standing_of self.old turn.now.client trans ≡ standing.Work }
+        requires alone { joins_of_said (fate_in self.old.coordinator trans) ≡ [] }
+        requires may { own_why self.old trans ≡ None }
+        requires journal { (a : Account) (held : Contents) → IsAs a held self.old → why_not_own false (state_of a) trans ≡ own_why self.old trans }
         requires idle { has_waiting turn.now.client trans self.old.waits ≡ false }
         requires here { trans.server ≡ self.old.server }
         requires up { self.old.is_down ≡ false }
         requires ready { IsReadyForMore (V.serves self.old.vault) self.old }
-        requires clock { self.old.clock < 2 ^ 62 }
         requires noted { IsNoted V.Vault self.old }
-        requires sized { self.old.sizes ≡ V.volume self.old.vault }
+        requires on { IsOn V.Vault self.old }
         requires known { IsTrue (V.tells self.old.vault) → IsOfJournal (V.held self.old.vault) self.old }
-        requires sound { IsTrue (V.tells self.old.vault) → (l : ALive) → map.get self.old.lives trans ≡ Some l → AreSound (edits_map (edits_of (change_of l.part.intents)) (V.held self.old.vault).cells) }
+        requires sound { IsTrue (V.tells self.old.vault) → AreLivesSound (V.held self.old.vault) self.old }
         ensures { IsStep V.Vault self.old self.new (event.Call turn.now.client self.old.epoch turn.now.number (call.Finish trans true)) result }
     {
-        let others = self.lives.ids(self.alloc)?;
-        let blocks = self.blocks_of(trans)?;
         let stamp = Stamp {
             ts: self.clock + 1,
             trans,
         };
-        let mut acts = Vec::with_capacity(self.alloc, self.locks.waiters() + 2)?;
-        acts.push_reserved(decision(self.alloc, stamp));
-        acts.push_reserved(Act::Released { trans });
-        let mut halted = Vec::with_capacity(self.alloc, 2)?;
-        halted.push_reserved(decision(self.alloc, stamp));
-        let Some(live) = self.lives.get(&trans) else {
-            unreachable!()
+        let pending = self.decision(stamp, &[])?;
+        let acts = match self.decide(pending)? {
+            Decided::Made(acts) => acts,
+            Decided::Halted(acts) => return Ok(Answer::refused(Refusal::Down, Acts::new(acts))),
         };
-        let note = ClockNote {
-            epoch: self.epoch,
-            clock: stamp.ts,
-        };
-        self.vault.knows();
-        match store(self.alloc, &mut self.vault, &live.part, note) {
-            Ok(()) => {}
-            Err(StoreFault::Failed) => return Ok(self.halt(Act::Failed, halted)),
-            Err(StoreFault::Stopped) => return Ok(self.halt(Act::Stopped, halted)),
-            Err(StoreFault::OutOfMemory) => return Err(OutOfMemory),
-        }
-        self.release(trans, &mut acts);
-        self.ease_all(others.as_slice(), blocks.as_slice());
-        self.clock = stamp.ts;
-        self.coordinator.finish(&trans);
-        self.coordinator.decide(&trans, stamp.ts);
         self.sessions.count(turn, Reply::Committed { stamp });
         Ok(Answer::committed(stamp, Acts::new(acts)))
+    }
+
+    // This server's own vote is against a transaction that has no parts elsewhere.
+    fn vote_against_own(
+        &mut self,
+        turn: &Turn,
+        trans: TransId,
+        why: Why,
+    ) -> Result<Answer, OutOfMemory>
+        requires turn { IsTurn self.old.sessions turn.now }
+        requires works { standing_of self.old turn.now.client trans ≡ standing.Work }
+        requires alone { joins_of_said (fate_in self.old.coordinator trans) ≡ [] }
+        requires against { own_why self.old trans ≡ Some why }
+        requires journal { (a : Account) (held : Contents) → IsAs a held self.old → why_not_own false (state_of a) trans ≡ own_why self.old trans }
+        requires idle { has_waiting turn.now.client trans self.old.waits ≡ false }
+        requires here { trans.server ≡ self.old.server }
+        requires up { self.old.is_down ≡ false }
+        requires ready { IsReadyForMore (V.serves self.old.vault) self.old }
+        ensures { IsStep V.Vault self.old self.new (event.Call turn.now.client self.old.epoch turn.now.number (call.Finish trans true)) result }
+    {
+        let mut acts = self.released(trans, 0)?;
+        let cause = against(self.server, why);
+        self.end(turn, trans, cause, &mut acts);
+        Ok(Answer::refused(Refusal::Aborted { cause }, Acts::new(acts)))
+    }
+
+    // Each part of the transaction is asked for its vote, and the call waits for them.
+    fn ask_for_votes(
+        &mut self,
+        turn: &Turn,
+        trans: TransId,
+        joins: &[JoinNo],
+    ) -> Result<Answer, OutOfMemory>
+        requires turn { IsTurn self.old.sessions turn.now }
+        requires works { standing_of self.old turn.now.client trans ≡ standing.Work }
+        requires joins { joins_of_said (fate_in self.old.coordinator trans) ≡ joins.now }
+        requires some { joins.now ≢ [] }
+        requires idle { has_waiting turn.now.client trans self.old.waits ≡ false }
+        requires here { trans.server ≡ self.old.server }
+        requires up { self.old.is_down ≡ false }
+        requires ready { IsReadyForMore (V.serves self.old.vault) self.old }
+        ensures { IsStep V.Vault self.old self.new (event.Call turn.now.client self.old.epoch turn.now.number (call.Finish trans true)) result }
+    {
+        let mut acts = Vec::with_capacity(self.alloc, joins.len())?;
+        self.waits.push(WaitingCall {
+            client: turn.client,
+            number: turn.number,
+            trans,
+            call: Call::Finish {
+                trans,
+                commit: true,
+            },
+            counts: None,
+            is_granted: false,
+        })?;
+        self.coordinator.finish(&trans);
+        tell_asks(&mut acts, trans, joins);
+        self.sessions.count(turn, Reply::Refused(Refusal::NotYet));
+        Ok(Answer::refused(Refusal::NotYet, Acts::new(acts)))
     }
 
     /// The vault gave no answer in a file call: a read failed, and the server goes on, or the vault was stopped, and the server is
@@ -215,9 +249,18 @@ impl<V: Vault> ServerState<V> {
         ensures kept { self.new ≡ record self.old { is_down = true } }
         ensures answer { result ≡ refused_answer refusal.Down (acts.items ++ fault ∷ []) }
     {
+        self.fall_in(fault, &mut acts);
+        Answer::refused(Refusal::Down, Acts::new(acts))
+    }
+
+    /// The vault was stopped, or failed in a commit: the server is down.
+    pub(super) fn fall_in(&mut self, fault: Act, acts: &mut Vec<Act>)
+        requires room { length acts.old.items < vec_capacity acts.old }
+        ensures kept { self.new ≡ record self.old { is_down = true } }
+        ensures acts { acts.new.items ≡ acts.old.items ++ fault ∷ [] }
+    {
         acts.push_reserved(fault);
         self.is_down = true;
-        Answer::refused(Refusal::Down, Acts::new(acts))
     }
 
     /// A call is refused and not performed.

@@ -10,7 +10,9 @@ ghost use Rattle.alp_journal.specs.Desk.{file_trans};
 ghost use Rattle.alp_node.specs.Asks.{IsAsked, asks_made as asks_made_of, makes_file, plan_of, plan_if, plan_for, count_made, with_plan, acts_of};
 ghost use Rattle.alp_node.specs.ServerState.{IsReadyForMore, IsOfJournal};
 ghost use Rattle.alp_node.specs.Served.{AreLivesSound};
-ghost use Rattle.alp_node.specs.Steps.{IsStep, IsTurn, IsOf};
+ghost use Rattle.alp_node.specs.Standings.{standing_of};
+ghost use Rattle.alp_node.specs.declared.served.Standing.TheVariants as standing;
+ghost use Rattle.alp_node.specs.Steps.{IsStep, IsTurn};
 ghost use Rattle.alp_node.specs.declared.lives.Live.{Live as ALive};
 ghost use Rattle.alp_node.specs.Calls.{IsServedCall, next_file};
 ghost use Rattle.alp_node.specs.Shapes.{shape_of, counts_then, too_locked as too_locked_said, may_wait as may_wait_of, ReadsSome};
@@ -42,7 +44,7 @@ impl<V: Vault> ServerState<V> {
         halted: Vec<Act>,
     ) -> Result<Answer, OutOfMemory>
         requires turn { IsTurn self.old.sessions turn.now }
-        requires own { IsOf turn.now.client (map.get self.old.lives trans) }
+        requires works { standing_of self.old turn.now.client trans ≡ standing.Work }
         requires idle { has_waiting turn.now.client trans self.old.waits ≡ false }
         requires up { self.old.is_down ≡ false }
         requires ready { IsReadyForMore (V.serves self.old.vault) self.old }
@@ -90,7 +92,7 @@ impl<V: Vault> ServerState<V> {
         holder: TransId,
     ) -> Result<Answer, OutOfMemory>
         requires turn { IsTurn self.old.sessions turn.now }
-        requires own { IsOf turn.now.client (map.get self.old.lives trans) }
+        requires works { standing_of self.old turn.now.client trans ≡ standing.Work }
         requires idle { has_waiting turn.now.client trans self.old.waits ≡ false }
         requires up { self.old.is_down ≡ false }
         requires ready { IsReadyForMore (V.serves self.old.vault) self.old }

@@ -1,7 +1,6 @@
 //! A server with its journal.
-ghost use Rattle.std.specs.Prelude.{◌≡◌, ◌+◌, ◌≤◌, max, IsTrue, List, [], ◌∷◌, ◌++◌, IfOk, OnErr, MatchResult, Ok, Some, ◌↔◌, true, false, length, slice_get};
-ghost use Rattle.std.specs.FinMap as map;
-ghost use Rattle.std.specs.List.Sorted.{IsStrictlySortedBy};
+ghost use Rattle.std.specs.Prelude.{◌≡◌, ◌+◌, ◌≤◌, max, IsTrue, List, [], ◌∷◌, ◌++◌, IfOk, OnErr, MatchResult, Ok, Some, true, false, if◌then◌else◌};
+ghost use Rattle.std.specs.Ordering.{is_lt};
 ghost use Rattle.alp_base.specs.Orders.{trans_cmp};
 ghost use Rattle.alp_files.specs.declared.refusal.Refusal.TheVariants as refusal;
 ghost use Rattle.alp_files.specs.declared.reply.Reply.TheVariants as reply;
@@ -10,14 +9,14 @@ ghost use Rattle.alp_journal.specs.Account.{Account};
 ghost use Rattle.alp_coord.specs.Coordinators.{count_of};
 ghost use Rattle.alp_node.specs.ServerState.{IsAs, IsReadyForMore, IsOfJournal};
 ghost use Rattle.alp_base.specs.Allowances.{Sets};
-ghost use Rattle.alp_base.specs.Crashes.{Either, SameOutcomes, Adds};
+ghost use Rattle.alp_base.specs.Crashes.{SameOutcomes, Adds};
 ghost use Rattle.alp_vault.specs.Vault.{IsSameVault};
-ghost use Rattle.alp_node.specs.Durable.{Leaves, IsSettled, said_then};
-ghost use Rattle.std.specs.Option.{option_copied as copied};
-ghost use Rattle.alp_node.specs.Nodes.{sent_in, IsConsistent, Answered, AreLive, IsLeastLive, IsNoneLive, HasNoEntry, HasRoom, IsFull, state_of, start_in};
+ghost use Rattle.alp_node.specs.Durable.{Leaves, IsSettled, HeldOr, IsSaidThen};
+ghost use Rattle.alp_node.specs.Nodes.{IsConsistent, Answered, HasNoEntry, HasRoom, IsFull, state_of, start_in};
+ghost use Rattle.alp_node.specs.Opens.{IsLeastOpen, IsRestOf, lesser_if};
 ghost use Rattle.alp_node.specs.Orders.{order_in};
 ghost use Rattle.alp_node.specs.Served.{IsServed, AreLivesSound};
-ghost use Rattle.alp_node.specs.Steps.{IsEntered, IsNoted, IsSeated, seen_in};
+ghost use Rattle.alp_node.specs.Steps.{IsEntered, IsNoted, IsOn, IsSeated, seen_in};
 ghost use Rattle.alp_node.specs.Turns.{HasTurned};
 
 use crate::answer::Answer;
@@ -25,7 +24,7 @@ use crate::opened::Opened;
 use crate::server_state::ServerState;
 use alp_base::{OutOfMemory, TransId};
 use alp_files::{Refusal, Reply};
-use alp_journal::{Entry, Envelope, Event, Journal};
+use alp_journal::{Entry, Event, Journal};
 use alp_vault::Vault;
 use std::alloc::Global;
 use std::marker::Model;
@@ -40,8 +39,6 @@ pub struct Node<V: Vault> {
     pub(super) opening: Opened<V>,
     pub(super) kept: ServerState<V>,
     pub(super) journal: Journal,
-    /// How many servers there are.
-    pub(super) servers: u8,
 }
 
 impl<V: Vault> Model for Node<V> {
@@ -57,9 +54,9 @@ impl<V: Vault> Model for Node<V> {
 
     ghost use Rattle.alp_node.specs.Nodes.{IsConsistent};
 
-    ghost view = { λ n. record { opening = n.opening; kept = n.kept; journal = n.journal; servers = n.servers } };
+    ghost view = { λ n. record { opening = n.opening; kept = n.kept; journal = n.journal } };
 
-    ghost invariant = { λ n. IsConsistent V.Vault (record { opening = n.opening; kept = n.kept; journal = n.journal; servers = n.servers }) };
+    ghost invariant = { λ n. IsConsistent V.Vault (record { opening = n.opening; kept = n.kept; journal = n.journal }) };
 }
 
 impl<V: Vault> Node<V> {
@@ -74,19 +71,18 @@ impl<V: Vault> Node<V> {
     /// epoch of the server. To any other call there is no reply.
     pub fn step(&mut self, event: Event) -> Result<Option<Reply>, OutOfMemory>
         requires served { IsServed event }
-        ensures answered { self.old.kept.is_down ≡ false → HasRoom self.old → IfOk result (λ r. Answered self.old.kept.server (order_in self.old.kept event) (V.tells self.old.kept.vault) (state_of (start_in V.Vault self.old) self.old.journal) self.old.journal self.new.journal event r (V.faults self.old.kept.vault) (V.faults self.new.kept.vault) (V.allowance self.new.kept.vault) self.new.kept.is_down) }
+        ensures answered { self.old.kept.is_down ≡ false → HasRoom self.old → IfOk result (λ r. Answered (order_in self.old.kept event) (V.tells self.old.kept.vault) (state_of (start_in V.Vault self.old) self.old.journal) self.old.journal self.new.journal event r (V.faults self.old.kept.vault) (V.faults self.new.kept.vault) (V.allowance self.new.kept.vault) self.new.kept.is_down) }
         ensures down { self.old.kept.is_down ≡ true → (result ≡ Ok (Some (reply.Refused refusal.Down))) × (self.new ≡ self.old) }
         ensures full { self.old.kept.is_down ≡ false → IsFull self.old → (result ≡ Ok (Some (reply.Refused refusal.JournalFull))) × (self.new ≡ self.old) }
         ensures err { OnErr result (HasNoEntry V.Vault self.old self.new) }
         ensures still { (a : Account) → IsAs a (V.held self.old.kept.vault) self.old.kept → OnErr result (IsAs a (V.held self.new.kept.vault) self.new.kept) }
         ensures opening { self.new.opening ≡ self.old.opening }
-        ensures servers { self.new.servers ≡ self.old.servers }
         ensures seat { IsSeated V.Vault self.old.kept self.new.kept }
         ensures turned { HasRoom self.old → self.new.kept.is_down ≡ false → IfOk result (λ r. HasTurned (order_in self.old.kept event) self.old.kept self.new.kept event r) }
         ensures clock { IsTrue (V.tells self.old.kept.vault) → self.new.kept.clock ≤ max self.old.kept.clock (seen_in event) + 1 }
         // Through the step a crash leaves what the vault held before it, or all that its one write makes of that; where memory was
         // wanting, just what the vault held.
-        ensures durable { IsTrue (V.tells self.old.kept.vault) → self.old.kept.is_down ≡ false → HasRoom self.old → MatchResult result (λ _. Leaves V.Vault self.old.kept.vault self.new.kept.vault (Either (V.held self.old.kept.vault) (said_then (state_of (start_in V.Vault self.new) self.new.journal)))) (λ _. Leaves V.Vault self.old.kept.vault self.new.kept.vault (λ c. c ≡ V.held self.old.kept.vault)) }
+        ensures durable { IsTrue (V.tells self.old.kept.vault) → self.old.kept.is_down ≡ false → HasRoom self.old → MatchResult result (λ _. Leaves V.Vault self.old.kept.vault self.new.kept.vault (HeldOr (V.held self.old.kept.vault) (IsSaidThen (state_of (start_in V.Vault self.new) self.new.journal)))) (λ _. Leaves V.Vault self.old.kept.vault self.new.kept.vault (λ c. c ≡ V.held self.old.kept.vault)) }
     {
         if self.kept.is_down {
             return Ok(Some(Reply::Refused(Refusal::Down)));
@@ -94,6 +90,7 @@ impl<V: Vault> Node<V> {
         if self.journal.entries().len() >= MOST_ENTRIES {
             return Ok(Some(Reply::Refused(Refusal::JournalFull)));
         }
+        self.kept.vault.knows();
         self.journal.make_place(self.kept.alloc)?;
         answer(&mut self.kept, &mut self.journal, event)
     }
@@ -126,6 +123,13 @@ impl<V: Vault> Node<V> {
         self.kept.server
     }
 
+    /// How many servers its run has.
+    pub fn servers(&self) -> u8
+        ensures { result ≡ self.now.kept.servers }
+    {
+        self.kept.servers
+    }
+
     pub fn epoch(&self) -> u32
         ensures { result ≡ self.now.kept.epoch }
     {
@@ -145,40 +149,20 @@ impl<V: Vault> Node<V> {
         self.kept.coordinator.count()
     }
 
-    /// The transactions that are live, least id first.
-    pub fn live(&self, alloc: Global) -> Result<Vec<TransId>, OutOfMemory>
-        ensures live { IsTrue (V.tells self.now.kept.vault) → IfOk result (λ v. AreLive (state_of (start_in V.Vault self.now) self.now.journal) v.items) }
-        ensures few { IfOk result (λ v. length v.items ≤ length self.now.journal) }
-        ensures kept { IfOk result (λ v. v.items ≡ map.keys self.now.kept.lives) }
-        ensures rising { IfOk result (λ v. IsStrictlySortedBy trans_cmp v.items) }
+    /// The least transaction that runs here, or has a part here that did not vote, if there is one.
+    pub fn open_part(&self) -> Result<Option<TransId>, OutOfMemory>
+        ensures { IsTrue (V.tells self.now.kept.vault) → IfOk result (IsLeastOpen (state_of (start_in V.Vault self.now) self.now.journal)) }
     {
-        self.kept.lives.ids(alloc)
+        let own = self.kept.coordinator.least_running()?;
+        Ok(lesser(own, self.kept.joins.least_open()))
     }
 
-    /// The least transaction that is live, if there is one.
-    pub fn open_part(&self) -> Option<TransId>
-        ensures live { IsTrue (V.tells self.now.kept.vault) → IsLeastLive (state_of (start_in V.Vault self.now) self.now.journal) result }
-        ensures kept { result ≡ slice_get (map.keys self.now.kept.lives) 0 }
-        ensures rising { IsStrictlySortedBy trans_cmp (map.keys self.now.kept.lives) }
+    /// Whether no part lives here, none is ready, and no decision stands.
+    pub fn is_settled(&self) -> Result<bool, OutOfMemory>
+        ensures { IsTrue (V.tells self.now.kept.vault) → IfOk result (λ rests. IsRestOf rests (state_of (start_in V.Vault self.now) self.now.journal)) }
     {
-        self.kept.lives.least()
-    }
-
-    /// Whether no transaction is live. A server that runs alone has no ready notes and no decision notes.
-    pub fn is_settled(&self) -> bool
-        ensures live { IsTrue (V.tells self.now.kept.vault) → IsNoneLive result (state_of (start_in V.Vault self.now) self.now.journal) }
-        ensures kept { (result ≡ true) ↔ (self.now.kept.lives ≡ map.empty) }
-    {
-        self.kept.lives.least().is_none()
-    }
-
-    /// The message at this place, from 0 on, among all that its entries send, if there are so many. A server that runs alone sends none.
-    pub fn emitted(&self, place: u32) -> Option<&Envelope>
-        ensures { copied result ≡ slice_get (sent_in self.now.journal) place }
-    {
-        let _ = &self.journal;
-        let _ = place;
-        None
+        let counted = self.kept.coordinator.counted()?;
+        Ok(counted == 0 && self.kept.lives.least().is_none())
     }
 
     /// Lets so many further changing calls of its vault pass, or all of them.
@@ -216,6 +200,26 @@ impl<V: Vault> Node<V> {
     }
 }
 
+// The lesser of two, or the one that there is.
+fn lesser(one: Option<TransId>, other: Option<TransId>) -> Option<TransId>
+    ensures { result ≡ lesser_if one other }
+{
+    match (one, other) {
+        (Some(a), Some(b)) => Some(least_of(a, b)),
+        (Some(a), None) => Some(a),
+        (None, b) => b,
+    }
+}
+
+fn least_of(a: TransId, b: TransId) -> TransId
+    ensures { result ≡ (if is_lt (trans_cmp b a) then b else a) }
+{
+    if b.cmp(&a).is_lt() {
+        return b;
+    }
+    a
+}
+
 // Answers an event whose entry has its place: it is filled, or taken back where there is no memory.
 fn answer<V: Vault>(
     kept: &mut ServerState<V>,
@@ -227,7 +231,7 @@ fn answer<V: Vault>(
     requires ready { IsReadyForMore (V.serves kept.old.vault) kept.old }
     requires known { IsTrue (V.tells kept.old.vault) → IsOfJournal (V.held kept.old.vault) kept.old }
     requires noted { IsNoted V.Vault kept.old }
-    requires sized { kept.old.sizes ≡ V.volume kept.old.vault }
+    requires on { IsOn V.Vault kept.old }
     requires sound { IsTrue (V.tells kept.old.vault) → AreLivesSound (V.held kept.old.vault) kept.old }
     ensures entered { (before : List AnEntry) (last : AnEntry) → journal.old ≡ before ++ last ∷ [] → IsEntered V.Vault (order_in kept.old event) kept.old kept.new before journal.new event result }
     ensures settled { IsSettled V.Vault kept.old.vault × IsSettled V.Vault kept.new.vault }

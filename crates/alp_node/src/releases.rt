@@ -1,5 +1,5 @@
 //! Locks go, and calls that waited for them get theirs.
-ghost use Rattle.std.specs.Prelude.{◌≡◌, ◌+◌, ◌≤◌, ◌<◌, ◌++◌, ◌∷◌, [], IfOk, OnOk, Some, length, vec_capacity};
+ghost use Rattle.std.specs.Prelude.{◌≡◌, ◌+◌, ◌≤◌, ◌<◌, ◌^◌, ◌++◌, ◌∷◌, [], IfOk, OnOk, Some, length, vec_capacity};
 ghost use Rattle.std.specs.FinMap as map;
 ghost use Rattle.alp_calls.specs.Parts.{IsPart};
 ghost use Rattle.alp_journal.specs.declared.act.Act.TheVariants as act;
@@ -13,12 +13,13 @@ use alp_journal::Act;
 use alp_vault::Vault;
 
 impl<V: Vault> ServerState<V> {
-    /// The act by which a part is gone, with room for those of all grants that may come of it.
-    pub fn released(&self, trans: TransId) -> Result<Vec<Act>, OutOfMemory>
+    /// The act by which a part is gone, with room for those of all grants that may come of it, and for so many more.
+    pub fn released(&self, trans: TransId, more: usize) -> Result<Vec<Act>, OutOfMemory>
+        requires { more ≤ 2 ^ 62 }
         ensures acts { IfOk result (λ v. v.items ≡ act.Released trans ∷ []) }
-        ensures room { IfOk result (λ v. 1 + length self.now.locks.waiting ≤ vec_capacity v) }
+        ensures room { IfOk result (λ v. 1 + length self.now.locks.waiting + more ≤ vec_capacity v) }
     {
-        let mut acts = Vec::with_capacity(self.alloc, self.locks.waiters() + 1)?;
+        let mut acts = Vec::with_capacity(self.alloc, self.locks.waiters() + 1 + more)?;
         acts.push_reserved(Act::Released { trans });
         Ok(acts)
     }
@@ -32,6 +33,8 @@ impl<V: Vault> ServerState<V> {
         requires part { (t : TransId) (l : ALive) → map.get self.old.lives t ≡ Some l → IsPart l.part }
         ensures after { self.new ≡ let_go self.old trans }
         ensures acts { acts.new.items ≡ acts.old.items ++ grant_acts (granted_behind self.old trans) }
+        ensures few { length acts.new.items ≤ length acts.old.items + length self.old.locks.waiting }
+        ensures capacity { vec_capacity acts.new ≡ vec_capacity acts.old }
     {
         self.lives.remove(&trans);
         self.locks.release_all(trans);
@@ -45,6 +48,7 @@ impl<V: Vault> ServerState<V> {
         requires part { (t : TransId) (l : ALive) → map.get self.old.lives t ≡ Some l → IsPart l.part }
         ensures after { self.new ≡ woken_taken self.old }
         ensures acts { acts.new.items ≡ acts.old.items ++ grant_acts self.old.locks.woken }
+        ensures capacity { vec_capacity acts.new ≡ vec_capacity acts.old }
     {
         while let Some(woken) = self.locks.take_woken() {
             self.grant(woken);

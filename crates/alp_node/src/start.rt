@@ -25,11 +25,12 @@ use crate::waits::Waits;
 use alp_base::VaultFault;
 use alp_calls::are_server_notes;
 use alp_coord::Coordinator;
-use alp_fields::{ClockNote, clock_note_name, read_clock};
+use alp_fields::{ClockNote, clock_change, clock_note_name, read_clock};
 use alp_journal::Journal;
 use alp_locks::LockTable;
 use alp_trans::Part;
 use alp_vault::Vault;
+use alp_worker::Joins;
 use std::alloc::Global;
 use std::snapshot::Snapshot;
 use thiserror::Error;
@@ -130,18 +131,20 @@ impl<V: Vault> Node<V> {
             Ok(clock) => clock,
             Err(fault) => return Err((vault, fault)),
         };
-        if let Err(fault) = store(alloc, &mut vault, &Part::new(alloc), clock) {
+        if let Err(fault) = put_clock(alloc, &mut vault, clock) {
             return Err((vault, StartFault::Vault(vault_fault(fault))));
         }
         vault.knows();
         let kept = ServerState {
             alloc,
             server,
+            servers,
             sizes,
             epoch: clock.epoch,
             clock: clock.clock,
             given: 0,
             coordinator: Coordinator::new(alloc, server, clock.epoch),
+            joins: Joins::new(alloc, server, clock.epoch),
             sessions: Sessions::new(),
             lives: Lives::new(alloc),
             dead: Dead::new(alloc),
@@ -156,7 +159,17 @@ impl<V: Vault> Node<V> {
             },
             kept,
             journal: Journal::new(alloc),
-            servers,
         })
     }
+}
+
+/// The note of the epoch and the clock stands.
+pub(super) fn put_clock<V: Vault>(
+    alloc: Global,
+    vault: &mut V,
+    clock: ClockNote,
+) -> Result<(), StoreFault> {
+    let note = clock_change(alloc, clock)?;
+    let notes = vec![in alloc; note]?;
+    store(alloc, vault, &Part::new(alloc), notes.as_slice())
 }

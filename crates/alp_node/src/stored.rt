@@ -1,12 +1,10 @@
-//! Commits of a server's vault: what a transaction intends, with the note of the epoch and the clock.
-ghost use Rattle.std.specs.Prelude.{◌≡◌, ◌+◌, ◌*◌, ◌≤◌, ◌^◌, IsTrue, IsErrOf, OnOk};
-ghost use Rattle.std.specs.FinMap as map;
+//! Commits of a server's vault: what a transaction intends, with changes of notes.
+ghost use Rattle.std.specs.Prelude.{◌≡◌, ◌+◌, ◌≤◌, IsTrue, IsErrOf, OnOk};
 ghost use Rattle.alp_base.specs.Allowances.{Spends};
 ghost use Rattle.alp_base.specs.Crashes.{Either};
 ghost use Rattle.alp_node.specs.declared.stored.StoreFault.TheVariants.{OutOfMemory as NoMemory};
 ghost use Rattle.alp_node.specs.Durable.{Leaves, Besides, NoOther, IsWritten};
 ghost use Rattle.alp_node.specs.Halts.{Ends};
-ghost use Rattle.alp_fields.specs.ClockNote.{clock_name, clock_form, clock_kept};
 ghost use Rattle.alp_calls.specs.Parts.{IsPart};
 ghost use Rattle.alp_files.specs.Edits.{edits_map};
 ghost use Rattle.alp_files.specs.Changes.{edits_of};
@@ -14,10 +12,9 @@ ghost use Rattle.alp_base.specs.Notes.{notes_after};
 ghost use Rattle.alp_vault.specs.Contents.{made};
 ghost use Rattle.alp_vault.specs.Vault.{IsSameVault};
 ghost use Rattle.alp_trans.specs.Parts.{change_of};
-ghost use Rattle.alp_vault.specs.Volumes.{IsCommit, IsVolumeOf, AreNotesSoFar};
+ghost use Rattle.alp_vault.specs.Volumes.{IsCommit, IsVolumeOf, AreNoteChanges, record_pages, live_bytes, commit_bytes};
 
 use alp_base::{Change, NoteChange, OutOfMemory, VaultFault};
-use alp_fields::{ClockNote, clock_change};
 use alp_trans::Part;
 use alp_vault::Vault;
 use std::alloc::{AllocError, AllocFailed, Global};
@@ -81,33 +78,28 @@ fn commit_change<V: Vault>(
     }
 }
 
-/// One commit: the intents of a part become cells, and the note gets the epoch and the clock. The vault has room for it.
+/// One commit: the intents of a part become cells, and the notes change. The vault has room for it.
 pub fn store<V: Vault>(
     alloc: Global,
     vault: &mut V,
     part: &Part,
-    clock: ClockNote,
+    notes: &[NoteChange],
 ) -> Result<(), StoreFault>
     requires serving { IsTrue (V.serves vault.old) }
-    requires clock { clock.clock ≤ 2 ^ 62 }
     requires part { IsPart part.now }
-    requires log { 6 * part.now.counts.cells + 30 ≤ (V.volume vault.old).area }
-    requires format { AreNotesSoFar (V.server vault.old) (V.servers vault.old) (V.held vault.old).notes }
+    requires noted { AreNoteChanges (V.server vault.old) (V.servers vault.old) (V.held vault.old).notes notes.now }
+    requires log { record_pages (live_bytes (V.held vault.old).notes) + record_pages (commit_bytes part.now.counts.cells notes.now) ≤ (V.volume vault.old).area }
     requires room { IsTrue (V.tells vault.old) → IsVolumeOf (V.volume vault.old) (edits_map (edits_of (change_of part.now.intents)) (V.held vault.old).cells) }
     ensures kept { IsSameVault V.tells V.volume V.server V.servers vault.old vault.new }
     ensures cells { IsTrue (V.tells vault.old) → OnOk result ((V.held vault.new).cells ≡ edits_map (edits_of (change_of part.now.intents)) (V.held vault.old).cells) }
-    ensures notes { OnOk result ((V.held vault.new).notes ≡ map.insert (V.held vault.old).notes clock_name (clock_form.spell clock)) }
-    ensures clock { OnOk result (clock_kept (V.held vault.new).notes ≡ clock) }
-    ensures format { OnOk result (AreNotesSoFar (V.server vault.new) (V.servers vault.new) (V.held vault.new).notes) }
+    ensures notes { OnOk result ((V.held vault.new).notes ≡ notes_after notes.now (V.held vault.old).notes) }
     // Through the whole call a crash leaves what was held, or that with the one write.
-    ensures leaves { IsTrue (V.tells vault.old) → Leaves V.Vault vault.old vault.new (Besides V.Vault vault.old (IsWritten part.now.intents clock (V.held vault.old))) }
+    ensures leaves { IsTrue (V.tells vault.old) → Leaves V.Vault vault.old vault.new (Besides V.Vault vault.old (IsWritten part.now.intents notes.now (V.held vault.old))) }
     // Where memory was wanting there was no write.
     ensures memory { IsTrue (V.tells vault.old) → IsErrOf result NoMemory → Leaves V.Vault vault.old vault.new (Besides V.Vault vault.old NoOther) }
     ensures allowance { Spends (V.allowance vault.old) (V.allowance vault.new) }
     ensures ended { Ends V.Vault vault.old vault.new result }
 {
     let change = part.change(alloc)?;
-    let note = clock_change(alloc, clock)?;
-    let notes = vec![in alloc; note]?;
-    commit_change(vault, &change, notes.as_slice())
+    commit_change(vault, &change, notes)
 }

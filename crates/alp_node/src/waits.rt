@@ -1,15 +1,16 @@
 //! Calls that wait for their locks, or have them and are not collected.
-ghost use Rattle.std.specs.Prelude.{◌≡◌, ◌++◌, ◌∷◌, [], IfOk, OnOk, OnErr, List, find};
+ghost use Rattle.std.specs.Prelude.{◌≡◌, ◌≤◌, ◌++◌, ◌∷◌, [], IfOk, OnOk, OnErr, List, find, length, vec_capacity};
 ghost use Rattle.std.specs.Option.{option_copied as copied};
-ghost use Rattle.std.specs.FinMap as map;
-ghost use Rattle.alp_node.specs.Waits.{is_of as is_of_said, is_at as is_at_said, is_file_on, has_waiting, has_file_on, call_at, count_asked, locks_of as locks_of_said, grant_of, without_calls_of, without_call_at, without_dead, has_part as has_part_said, live_calls};
+ghost use Rattle.alp_journal.specs.State.{is_this};
+ghost use Rattle.alp_node.specs.Waits.{is_of as is_of_said, is_other_at as is_other_at_said, is_file_on, has_waiting, has_file_on, call_at, count_asked, locks_of as locks_of_said, grant_of, without_calls_of, without_other_at, without_dead, has_part as has_part_said, live_calls};
 ghost use Rattle.alp_node.specs.declared.waits.WaitingCall.{WaitingCall as ACall};
 
 use crate::dead::{Dead, is_same};
-use crate::lives::Lives;
 use crate::lock_counts::LockCounts;
 use alp_base::{OutOfMemory, TransId};
+use alp_coord::Coordinator;
 use alp_files::Call;
+use alp_worker::Joins;
 use std::alloc::Global;
 use std::marker::Model;
 
@@ -131,26 +132,37 @@ impl Waits {
         self.calls.iter().any(|call| is_on(call, trans))
     }
 
-    /// The client's call with this number waits no more.
-    pub fn remove_at(&mut self, client: u8, number: u32)
-        ensures { self.new ≡ without_call_at client number self.old }
+    /// The client's Join or Finish with this number waits no more.
+    pub fn remove_other(&mut self, client: u8, number: u32)
+        ensures { self.new ≡ without_other_at client number self.old }
     {
-        self.calls.retain(|call| !is_at(call, client, number));
+        self.calls.retain(|call| !is_other_at(call, client, number));
+    }
+
+    /// A call waits from now on, and the calls of the client's parts that ended wait no more.
+    pub fn push_and_bury(&mut self, call: WaitingCall, dead: &Dead) -> Result<(), OutOfMemory>
+        ensures ok { OnOk result (self.new ≡ without_dead call.client dead.now self.old ++ call ∷ []) }
+        ensures err { OnErr result (self.new ≡ self.old) }
+    {
+        self.calls.reserve(1)?;
+        bury_in(&mut self.calls, call.client, dead);
+        self.calls.push_reserved(call);
+        Ok(())
     }
 
     /// The calls of the client's parts that ended wait no more.
     pub fn bury(&mut self, client: u8, dead: &Dead)
         ensures { self.new ≡ without_dead client dead.now self.old }
     {
-        self.calls.retain(|call| call.client != client
-            || dead.cause(client, &call.trans).is_none());
+        bury_in(&mut self.calls, client, dead);
     }
 
     /// Of the client's calls those alone wait on whose parts are live.
-    pub fn clear(&mut self, client: u8, lives: &Lives)
-        ensures { self.new ≡ live_calls client lives.now self.old }
+    pub fn clear(&mut self, client: u8, coordinator: &Coordinator, joins: &Joins)
+        ensures { self.new ≡ live_calls client coordinator.now joins.now self.old }
     {
-        self.calls.retain(|call| call.client != client || has_part(lives, client, &call.trans));
+        self.calls.retain(|call| call.client != client
+            || has_part(coordinator, joins, client, &call.trans));
     }
 }
 
@@ -167,11 +179,18 @@ impl WaitingCall {
 }
 
 // Whether the client has a live part of the transaction here.
-fn has_part(lives: &Lives, client: u8, trans: &TransId) -> bool
-    ensures { result ≡ has_part_said client (map.get lives.now trans.now) }
+fn has_part(coordinator: &Coordinator, joins: &Joins, client: u8, trans: &TransId) -> bool
+    ensures { result ≡ has_part_said client coordinator.now joins.now trans.now }
 {
-    match lives.get(trans) {
-        Some(live) => live.client == client,
+    is_this(coordinator.client(trans), client) || joins.part_of(client, trans).is_some()
+}
+
+// Whether it is this client.
+fn is_this(owner: Option<u8>, client: u8) -> bool
+    ensures { result ≡ is_this client owner }
+{
+    match owner {
+        Some(owner) => owner == client,
         None => false,
     }
 }
@@ -183,11 +202,20 @@ fn is_on(call: &WaitingCall, trans: &TransId) -> bool
     call.counts.is_some() && is_same(&call.trans, trans)
 }
 
-// Whether it is the client's call with this number.
-fn is_at(call: &WaitingCall, client: u8, number: u32) -> bool
-    ensures { result ≡ is_at_said client number call.now }
+// Whether it is the client's Join or Finish with this number.
+fn is_other_at(call: &WaitingCall, client: u8, number: u32) -> bool
+    ensures { result ≡ is_other_at_said client number call.now }
 {
-    call.client == client && call.number == number
+    call.client == client && call.number == number && call.counts.is_none()
+}
+
+// The calls of the client's parts that ended go.
+fn bury_in(calls: &mut Vec<WaitingCall>, client: u8, dead: &Dead)
+    ensures left { calls.new.items ≡ without_dead client dead.now calls.old.items }
+    ensures bound { length calls.new.items ≤ length calls.old.items }
+    ensures capacity { vec_capacity calls.new ≡ vec_capacity calls.old }
+{
+    calls.retain(|call| call.client != client || dead.cause(client, &call.trans).is_none());
 }
 
 // Whether it is a call of the client's part of the transaction.

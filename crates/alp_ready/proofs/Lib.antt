@@ -4,3 +4,6 @@ mod StableSorts
 pub mod RiseLemmas
 pub mod BackLemmas
 pub mod NotedLemmas
+pub mod NoteViews
+pub mod NoteSizes
+pub mod NoteRoom

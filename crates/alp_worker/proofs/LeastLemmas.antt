@@ -179,12 +179,12 @@ open_kept j (Applied t stamp) l h opens = some-apart _ l (sym h)
 open_kept j Over l h opens = some-apart _ l (sym h)
 
 module _ (s : State) (k : Joins) (h : AreJoinsOf s k) where
-  there : (t : TransId) → HasOpen s t → has_open k.lives t ≡ true
+  pub there : (t : TransId) → HasOpen s t → has_open k.lives t ≡ true
   there t it =
       let kept : IsKept it.0 (s.phases it.0) t = kept_open it.0 (s.phases it.0) t it.1 it.2 in
       any_found (is_at it.0) (is_open_of t) k.lives kept.one (h.live it.0 ∙ kept.is) kept.passes
 
-  here : (t : TransId) → has_open k.lives t ≡ true → HasOpen s t
+  pub here : (t : TransId) → has_open k.lives t ≡ true → HasOpen s t
   here t e =
       let found : IsFound (is_open_of t) k.lives = found_any (is_open_of t) k.lives e in
       let l : LiveJoin = found.one in

@@ -1,9 +1,9 @@
-mod ListLemmas
-mod LiveLemmas
+pub mod ListLemmas
+pub mod LiveLemmas
 pub mod WalkLemmas
 pub mod MoveLemmas
 mod DrawLemmas
 mod RegainLemmas
 mod RoomLemmas
 mod OrderLemmas
-mod LeastLemmas
+pub mod LeastLemmas

@@ -1,24 +1,38 @@
-use Rattle.std.specs.Prelude.{Bool, true, false, not, is_some, ◌↔◌, IsTrue}
+use Rattle.std.specs.Prelude.{Bool, true, false, not, ◌&&◌, ◌==◌, is_none, is_some, slice_get, IsTrue, Option}
 use Rattle.std.specs.FinMap as map
-use Rattle.std.proofs.Common.{◌≡◌, sym, ap, subst}
+use Rattle.std.proofs.Common.{◌≡◌, refl, sym, ◌∙◌, ap, subst, eq-eqb}
+use Rattle.std.proofs.lemmas.Bool.{ne_eqb}
+use Rattle.alp_base.specs.declared.ids.TransId.{TransId}
 use Rattle.alp_node.specs.NodeStates.{NodeState}
-use Rattle.alp_node.specs.Nodes.{IsNoneLive, state_of, start_in}
-use Rattle.alp_node.proofs.LiveLemmas.{keys_live, settled_kept}
+use Rattle.alp_node.specs.Nodes.{start_in, state_of}
+use Rattle.alp_node.specs.Opens.{IsRestOf}
+use Rattle.alp_node.proofs.RestLemmas.{rest_said}
 use Rattle.alp_node.proofs.node.Node.is_settled.Goals as goal
 
 turned : (s b : Bool) → s ≡ not b → b ≡ not s
 turned s true e = sym (ap not e)
 turned s false e = sym (ap not e)
 
-pub returns-clause-live : goal.returns-clause-live
-returns-clause-live g c =
-    let G = g.V.Vault in
-    let n : NodeState g.row.V.Denot = record { opening = c.self.inside.opening; kept = c.self.inside.kept; journal = c.self.inside.journal; servers = c.self.inside.servers } in
-    subst (λ (m : NodeState g.row.V.Denot). IsTrue (G.tells m.kept.vault) → IsNoneLive c.is_none.result (state_of (start_in G m) m.journal)) c.self.view_is
-    (λ told. (c.least.result, record { all = map.keys n.kept.lives; live = keys_live G n c.self.invariant c.least.ensures.rising told; first = c.least.ensures.least }, turned (is_some c.least.result) c.is_none.result c.is_none.ensures))
+counts_not : (b y : Bool) → b ≡ false → (b && y) ≡ b
+counts_not true y e = let wrong : true ≡ false = e in cc
+counts_not false y e = refl
 
-pub returns-clause-kept : goal.returns-clause-kept
-returns-clause-kept g c =
-    let n : NodeState g.row.V.Denot = record { opening = c.self.inside.opening; kept = c.self.inside.kept; journal = c.self.inside.journal; servers = c.self.inside.servers } in
-    subst (λ (m : NodeState g.row.V.Denot). (c.is_none.result ≡ true) ↔ (m.kept.lives ≡ map.empty)) c.self.view_is
-    (settled_kept n.kept.lives c.least.result c.is_none.result c.least.ensures.least (turned (is_some c.least.result) c.is_none.result c.is_none.ensures))
+abbrev first_of : {V : Type 0} → NodeState V → Option TransId
+first_of n = slice_get (map.keys n.kept.lives) 0
+
+pub returns-then-counted-eq0 : goal.returns-then-counted-eq0
+returns-then-counted-eq0 g c =
+    let G = g.V.Vault in
+    let n : NodeState g.row.V.Denot = record { opening = c.self.inside.opening; kept = c.self.inside.kept; journal = c.self.inside.journal } in
+    let none : c.is_none.result ≡ is_none c.least.result = turned (is_some c.least.result) c.is_none.result c.is_none.ensures in
+    subst (λ (m : NodeState g.row.V.Denot). IsTrue (G.tells m.kept.vault) → IsRestOf c.is_none.result (state_of (start_in G m) m.journal)) c.self.view_is
+    (λ told. subst (λ (b : Bool). IsRestOf b (state_of (start_in G n) n.journal)) (ap (λ (b : Bool). b && is_none c.least.result) (eq-eqb c.in_ok-counted.counted 0 c.if-counted-eq0.true) ∙ sym none)
+    (rest_said G n c.in_ok-counted.counted c.least.result c.self.invariant c.in_ok-counted.ensures c.least.ensures.least told))
+
+pub returns-else-counted-eq0 : goal.returns-else-counted-eq0
+returns-else-counted-eq0 g c =
+    let G = g.V.Vault in
+    let n : NodeState g.row.V.Denot = record { opening = c.self.inside.opening; kept = c.self.inside.kept; journal = c.self.inside.journal } in
+    subst (λ (m : NodeState g.row.V.Denot). IsTrue (G.tells m.kept.vault) → IsRestOf (c.in_ok-counted.counted == 0) (state_of (start_in G m) m.journal)) c.self.view_is
+    (λ told. subst (λ (b : Bool). IsRestOf b (state_of (start_in G n) n.journal)) (counts_not (c.in_ok-counted.counted == 0) (is_none (first_of n)) (ne_eqb c.in_ok-counted.counted 0 c.if-counted-eq0.false))
+    (rest_said G n c.in_ok-counted.counted (first_of n) c.self.invariant c.in_ok-counted.ensures refl told))

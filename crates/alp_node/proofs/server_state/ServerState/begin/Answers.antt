@@ -1,6 +1,6 @@
 use Rattle.std.specs.Prelude.{None, Some, Ok, max, nat_le}
 use Rattle.std.specs.FinMap as map
-use Rattle.std.proofs.Common.{◌≡◌, ℕ, ◌+◌, ◌<◌, List, [], ◌∷◌, ◌++◌, sym, ap, ◌∙◌, subst, refl, arith}
+use Rattle.std.proofs.Common.{◌≡◌, ℕ, ◌+◌, ◌<◌, List, [], ◌∷◌, ◌++◌, length, sym, ap, ◌∙◌, subst, refl, arith}
 use Rattle.alp_base.specs.declared.ids.TransId.{TransId}
 use Rattle.alp_files.specs.declared.call.Call.TheVariants as call
 use Rattle.alp_files.specs.declared.refusal.Refusal.{Refusal}
@@ -28,13 +28,14 @@ use Rattle.alp_node.specs.declared.answer.Answer.{Answer}
 use Rattle.alp_node.proofs.TurnLemmas.{counts_on, counts_refused}
 use Rattle.alp_node.proofs.EndLemmas.{many_of, over_is, few_of, begin_stepped, begin_refused_stepped}
 use Rattle.alp_node.proofs.WithinLemmas.{new_within}
-use Rattle.alp_node.proofs.StepLemmas.{plain_step}
+use Rattle.alp_node.proofs.StepLemmas.{plain_step, begun_notes}
 use Rattle.alp_node.proofs.GivenLemmas.{counts_none, reply_given}
 use Rattle.alp_node.proofs.BesideLemmas.{AreNamed, AreOthers}
 use Rattle.alp_node.proofs.BehindLemmas.{back_without}
 use Rattle.alp_node.proofs.KeptLemmas.{session_of}
 use Rattle.alp_node.proofs.ReadyLemmas.{begin_ready, refused_ready}
-use Rattle.alp_node.proofs.TransactionLemmas.{next_new, few_live}
+use Rattle.alp_node.proofs.PairedLemmas.{next_new}
+use Rattle.alp_node.proofs.SeatLemmas.{KeepsNotes}
 use Rattle.alp_node.proofs.WaitLemmas.{named_all, none_newer}
 use Rattle.alp_node.specs.Releases.{cleared, with_trans}
 use Rattle.alp_node.specs.Waits.{without_dead, live_calls}
@@ -65,17 +66,16 @@ returns g c =
     let is : x ≡ told_answer (Some r) (act.Drawn t ∷ []) =
     c.begun.ensures ∙ ap (told_answer (Some (reply.Begun c.in_ok-trans.trans))) (c.new.ensures ∙ c.push_reserved.ensures.items ∙ ap (λ (ys : List Act). ys ++ act.Drawn c.in_ok-trans.trans ∷ []) c.in_ok-acts.ensures.items)
     ∙ ap (λ (u : TransId). told_answer (Some (reply.Begun u)) (act.Drawn u ∷ [])) drawn.id in
-    let none : many_of k.coordinator ≡ None = sym c.in_ok-refusal.ensures ∙ c.in_default.is in
-    let few : map.len k.lives < 64 = (let low : counted_of k.coordinator < 64 = few_of k.coordinator none in omega (arith, low, few_live k.coordinator k.lives ready.own)) in
+    let none : many_of k ≡ None = sym c.in_ok-refusal.ensures ∙ c.in_default.is in
     let clock : n ≡ max k.clock seen.ts = c.max-self.ensures ∙ ap (λ (y : ServerState _). max y.clock seen.ts) begun in
-    let new = next_new k.coordinator k.lives ready.own in
+    let new = next_new k.servers k.server k.coordinator k.joins k.lives ready.paired ready.seat.0 in
     let after : ServerState g.row.V.Denot = record k {
       sessions = counted_in k.sessions turn r;
       clock = n;
       coordinator = z;
       dead = without_client turn.client k.dead;
       lives = map.insert k.lives t l;
-      waits = live_calls turn.client (map.insert k.lives t l) (without_dead turn.client k.dead k.waits);
+      waits = live_calls turn.client z k.joins (without_dead turn.client k.dead k.waits);
       locks = entered k.locks t;
     } in
     let cleared_now : c.clear-2.new.self ≡ cleared (record (with_trans k t l) { coordinator = z; clock = n }) turn.client = c.clear-2.ensures ∙ ap (λ (y : ServerState _). cleared (record y { clock = n }) turn.client) begun in
@@ -83,14 +83,14 @@ returns g c =
     c.count.ensures ∙ ap (λ (y : ServerState _). counted_in y.sessions turn (reply.Begun c.in_ok-trans.trans)) cleared_now ∙ ap (λ (u : TransId). counted_in k.sessions turn (reply.Begun u)) drawn.id in
     let kept : record (c.clear-2.new.self) { sessions = c.count.new.self } ≡ after = (λ i. record (cleared_now i) { sessions = counted i }) in
     let named : AreNamed k.waits = named_all k.server k.epoch k.given (count_of k.coordinator) k.sizes k.lives k.waits ready.waits.calls in
-    let away : AreOthers t k.waits = none_newer k.server k.epoch k.given (count_of k.coordinator) k.sizes k.lives t k.waits (omega arith) ready.waits.calls in
+    let away : AreOthers t k.waits = none_newer k.server k.epoch k.given (count_of k.coordinator) k.sizes k.lives t k.waits ready.seat.0 (omega arith) ready.waits.calls in
     subst (λ (y : ServerState _). IsStep G k y e (Ok x)) (sym kept)
-    (left_step G k after refl refl refl (left_same G k.vault) e x c.requires.up
+    (left_step G k after refl refl refl refl (left_same G k.vault) e x c.requires.up (λ ns h. begun_notes c.requires.ready.0 serves k turn.client seen.ts turn.who l z ready (comes turn.who seen.ts) ns h)
     (λ told a h. subst (λ (m : ℕ). Stepped a faults faults held (record after { clock = m }) e x) (sym clock)
     (begin_stepped a held k turn.client turn.number (session_of turn c.requires.turn) seen drawn.part z faults faults x (entered k.locks t) h c.requires.turn.client c.requires.up c.requires.turn.session c.requires.turn.number ready.raised none new
-    (λ u q. ap (λ y. map.get y q) (entering-keeps-held k.locks t u)) drawn.own drawn.intents drawn.counts drawn.one (comes turn.who seen.ts) named ready.waits.files away refl (entering-keeps-held k.locks t) is))
-    (reply_given k.server faults faults (G.allowance k.vault) k.is_down r (act.Drawn t ∷ []) x is (counts_none k.server faults faults k.is_down (Some r) refl refl c.requires.up) c.requires.up tt)
-    (λ m h. begin_ready m serves k turn l n z c.requires.turn refl drawn.one comes refl drawn.own (new_within k.sizes turn.client (Some turn.who) drawn.part drawn.intents drawn.counts h.sized) few (omega (arith, clock)) (omega (arith, clock, h.clock, c.requires.time)) h)
+    (λ u q. ap (λ y. map.get y q) (entering-keeps-held k.locks t u)) drawn.own drawn.intents drawn.counts drawn.one (comes turn.who seen.ts) named away refl (entering-keeps-held k.locks t) is))
+    (reply_given faults faults (G.allowance k.vault) k.is_down r (act.Drawn t ∷ []) x is (counts_none faults faults k.is_down (Some r) refl refl c.requires.up) c.requires.up tt)
+    (λ m h. begin_ready m serves k turn l n z c.requires.turn refl refl drawn.one comes refl drawn.own (new_within k.sizes turn.client (Some turn.who) drawn.part drawn.intents drawn.counts h.sized) (few_of k none) (omega (arith, clock)) (omega (arith, clock, h.clock, c.requires.time)) h)
     (λ on. subst (λ (y : Answer). HasTurned (Some order.Next) k after e y.kept) (sym is) (counts_on k after turn c.requires.turn (call.Begin seen) r tt (omega (arith, clock)) tt tt refl)))
 
 -- as many count as there may be
@@ -101,18 +101,18 @@ returns-in-Some g c =
     let turn = c.args.turn.now in
     let e = event.Call turn.client k.epoch turn.number (call.Begin c.args.seen) in
     let f : Refusal = refusal.TooMany what.Transactions 64 in
-    let same : c.in-Some.refusal ≡ f = over_is (nat_le 64 (counted_of k.coordinator)) f c.in-Some.refusal (sym c.in_ok-refusal.ensures ∙ c.in-Some.is) in
-    let many : many_of k.coordinator ≡ Some f = sym c.in_ok-refusal.ensures ∙ c.in-Some.is ∙ ap Some same in
+    let same : c.in-Some.refusal ≡ f = over_is (nat_le 64 (counted_of k.coordinator + length k.joins.lives)) f c.in-Some.refusal (sym c.in_ok-refusal.ensures ∙ c.in-Some.is) in
+    let many : many_of k ≡ Some f = sym c.in_ok-refusal.ensures ∙ c.in-Some.is ∙ ap Some same in
     let so = c.refuse.ensures.answer ∙ ap (λ (x : Refusal). refused_answer x []) same in
     let kept : c.refuse.new.self ≡ record (cleared k turn.client) { sessions = counted_in k.sessions turn (reply.Refused f) } =
     c.refuse.ensures.kept ∙ ap (λ (y : ServerState _). record y { sessions = counted_in y.sessions turn (reply.Refused c.in-Some.refusal) }) c.clear.ensures
     ∙ ap (λ (x : Refusal). record (cleared k turn.client) { sessions = counted_in k.sessions turn (reply.Refused x) }) same in
-    plain_step G k c.refuse.new.self turn (call.Begin c.args.seen) c.refuse.result (reply.Refused f) [] (ap (λ (y : ServerState _). y.vault) kept) (ap (λ (y : ServerState _). y.server) kept) (ap (λ (y : ServerState _). y.sizes) kept)
-    (ap (λ (y : ServerState _). y.epoch) kept) c.requires.up (ap (λ (y : ServerState _). y.is_down) kept ∙ c.requires.up) refl so refl (λ m n b. tt)
+    plain_step G k c.refuse.new.self turn (call.Begin c.args.seen) c.refuse.result (reply.Refused f) [] (ap (λ (y : ServerState _). y.vault) kept) (ap (λ (y : ServerState _). y.server) kept) (ap (λ (y : ServerState _). y.servers) kept) (ap (λ (y : ServerState _). y.sizes) kept)
+    (ap (λ (y : ServerState _). y.epoch) kept) c.requires.up (ap (λ (y : ServerState _). y.is_down) kept ∙ c.requires.up) (subst (KeepsNotes k) (sym kept) (λ ns h. h)) refl so refl (λ m n b. tt)
     (λ n h. subst (λ (y : ServerState _). IsReady (n + 1) (G.serves k.vault) y) (sym kept) (refused_ready n (G.serves k.vault) k turn (reply.Refused f) c.requires.turn (record { inside = tt; times = tt }) h))
     (λ told a h. subst (λ (y : ServerState _). Stepped a (G.faults k.vault) (G.faults k.vault) (G.held k.vault) y e c.refuse.result) (sym kept)
     (begin_refused_stepped a (G.held k.vault) k turn.client turn.number (session_of turn c.requires.turn) c.args.seen (G.faults k.vault) (G.faults k.vault) c.refuse.result h c.requires.turn.client c.requires.up c.requires.turn.session c.requires.turn.number many
-    (named_all k.server k.epoch k.given (count_of k.coordinator) k.sizes k.lives k.waits c.requires.ready.2.waits.calls) c.requires.ready.2.waits.files so))
+    (named_all k.server k.epoch k.given (count_of k.coordinator) k.sizes k.lives k.waits c.requires.ready.2.waits.calls) so))
     (counts_refused k c.refuse.new.self turn c.requires.turn (call.Begin c.args.seen) f tt (ap (λ (y : ServerState _). y.clock) kept) (ap (λ (y : ServerState _). y.sessions) kept))
 
 -- there is no room for it

@@ -25,7 +25,8 @@ use Rattle.alp_node.proofs.AskLemmas.{asked_given, asked_told}
 use Rattle.alp_node.proofs.BesideLemmas.{AreNamed, HasNoCall, idle_told}
 use Rattle.alp_node.proofs.BlockLemmas.{new_call, blocked_locks, blocked_kept, blocked_is, blocked_ready, waits_stepped}
 use Rattle.alp_node.proofs.BehindLemmas.{same_without, same_err}
-use Rattle.alp_node.proofs.KeptLemmas.{of_client}
+use Rattle.alp_node.proofs.SeatLemmas.{KeepsNotes}
+use Rattle.alp_node.proofs.StandingLemmas.{WorksHere, works_here}
 use Rattle.alp_node.proofs.LockCallLemmas.{conflict_stepped}
 use Rattle.alp_node.proofs.ShapeLemmas.{shape_given}
 use Rattle.alp_node.proofs.StepLemmas.{refused_step, plain_step}
@@ -40,9 +41,9 @@ pub wait-requires-clause-idle : goal.wait-requires-clause-idle
 wait-requires-clause-idle g c =
     let k = c.args.self.now in
     let turn = c.args.turn.now in
-    let mine = of_client turn.client (map.get k.lives c.args.trans) c.requires.own in
+    let mine : WorksHere k turn.client c.args.trans = works_here c.requires.ready.0 (g.V.Vault.serves k.vault) k c.requires.ready.2 turn.client c.args.trans c.requires.works in
     let calls = c.requires.ready.2.waits.calls in
-    let away : HasNoCall turn.client c.args.trans k.waits = none_waiting k.server k.epoch k.given (count_of k.coordinator) k.sizes k.lives turn.client c.args.trans mine.0 k.waits mine.1 mine.2 c.requires.idle calls in
+    let away : HasNoCall turn.client c.args.trans k.waits = none_waiting k.server k.epoch k.given (count_of k.coordinator) k.sizes k.lives turn.client c.args.trans mine.live k.waits mine.there mine.own c.requires.idle calls in
     ap (λ (w : Waiter). waits k.locks.waiting w.trans) c.requires.plan
     ∙ idle_in k.server k.epoch k.given k.lives k.waits c.args.trans k.locks.waiting (asks_none c.args.trans k.waits away.others) c.requires.ready.2.waits.queued
 
@@ -55,17 +56,17 @@ returns-then-not-may_wait g c =
     let t = c.args.trans in
     let call = c.args.call.now in
     let ns : List Need = c.args.asked.1.needs in
-    let mine = of_client turn.client (map.get k.lives t) c.requires.own in
-    let l : Live = mine.0 in
+    let mine : WorksHere k turn.client t = works_here c.requires.ready.0 (G.serves k.vault) k c.requires.ready.2 turn.client t c.requires.works in
+    let l : Live = mine.live in
     let named : AreNamed k.waits = named_all k.server k.epoch k.given (count_of k.coordinator) k.sizes k.lives k.waits c.requires.ready.2.waits.calls in
-    let away : HasNoCall turn.client t k.waits = none_waiting k.server k.epoch k.given (count_of k.coordinator) k.sizes k.lives turn.client t l k.waits mine.1 mine.2 c.requires.idle c.requires.ready.2.waits.calls in
+    let away : HasNoCall turn.client t k.waits = none_waiting k.server k.epoch k.given (count_of k.coordinator) k.sizes k.lives turn.client t l k.waits mine.there mine.own c.requires.idle c.requires.ready.2.waits.calls in
     let never : may_wait call ≡ false = sym c.may_wait.ensures ∙ c.if-not-may_wait.true in
     let few : too_locked k.sizes.area l.part.counts.cells (counts_then l.locks (holding k.locks.held t) ns call).made ≡ None =
-    ap (λ (n : LockCounts). too_locked k.sizes.area l.part.counts.cells n.made) (sym (c.requires.counts l mine.1)) ∙ c.requires.few l mine.1 in
+    ap (λ (n : LockCounts). too_locked k.sizes.area l.part.counts.cells n.made) (sym (c.requires.counts l mine.there)) ∙ c.requires.few l mine.there in
     let blocked : blocker k.locks.held t (plan_of k.locks t ns).rises ≡ Some c.args.holder = ap (λ (w : Waiter). blocker k.locks.held t w.rises) (sym c.requires.plan) ∙ c.requires.blocked in
     refused_step G k c.refuse.new.self turn call c.refuse.result (refusal.LockConflict c.args.holder) refl c.requires.turn c.requires.up c.refuse.ensures.kept c.refuse.ensures.answer
-    (λ told a h. conflict_stepped a (G.faults k.vault) (G.faults k.vault) (G.held k.vault) k turn t l call ns c.args.holder c.refuse.result h c.requires.ready.2.raised c.requires.turn c.requires.up mine.1 mine.2 (idle_told a turn.client t k.waits h.waits named away.idle) never
-    (subst (λ (x : Option TransId). IsSome x) (sym c.requires.named) refl) (asked_told (G.tells k.vault) (G.held k.vault).cells (holding k.locks.held t) l.part call ns (c.requires.asked l mine.1) told) (c.requires.shape l mine.1) few c.requires.named c.requires.ready.2.sound blocked c.refuse.ensures.answer)
+    (λ told a h. conflict_stepped a (G.faults k.vault) (G.faults k.vault) (G.held k.vault) k turn t l call ns c.args.holder c.refuse.result h c.requires.ready.2.raised c.requires.turn c.requires.up mine.there c.requires.works (idle_told a turn.client t k.waits h.waits named away.idle) never
+    (subst (λ (x : Option TransId). IsSome x) (sym c.requires.named) refl) (asked_told (G.tells k.vault) (G.held k.vault).cells (holding k.locks.held t) l.part call ns (c.requires.asked l mine.there) told) (c.requires.shape l mine.there) few c.requires.named c.requires.ready.2.sound blocked c.refuse.ensures.answer)
     tt
 
 -- there is no room for the call, or none for its request
@@ -90,30 +91,30 @@ returns g c =
     let t = c.args.trans in
     let call = c.args.call.now in
     let ns : List Need = c.args.asked.1.needs in
-    let mine = of_client turn.client (map.get k.lives t) c.requires.own in
-    let l : Live = mine.0 in
+    let mine : WorksHere k turn.client t = works_here c.requires.ready.0 (G.serves k.vault) k c.requires.ready.2 turn.client t c.requires.works in
+    let l : Live = mine.live in
     let ready = c.requires.ready.2 in
     let faults = G.faults k.vault in
     let e = event.Call turn.client k.epoch turn.number call in
-    let away : HasNoCall turn.client t k.waits = none_waiting k.server k.epoch k.given (count_of k.coordinator) k.sizes k.lives turn.client t l k.waits mine.1 mine.2 c.requires.idle ready.waits.calls in
+    let away : HasNoCall turn.client t k.waits = none_waiting k.server k.epoch k.given (count_of k.coordinator) k.sizes k.lives turn.client t l k.waits mine.there mine.own c.requires.idle ready.waits.calls in
     let chooses : may_wait call ≡ true = sym c.may_wait.ensures ∙ c.if-not-may_wait.false in
-    let counts_are : c.args.asked.0 ≡ counts_then l.locks (holding k.locks.held t) ns call = c.requires.counts l mine.1 in
-    let few : too_locked k.sizes.area l.part.counts.cells (counts_then l.locks (holding k.locks.held t) ns call).made ≡ None = ap (λ (n : LockCounts). too_locked k.sizes.area l.part.counts.cells n.made) (sym counts_are) ∙ c.requires.few l mine.1 in
+    let counts_are : c.args.asked.0 ≡ counts_then l.locks (holding k.locks.held t) ns call = c.requires.counts l mine.there in
+    let few : too_locked k.sizes.area l.part.counts.cells (counts_then l.locks (holding k.locks.held t) ns call).made ≡ None = ap (λ (n : LockCounts). too_locked k.sizes.area l.part.counts.cells n.made) (sym counts_are) ∙ c.requires.few l mine.there in
     let blocked : blocker k.locks.held t (plan_of k.locks t ns).rises ≡ Some c.args.holder = ap (λ (w : Waiter). blocker k.locks.held t w.rises) (sym c.requires.plan) ∙ c.requires.blocked in
-    let files : AreGiven k.server k.epoch k.given ns = asked_given k.server k.epoch k.given (G.tells k.vault) (G.held k.vault).cells (holding k.locks.held t) l.part call ns (c.requires.asked l mine.1) (ready.opened t l mine.1)
-    (shape_given k.server k.epoch k.given (length l.part.opens.items) call (c.requires.shape l mine.1)) in
+    let files : AreGiven k.server k.epoch k.given ns = asked_given k.server k.epoch k.given (G.tells k.vault) (G.held k.vault).cells (holding k.locks.held t) l.part call ns (c.requires.asked l mine.there) (ready.opened t l mine.there)
+    (shape_given k.server k.epoch k.given (length l.part.opens.items) call (c.requires.shape l mine.there)) in
     let cloned : c.in_ok-copy_of.field-0 ≡ call = c.in_ok-copy_of.ensures in
     let waits_are : c.push.new.self ≡ k.waits ++ new_call k turn t l call ns ∷ [] =
     c.in_ok-push.ensures.ok ∙ (λ i. k.waits ++ (record { client = turn.client; number = turn.number; trans = t; call = cloned i; counts = Some (counts_are i); is_granted = false }) ∷ []) in
     let locks_are : c.wait.new.self ≡ blocked_locks k turn t l call ns =
-    when_ok c.wait.result _ c.wait.ensures.after (sym c.if-is_err.ensures.value) ∙ ap (with_waiter k.locks) c.requires.plan ∙ blocked_is k turn t l call ns (ready.known t l mine.1) in
+    when_ok c.wait.result _ c.wait.ensures.after (sym c.if-is_err.ensures.value) ∙ ap (with_waiter k.locks) c.requires.plan ∙ blocked_is k turn t l call ns (ready.known t l mine.there) in
     let kept : c.refuse-2.new.self ≡ blocked_kept k turn t l call ns =
     c.refuse-2.ensures.kept ∙ (λ i. record k { sessions = counted_in k.sessions turn (reply.Refused refusal.NotYet); waits = waits_are i; locks = locks_are i }) in
-    plain_step G k c.refuse-2.new.self turn call c.refuse-2.result (reply.Refused refusal.NotYet) [] (ap (λ (y : ServerState _). y.vault) kept) (ap (λ (y : ServerState _). y.server) kept) (ap (λ (y : ServerState _). y.sizes) kept) (ap (λ (y : ServerState _). y.epoch) kept)
-    c.requires.up (ap (λ (y : ServerState _). y.is_down) kept ∙ c.requires.up) refl c.refuse-2.ensures.answer refl (λ m n b. tt)
+    plain_step G k c.refuse-2.new.self turn call c.refuse-2.result (reply.Refused refusal.NotYet) [] (ap (λ (y : ServerState _). y.vault) kept) (ap (λ (y : ServerState _). y.server) kept) (ap (λ (y : ServerState _). y.servers) kept) (ap (λ (y : ServerState _). y.sizes) kept) (ap (λ (y : ServerState _). y.epoch) kept)
+    c.requires.up (ap (λ (y : ServerState _). y.is_down) kept ∙ c.requires.up) (subst (KeepsNotes k) (sym kept) (λ ns h. h)) refl c.refuse-2.ensures.answer refl (λ m n b. tt)
     (λ n h. subst (λ (y : ServerState _). IsReady (n + 1) (G.serves k.vault) y) (sym kept)
-    (blocked_ready k turn t l call ns n (G.serves k.vault) c.requires.turn mine.1 mine.2 away c.requires.named c.requires.formed c.requires.some (c.requires.shape l mine.1) few files h))
+    (blocked_ready k turn t l call ns n (G.serves k.vault) c.requires.turn mine.there mine.own mine.unvoted away.others c.requires.named c.requires.formed c.requires.some (c.requires.shape l mine.there) few files h))
     (λ told a h. subst (λ (y : ServerState _). Stepped a faults faults (G.held k.vault) y e c.refuse-2.result) (sym kept)
-    (waits_stepped k turn t l call ns a faults faults (G.held k.vault) c.requires.ready.0 (G.serves k.vault) ready h c.requires.turn c.requires.up mine.1 mine.2 away (subst (λ (x : Option TransId). IsSome x) (sym c.requires.named) refl) c.requires.named
-    (asked_told (G.tells k.vault) (G.held k.vault).cells (holding k.locks.held t) l.part call ns (c.requires.asked l mine.1) told) (c.requires.shape l mine.1) few chooses c.args.holder blocked c.refuse-2.result c.refuse-2.ensures.answer))
+    (waits_stepped k turn t l call ns a faults faults (G.held k.vault) c.requires.ready.0 (G.serves k.vault) ready h c.requires.turn c.requires.up mine.there mine.own c.requires.works c.requires.idle (subst (λ (x : Option TransId). IsSome x) (sym c.requires.named) refl) c.requires.named
+    (asked_told (G.tells k.vault) (G.held k.vault).cells (holding k.locks.held t) l.part call ns (c.requires.asked l mine.there) told) (c.requires.shape l mine.there) few chooses c.args.holder blocked c.refuse-2.result c.refuse-2.ensures.answer))
     (counts_refused k c.refuse-2.new.self turn c.requires.turn call refusal.NotYet tt (ap (λ (y : ServerState _). y.clock) kept) (ap (λ (y : ServerState _). y.sessions) kept))

@@ -11,13 +11,14 @@ use Rattle.alp_coord.specs.Coordinators.{IsOf, IsAlong, Comes, Keeps, server_of,
 use Rattle.alp_node.specs.Releases.{with_trans}
 use Rattle.alp_node.specs.declared.lives.Live.{Live}
 use Rattle.alp_node.specs.declared.server_state.ServerState.{ServerState}
-use Rattle.alp_node.proofs.TransactionLemmas.{next_new, taken_back}
+use Rattle.alp_node.proofs.PairedLemmas.{next_new}
+use Rattle.alp_node.proofs.TransactionLemmas.{taken_back}
 use Rattle.alp_node.proofs.server_state.ServerState.draw.Goals as goal
 
 pub enter-requires-clause-new : goal.enter-requires-clause-new
 enter-requires-clause-new g c =
     let k = c.args.self.now in
-    ap (map.get k.lives) c.in_ok-trans.ensures.id ∙ next_new k.coordinator k.lives c.requires.ready.2.own
+    ap (map.get k.lives) c.in_ok-trans.ensures.id ∙ next_new k.servers k.server k.coordinator k.joins k.lives c.requires.ready.2.paired c.requires.ready.2.seat.0
 
 pub enter-requires-clause-idle : goal.enter-requires-clause-idle
 enter-requires-clause-idle g c = c.new.ensures.counts

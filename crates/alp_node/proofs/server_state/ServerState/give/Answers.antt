@@ -28,6 +28,7 @@ loop-woken-preserved g c =
     record {
       after = ap woken_taken then ∙ woken_step k t ts first ∙ c.loop-woken.invariant.after;
       acts = ap (λ (us : List TransId). c.push_reserved.new.self.items ++ grant_acts us) woken ∙ acts_step c.loop-woken.acts.items c.push_reserved.new.self.items t k.locks.woken ts first c.push_reserved.ensures.items ∙ c.loop-woken.invariant.acts;
+      capacity = c.push_reserved.ensures.capacity ∙ c.loop-woken.invariant.capacity;
       room = (
           let room : length c.push_reserved.new.self.items + length ts ≤ vec_capacity c.loop-woken.acts = room_step c.loop-woken.acts.items c.push_reserved.new.self.items t k.locks.woken ts (vec_capacity c.loop-woken.acts) first c.push_reserved.ensures.items c.loop-woken.invariant.room in
           let same : vec_capacity c.push_reserved.new.self ≡ vec_capacity c.loop-woken.acts = c.push_reserved.ensures.capacity in

@@ -14,6 +14,7 @@ abbrev pub invariant-loop-woken : goal.invariant-loop-woken
 invariant-loop-woken g l = record {
   after : woken_taken l.self ≡ woken_taken l.initial.self;
   acts : l.acts.items ++ grant_acts l.self.locks.woken ≡ l.initial.acts.items ++ grant_acts l.initial.self.locks.woken;
+  capacity : vec_capacity l.acts ≡ vec_capacity l.initial.acts;
   room : length l.acts.items + length l.self.locks.woken ≤ vec_capacity l.acts;
   most : map.len l.self.lives ≤ 64;
   parts : (t : TransId) (x : Live) → map.get l.self.lives t ≡ Some x → IsPart x.part;

@@ -1,5 +1,6 @@
 use Rattle.std.specs.Prelude.{is_some, None, Some, Ok, true, IsSome, Option}
 use Rattle.std.specs.FinMap as map
+use Rattle.std.specs.Option.{option_copied}
 use Rattle.std.proofs.Common.{◌≡◌, ℕ, ◌+◌, ◌<◌, ◌≤◌, List, [], length, le_refl, arith, refl, sym, ap, ◌∙◌, subst}
 use Rattle.alp_base.specs.declared.ids.TransId.{TransId}
 use Rattle.alp_files.specs.Born.{count_after}
@@ -21,7 +22,7 @@ use Rattle.alp_node.specs.Rooms.{locks_given}
 use Rattle.alp_node.specs.Shapes.{counts_then, too_locked}
 use Rattle.alp_node.specs.declared.lock_counts.LockCounts.{LockCounts}
 use Rattle.alp_node.specs.ServerState.{IsReady}
-use Rattle.alp_node.specs.Steps.{Stepped, IsOf, counted_in, told_answer}
+use Rattle.alp_node.specs.Steps.{Stepped, counted_in, told_answer}
 use Rattle.alp_node.specs.Turns.{TellsUpTo, IsKeepable, TellsRun, HasTurned}
 use Rattle.alp_node.specs.declared.answer.Answer.{Answer}
 use Rattle.alp_node.specs.declared.answer.Given.{Given}
@@ -42,7 +43,10 @@ use Rattle.alp_node.proofs.LockKeptLemmas.{lock_stepped}
 use Rattle.alp_node.proofs.LookLemmas.{count_same, answered_told, room_told, part_ready, without_step, part_unseen, looks_left}
 use Rattle.alp_node.proofs.OpenLemmas.{unless_only, opens_then}
 use Rattle.alp_node.proofs.ReadyLemmas.{counted_ready}
-use Rattle.alp_node.proofs.SeatLemmas.{left_step}
+use Rattle.alp_node.proofs.NotedLemmas.{noted_on, voters_put}
+use Rattle.alp_node.proofs.PairedLemmas.{few_live}
+use Rattle.alp_node.proofs.SeatLemmas.{KeepsNotes, left_step}
+use Rattle.alp_node.proofs.StandingLemmas.{WorksHere, works_here, works_own}
 use Rattle.alp_node.proofs.ShapeLemmas.{shape_given, shape_shaped, too_locked_is, may_lock}
 use Rattle.alp_node.proofs.StepLemmas.{refused_step}
 use Rattle.alp_node.proofs.TotalLemmas.{few_totals}
@@ -70,10 +74,10 @@ perform-requires-clause-ready g c l there =
     }
 
 pub perform-requires-clause-caller : goal.perform-requires-clause-caller
-perform-requires-clause-caller g c = c.requires.ready.2.callers c.args.trans
+perform-requires-clause-caller g c l there = (works_own c.requires.ready.0 (g.V.Vault.serves c.args.self.now.vault) c.args.self.now c.args.turn.now.client c.args.trans l c.requires.ready.2 c.requires.works there).1
 
 pub perform-requires-clause-few : goal.perform-requires-clause-few
-perform-requires-clause-few g c = few_totals c.args.self.now.lives c.requires.ready.2.most (λ t l there. (c.requires.ready.2.within t l there).part)
+perform-requires-clause-few g c = few_totals c.args.self.now.lives (few_live c.requires.ready.0 (g.V.Vault.serves c.args.self.now.vault) c.args.self.now c.requires.ready.2) (λ t l there. (c.requires.ready.2.within t l there).part)
 
 pub lock_counts-counts-requires-clause-locks : goal.lock_counts-counts-requires-clause-locks
 lock_counts-counts-requires-clause-locks g c = (c.requires.ready.2.within c.args.trans c.in-Some.live.now (sym c.in-Some.ensures)).locks
@@ -130,7 +134,7 @@ returns-in-Some-too_locked g c =
     let call = c.args.call.now in
     let l : Live = c.in-Some.live.now in
     let there : map.get k.lives t ≡ Some l = sym c.in-Some.ensures in
-    let own : l.client ≡ turn.client = subst (IsOf turn.client) there c.requires.own in
+    let own : l.client ≡ turn.client = (works_own c.requires.ready.0 (G.serves k.vault) k turn.client t l c.requires.ready.2 c.requires.works there).0 in
     let n : LockCounts = counts_then l.locks (holding k.locks.held t) c.args.needs call in
     let named : AreNamed k.waits = named_all k.server k.epoch k.given (count_of k.coordinator) k.sizes k.lives k.waits c.requires.ready.2.waits.calls in
     let away : HasNoCall turn.client t k.waits = none_waiting k.server k.epoch k.given (count_of k.coordinator) k.sizes k.lives turn.client t l k.waits there own c.requires.idle c.requires.ready.2.waits.calls in
@@ -138,8 +142,8 @@ returns-in-Some-too_locked g c =
     let many : too_locked k.sizes.area l.part.counts.cells n.made ≡ Some f = ap (λ (y : LockCounts). too_locked k.sizes.area l.part.counts.cells y.made) (sym c.lock_counts-counts.ensures) ∙ sym c.too_locked.ensures ∙ c.in-Some-too_locked.is in
     let counted : IsCountRefusal f = too_locked_is k.sizes.area l.part.counts.cells n.made f many in
     let refuse = c.refuse in
-    refused_step G k refuse.new.self turn call refuse.result f (counted.quiet k.server) c.requires.turn c.requires.up refuse.ensures.kept refuse.ensures.answer
-    (λ told a h. locks_stepped a (G.faults k.vault) (G.faults k.vault) (G.held k.vault) k turn t l call c.args.needs f refuse.result h c.requires.ready.2.raised c.requires.turn c.requires.up there own (idle_told a turn.client t k.waits h.waits named away.idle) (c.requires.ready.2.within t l there)
+    refused_step G k refuse.new.self turn call refuse.result f (counted.quiet) c.requires.turn c.requires.up refuse.ensures.kept refuse.ensures.answer
+    (λ told a h. locks_stepped a (G.faults k.vault) (G.faults k.vault) (G.held k.vault) k turn t l call c.args.needs f refuse.result h c.requires.ready.2.raised c.requires.turn c.requires.up there c.requires.works (idle_told a turn.client t k.waits h.waits named away.idle) (c.requires.ready.2.within t l there)
     c.requires.served (asked_told (G.tells k.vault) (G.held k.vault).cells (holding k.locks.held t) l.part call c.args.needs (c.requires.asked l there) told) (c.requires.shape l there) many c.requires.named refuse.ensures.answer)
     counted.inside
 
@@ -186,8 +190,9 @@ returns-in-Ok g c =
     let r = z.reply in
     let l : Live = c.in-Some.live.now in
     let there : map.get k.lives t ≡ Some l = sym c.in-Some.ensures in
-    let own : l.client ≡ turn.client = subst (IsOf turn.client) there c.requires.own in
+    let own : l.client ≡ turn.client = (works_own c.requires.ready.0 (G.serves k.vault) k turn.client t l c.requires.ready.2 c.requires.works there).0 in
     let away : HasNoCall turn.client t k.waits = none_waiting k.server k.epoch k.given (count_of k.coordinator) k.sizes k.lives turn.client t l k.waits there own c.requires.idle c.requires.ready.2.waits.calls in
+    let mine : WorksHere k turn.client t = works_here c.requires.ready.0 (G.serves k.vault) k c.requires.ready.2 turn.client t c.requires.works in
     let asked : IsAsked (G.tells k.vault) (G.held k.vault).cells (holding k.locks.held t) l.part call ns = c.requires.asked l there in
     let n : LockCounts = counts_then l.locks (holding k.locks.held t) ns call in
     let n_is : c.lock_counts-counts.result ≡ n = c.lock_counts-counts.ensures in
@@ -218,20 +223,22 @@ returns-in-Ok g c =
     ∙ (λ i. record k { given = count i; lives = map.insert k.lives t (record l { part = did.part; locks = b }); locks = with_plan k.locks (taken i); vault = N.vault }) in
     let vault = ap (λ (y : ServerState _). y.vault) kept_is in
     let faults = ap (λ (y : ServerState _). G.faults y.vault) kept_is ∙ c.in-Ok.ensures.looked.2 in
-    left_step G k (record M { sessions = c.count.new.self }) (ap (λ (y : ServerState _). y.server) kept_is) (ap (λ (y : ServerState _). y.sizes) kept_is) (ap (λ (y : ServerState _). y.epoch) kept_is) (subst (IsLeft G k.vault) (sym vault) left)
+    left_step G k (record M { sessions = c.count.new.self }) (ap (λ (y : ServerState _). y.server) kept_is) (ap (λ (y : ServerState _). y.servers) kept_is) (ap (λ (y : ServerState _). y.sizes) kept_is) (ap (λ (y : ServerState _). y.epoch) kept_is) (subst (IsLeft G k.vault) (sym vault) left)
     (event.Call turn.client k.epoch turn.number call) x c.requires.up
+    (subst (λ (y : ServerState _). KeepsNotes k (record y { sessions = c.count.new.self })) (sym kept_is)
+    (λ notes h. noted_on k.lives (map.insert k.lives t now) k.server k.servers k.epoch k.joins k.coordinator notes (voters_put k.lives t now k.joins.lives mine.unvoted) h))
     (λ told a h. (
     let given_told = answered_told (G.tells k.vault) (G.held k.vault).cells l did.part (next_file k) call did.room r told given in
     let of = room_told (G.tells k.vault) (G.held k.vault).cells k n.made did.room told did.left in
     let e = event.Call turn.client k.epoch turn.number call in
     subst (λ (y : Sessions). Stepped a (G.faults k.vault) (G.faults M.vault) (G.held M.vault) (record M { sessions = y }) e x) (sym c.count.ensures)
     (subst (λ (y : ServerState _). Stepped a (G.faults k.vault) (G.faults y.vault) (G.held y.vault) (record y { sessions = counted_in y.sessions turn r }) e x) (sym kept_is)
-    (lock_stepped a (G.faults k.vault) (G.faults N.vault) (G.held k.vault) k turn t l did.part call ns did.room r N.vault c.requires.ready.0 (G.serves k.vault) x (G.held N.vault) c.requires.ready.2 h c.requires.up left.contents c.requires.turn there own
+    (lock_stepped a (G.faults k.vault) (G.faults N.vault) (G.held k.vault) k turn t l did.part call ns did.room r N.vault c.requires.ready.0 (G.serves k.vault) x (G.held N.vault) c.requires.ready.2 h c.requires.up left.contents c.requires.turn there (own, c.requires.works)
     c.requires.served files (asked_told (G.tells k.vault) (G.held k.vault).cells (holding k.locks.held t) l.part call ns asked told) shape few c.requires.named c.requires.formed given_told of is free_asked away))
     ))
-    (reply_given k.server (G.faults k.vault) (G.faults M.vault) (G.allowance M.vault) M.is_down r (acts_of t rises) x is
-    (counts_none k.server (G.faults k.vault) (G.faults M.vault) M.is_down (Some r)
-    (answered_quiet k.server (G.tells k.vault) (G.held k.vault).cells l.part did.part (name_in l.who) (next_file k) call did.room r given) faults (ap (λ (y : ServerState _). y.is_down) kept_is ∙ c.requires.up)) (ap (λ (y : ServerState _). y.is_down) kept_is ∙ c.requires.up ∙ sym (acts_up t rises))
+    (reply_given (G.faults k.vault) (G.faults M.vault) (G.allowance M.vault) M.is_down r (acts_of t rises) x is
+    (counts_none (G.faults k.vault) (G.faults M.vault) M.is_down (Some r)
+    (answered_quiet (G.tells k.vault) (G.held k.vault).cells l.part did.part (name_in l.who) (next_file k) call did.room r given) faults (ap (λ (y : ServerState _). y.is_down) kept_is ∙ c.requires.up)) (ap (λ (y : ServerState _). y.is_down) kept_is ∙ c.requires.up ∙ sym (acts_up t rises))
     (acts_caused (G.faults k.vault) (G.faults M.vault) (G.allowance M.vault) t rises))
     (λ m h. (
     let serves = G.serves N.vault in
@@ -247,7 +254,7 @@ returns-in-Ok g c =
     subst (λ (y : Sessions). IsReady (m + 1) (G.serves M.vault) (record M { sessions = y })) (sym c.count.ensures)
     (subst (λ (y : ServerState _). IsReady (m + 1) (G.serves y.vault) (record y { sessions = counted_in y.sessions turn r })) (sym kept_is)
     (part_ready (m + 1) (G.serves k.vault) serves (record k { sessions = counted_in k.sessions turn r; given = count_after k.given r; locks = with_plan k.locks (plan_of k.locks t (asks_given (next_file k) call ns r)) })
-    t l did.part b N.vault (m + 1) c.in-Ok.ensures.looked.1 c.requires.up there low (le_refl (m + 1)) opens within (not_like t l now k.waits away.others) granted))
+    t l did.part b N.vault (m + 1) c.in-Ok.ensures.looked.1 c.requires.up mine.unvoted there low (le_refl (m + 1)) opens within (not_like t l now k.waits away.others) granted))
     ))
     (λ on. subst (λ (y : Answer). HasTurned (Some order.Next) k (record M { sessions = c.count.new.self }) (event.Call turn.client k.epoch turn.number call) y.kept) (sym is)
     (counts_on k (record M { sessions = c.count.new.self }) turn c.requires.turn call r keeps.inside
@@ -265,11 +272,20 @@ returns-in-Err g c =
     let N = c.perform.new.self in
     let l : Live = c.in-Some.live.now in
     let there : map.get k.lives t ≡ Some l = sym c.in-Some.ensures in
-    let own : l.client ≡ turn.client = subst (IsOf turn.client) there c.requires.own in
+    let own : l.client ≡ turn.client = (works_own c.requires.ready.0 (G.serves k.vault) k turn.client t l c.requires.ready.2 c.requires.works there).0 in
     let named : AreNamed k.waits = named_all k.server k.epoch k.given (count_of k.coordinator) k.sizes k.lives k.waits c.requires.ready.2.waits.calls in
     let away : HasNoCall turn.client t k.waits = none_waiting k.server k.epoch k.given (count_of k.coordinator) k.sizes k.lives turn.client t l k.waits there own c.requires.idle c.requires.ready.2.waits.calls in
     let did = c.in-Err.ensures.performed l there in
     let look = c.in-Err.ensures.looked in
     let w = c.without_answer in
-    without_step G k (map.insert k.lives t (record l { part = did.part; locks = l.locks })) N.vault N w.new.self turn t c.args.call.now c.in-Err.fault w.result did.kept look c.requires.turn c.requires.up c.requires.named (λ a h. idle_told a turn.client t k.waits h.waits named away.idle)
-    (part_unseen G k turn t l N.vault there own (looks_left G k.vault N.vault c.in-Err.fault look) c.requires.up did.part did.sound did.outcome) w.ensures.failed w.ensures.stopped w.ensures.memory
+    without_step G k (map.insert k.lives t (record l { part = did.part; locks = l.locks })) N.vault N w.new.self turn t c.args.call.now c.in-Err.fault w.result did.kept look c.requires.turn c.requires.up c.requires.named (λ a h. idle_told a turn.client t k.waits h.waits named away.idle) c.requires.works
+    (part_unseen G k turn t l N.vault there own (looks_left G k.vault N.vault c.in-Err.fault look) c.requires.up (works_here c.requires.ready.0 (G.serves k.vault) k c.requires.ready.2 turn.client t c.requires.works).unvoted did.part did.sound did.outcome) w.ensures.failed w.ensures.stopped w.ensures.memory
+
+-- a part at work is live
+pub unreachable-requires : goal.unreachable-requires
+unreachable-requires g c =
+    let k = c.args.self.now in
+    let mine : WorksHere k c.args.turn.now.client c.args.trans = works_here c.requires.ready.0 (g.V.Vault.serves k.vault) k c.requires.ready.2 c.args.turn.now.client c.args.trans c.requires.works in
+    let none : map.get k.lives c.args.trans ≡ None = sym c.get.ensures ∙ ap option_copied c.in_default.is in
+    let wrong : None ≡ Some mine.live = sym none ∙ mine.there in
+    cc

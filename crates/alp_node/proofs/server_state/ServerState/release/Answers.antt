@@ -1,8 +1,9 @@
 use Rattle.std.specs.Prelude.{cond, Bool, true, false, Option, None, Some}
 use Rattle.std.specs.FinMap as map
-use Rattle.std.proofs.Common.{◌≡◌, ◌≤◌, ap, sym, arith, ◌∙◌}
+use Rattle.std.proofs.Common.{◌≡◌, ◌+◌, ◌≤◌, List, [], ◌∷◌, suc, length, length-append, refl, ap, sym, arith, ◌∙◌}
 use Rattle.alp_base.specs.declared.ids.TransId.{TransId}
 use Rattle.alp_journal.specs.Ids.{same_trans}
+use Rattle.alp_node.specs.Releases.{grant_acts}
 use Rattle.alp_node.specs.Totals.{LiveMap}
 use Rattle.alp_node.specs.declared.lives.Live.{Live}
 use Rattle.alp_node.proofs.MapLemmas.{get_gone, gone_length}
@@ -24,3 +25,11 @@ give-requires-clause-part g c u l there =
     left_live : (b : Bool) (u : TransId) (m : LiveMap) (l : Live) → cond {A = Option Live} b None (map.get m u) ≡ Some l → map.get m u ≡ Some l
     left_live true u m l e = let wrong : None ≡ Some l = e in cc
     left_live false u m l e = e
+
+pub returns-clause-few : goal.returns-clause-few
+returns-clause-few g c =
+    omega (arith, ap length c.give.ensures.acts, length-append c.args.acts.now.items (grant_acts c.release_all.new.self.woken), granted_length c.release_all.new.self.woken, c.release_all.ensures.few, ap length c.requires.none)
+  where
+    granted_length : (ts : List TransId) → length (grant_acts ts) ≡ length ts
+    granted_length [] = refl
+    granted_length (t ∷ ts) = ap suc (granted_length ts)

@@ -4,20 +4,18 @@ use Rattle.alp_files.specs.declared.reply.Reply.TheVariants as reply
 use Rattle.alp_files.specs.declared.refusal.Refusal.TheVariants as refusal
 use Rattle.alp_journal.specs.declared.event.Event.TheVariants as event
 use Rattle.std.specs.FinMap as map
-use Rattle.std.specs.Prelude.{None, ◌==◌, ◌&&◌, not}
-use Rattle.alp_journal.specs.Ids.{same_trans}
-use Rattle.alp_locks.proofs.SoundLemmas.{each-filter}
-use Rattle.alp_node.specs.Dead.{cause_in, is_part, without_part}
+use Rattle.std.specs.Prelude.{None}
+use Rattle.alp_node.specs.Dead.{without_part}
 use Rattle.alp_node.specs.Waits.{without_calls_of}
-use Rattle.alp_node.specs.ServerState.{IsReady, IsCalm}
+use Rattle.alp_node.specs.ServerState.{IsReady}
 use Rattle.alp_node.specs.Steps.{Stepped, counted_in}
-use Rattle.alp_node.specs.declared.dead.DeadPart.{DeadPart}
 use Rattle.alp_node.specs.declared.server_state.ServerState.{ServerState}
 use Rattle.alp_node.proofs.TurnLemmas.{counts_refused}
-use Rattle.alp_node.proofs.DeadLemmas.{part_left, alive_still}
 use Rattle.alp_node.proofs.FinishLemmas.{dead_stepped}
 use Rattle.alp_node.proofs.ReadyLemmas.{counted_ready, buried_ready, without_ready, live_others}
-use Rattle.alp_node.proofs.StandingLemmas.{dead_gone, calm_told}
+use Rattle.alp_node.proofs.StandingLemmas.{ended_gone}
+use Rattle.alp_node.proofs.SeatLemmas.{KeepsNotes}
+use Rattle.alp_node.proofs.ReleaseLemmas.{alive_forgotten}
 use Rattle.alp_node.proofs.StepLemmas.{plain_step}
 use Rattle.alp_node.proofs.server_state.ServerState.tell_dead.Goals as goal
 
@@ -31,14 +29,13 @@ returns g c =
     let r = reply.Refused (refusal.Aborted c.args.cause) in
     let after : ServerState g.row.V.Denot = record k { sessions = counted_in k.sessions turn r; dead = without_part turn.client t k.dead; waits = without_calls_of turn.client t k.waits } in
     let same : c.refuse.new.self ≡ after = c.refuse.ensures.kept ∙ (λ i. record k { sessions = counted_in k.sessions turn r; dead = c.remove.ensures i; waits = c.remove_of.ensures i }) in
-    let none : map.get k.lives t ≡ None = dead_gone turn.client (map.get k.lives t) (cause_in k.dead turn.client t) c.args.cause c.requires.dead in
-    plain_step G k c.refuse.new.self turn (call.Finish t c.args.commit) c.refuse.result r [] (ap (λ (y : ServerState _). y.vault) same) (ap (λ (y : ServerState _). y.server) same)
+    let none : map.get k.lives t ≡ None = ended_gone c.requires.ready.0 (G.serves k.vault) k turn.client t c.args.cause c.requires.ready.2 c.requires.here c.requires.dead in
+    plain_step G k c.refuse.new.self turn (call.Finish t c.args.commit) c.refuse.result r [] (ap (λ (y : ServerState _). y.vault) same) (ap (λ (y : ServerState _). y.server) same) (ap (λ (y : ServerState _). y.servers) same)
     (ap (λ (y : ServerState _). y.sizes) same) (ap (λ (y : ServerState _). y.epoch) same) c.requires.up (ap (λ (y : ServerState _). y.is_down) same ∙ c.requires.up)
-    (calm_told c.requires.ready.0 (G.serves k.vault) k turn.client t c.args.cause c.requires.ready.2 c.requires.dead) c.refuse.ensures.answer refl (λ m n b. tt)
+    (subst (KeepsNotes k) (sym same) (λ ns h. h)) refl c.refuse.ensures.answer refl (λ m n b. tt)
     (λ n h. subst (λ (y : ServerState _). IsReady (n + 1) (G.serves k.vault) y) (sym same)
     (buried_ready (n + 1) (G.serves k.vault) (record k { sessions = counted_in k.sessions turn r; waits = without_calls_of turn.client t k.waits }) (without_part turn.client t k.dead)
-    (λ u l there. alive_still (l.client == turn.client && same_trans u t) (cause_in k.dead l.client u) (cause_in (without_part turn.client t k.dead) l.client u) (part_left k.dead turn.client t l.client u) (h.alive u l there))
-    (each-filter (IsCalm k.server) (λ (d : DeadPart). not (is_part turn.client t d)) k.dead h.causes)
+    (alive_forgotten turn.client t k.dead k.lives k.joins.lives h.alive)
     (counted_ready n (G.serves k.vault) (record k { waits = without_calls_of turn.client t k.waits }) turn r c.requires.turn (record { inside = tt; times = tt })
     (without_ready n (G.serves k.vault) k turn.client t (live_others n (G.serves k.vault) k t none h) h))))
     (λ told a h. subst (λ (y : ServerState _). Stepped a faults faults (G.held k.vault) y (event.Call turn.client k.epoch turn.number (call.Finish t c.args.commit)) c.refuse.result) (sym same)

@@ -6,4 +6,4 @@ use Rattle.alp_node.proofs.waits.Waits.clear.Goals as goal
 pub returns : goal.returns
 returns c =
     filter_same _ _ _ (λ x b f' k. search rules) _ _ c.retain.ensures.filtered
-    ∙ ap (live_calls c.args.client c.args.lives.now) c.self.view_is
+    ∙ ap (live_calls c.args.client c.args.coordinator.now c.args.joins.now) c.self.view_is

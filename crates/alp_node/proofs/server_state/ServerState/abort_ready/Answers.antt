@@ -1,0 +1,4 @@
+use Rattle.alp_node.proofs.server_state.ServerState.abort_ready.Goals as goal
+
+pub unreachable-requires : goal.unreachable-requires
+unreachable-requires g c = ?

@@ -1,0 +1,14 @@
+pub mod BalanceLemmas
+pub mod ChangeLemmas
+pub mod ChargeLemmas
+pub mod ListLemmas
+pub mod LiveLemmas
+pub mod LockLemmas
+pub mod NoteLemmas
+pub mod OwnerLemmas
+pub mod PassLemmas
+pub mod QuietLemmas
+pub mod RoomLemmas
+pub mod SoundLemmas
+pub mod SumLemmas
+pub mod TouchedLemmas

@@ -1,0 +1,12 @@
+pub mod Balance
+pub mod Faults
+pub mod Lives
+pub mod Named
+pub mod Notes
+pub mod Owners
+pub mod Regained
+pub mod Rooms
+pub mod Seen
+pub mod Sums
+pub mod Together
+pub mod Touched
