@@ -220,17 +220,17 @@ abbrev pub AreAtRest : {V : Type 0} → VaultGhosts V → Bool → ℕ → List 
 AreAtRest G tells number [] = Unit {0}
 AreAtRest G tells number (s ∷ ss) = IsAtRest G tells number s × AreAtRest G tells (number + 1) ss
 
--- a fault names another server than this, if it names one
-abbrev pub IsElsewhere : {T : Type 0} → ℕ → Result T RunFault → Type 0
-IsElsewhere server (Ok x) = Unit {0}
-IsElsewhere server (Err (run_fault.DiskFault s)) = (1 ≤ s) × (s ≡ server → ⊥)
-IsElsewhere server (Err (run_fault.Start s f)) = (1 ≤ s) × (s ≡ server → ⊥)
-IsElsewhere server (Err f) = Unit {0}
+-- a fault names another server of so many than this, if it names one
+abbrev pub IsElsewhere : {T : Type 0} → (servers server : ℕ) → Result T RunFault → Type 0
+IsElsewhere servers server (Ok x) = Unit {0}
+IsElsewhere servers server (Err (run_fault.DiskFault s)) = IsOfRun servers s × (s ≡ server → ⊥)
+IsElsewhere servers server (Err (run_fault.Start s f)) = IsOfRun servers s × (s ≡ server → ⊥)
+IsElsewhere servers server (Err f) = Unit {0}
 
 -- a fault stays the same, and a new one is of this server
-abbrev pub GoesOn : {T U : Type 0} → ℕ → Result T RunFault → Result U RunFault → Type 0
-GoesOn server (Ok x) now = (n : ℕ) → (n ≡ server → ⊥) → IsElsewhere n now
-GoesOn {U = U} server (Err f) now = now ≡ Err f
+abbrev pub GoesOn : {T U : Type 0} → (servers server : ℕ) → Result T RunFault → Result U RunFault → Type 0
+GoesOn servers server (Ok x) now = (n : ℕ) → (n ≡ server → ⊥) → IsElsewhere servers n now
+GoesOn servers server (Err f) now = now ≡ Err f
 
 -- what the server that stands there did and holds comes in front of the others
 pub record IsStationPut {V : Type 0} (G : VaultGhosts V) (s : Station V) (old new : Rests V) : Type 0 where
@@ -242,6 +242,7 @@ pub record IsStationPut {V : Type 0} (G : VaultGhosts V) (s : Station V) (old ne
 pub record IsClosedAt {V D T : Type 0} (G : VaultGhosts V) (g : Ghosts D) (tells : Bool) (servers : ℕ) (after : ℕ → Option D) (r : Result T RunFault) (number : ℕ) (s : Station V) (given : D) : Type 0 where
   pub node : NodeState V
   pub stands : s.server ≡ standing node
+  pub here : G.server node.kept.vault ≡ number
   pub vault : V
   pub gone : HasGoneBy G (IsOfRun servers) (Unit {0}) node.kept.vault vault r
   pub held : OnOk r (G.held vault ≡ G.held node.kept.vault)

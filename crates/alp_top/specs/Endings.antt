@@ -3,6 +3,7 @@ use Rattle.std.specs.Prelude.{◌≡◌, ℕ, ◌-◌, IsTrue, List, [], ◌∷�
 use Rattle.std.specs.Global.{Global}
 use Rattle.alp_files.specs.Cells.{Cells, owners_of}
 use Rattle.alp_files.specs.Counts.{file_count_of}
+use Rattle.alp_files.specs.Sound.{AreSound}
 use Rattle.alp_journal.specs.declared.log.Item.{Item}
 use Rattle.alp_node.specs.NodeStates.{NodeState}
 use Rattle.alp_report.specs.Sections.{printed}
@@ -25,8 +26,9 @@ pub record IsHeldOf (number age time : ℕ) (d : Held) : Type 0 where
   pub epoch : d.epoch ≡ age
   pub clock : d.clock ≡ time
 
--- it counts the files of these cells, and has the records of their owners
+-- it counts the files of these cells, which are well formed, and has the records of their owners
 pub record AreCellsOf (m : Cells) (d : Held) : Type 0 where
+  pub sound : AreSound m
   pub files : d.files ≡ file_count_of m
   pub owners : d.owners.items ≡ owners_of m
 

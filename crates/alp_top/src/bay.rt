@@ -171,9 +171,8 @@ fn close_one<B: Bay>(
 ) -> Result<(), RunFault>
     requires server { (1 ≤ server) × (server ≤ 8) }
     requires at_rest { IsAtRest ⟦<Store<Fuse<B::Device>> as Vault>⟧ (B.tells bay.old) server station }
-    requires elsewhere { IsElsewhere server ended }
-    ensures closed { (servers : ℕ) → server ≤ servers → IsClosedHere ⟦<Store<Fuse<B::Device>> as Vault>⟧ B.Device.Disk (B.tells bay.old) servers (B.at bay.old) (B.at bay.new) result server station }
-    ensures goes { GoesOn server ended result }
+    ensures closed { (servers : ℕ) → server ≤ servers → IsElsewhere servers server ended → IsClosedHere ⟦<Store<Fuse<B::Device>> as Vault>⟧ B.Device.Disk (B.tells bay.old) servers (B.at bay.old) (B.at bay.new) result server station }
+    ensures goes { (servers : ℕ) → server ≤ servers → GoesOn servers server ended result }
     ensures rest { OnOk result (IsStationPut ⟦<Store<Fuse<B::Device>> as Vault>⟧ station rests.old rests.new) }
     ensures tells { B.tells bay.new ≡ B.tells bay.old }
     ensures chosen { B.chosen bay.new ≡ B.chosen bay.old }

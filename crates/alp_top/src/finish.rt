@@ -1,7 +1,7 @@
 //! The end of a run: its log and its report.
 ghost use Rattle.std.specs.Prelude.{◌≡◌, IsTrue, IfOk, OnOk, false};
 ghost use Rattle.alp_base.specs.declared.allowance.Allowance.TheVariants.{Free};
-ghost use Rattle.alp_cluster.specs.Servers.{IsOn, HasGone};
+ghost use Rattle.alp_cluster.specs.Servers.{IsOn, HasGoneBy};
 ghost use Rattle.alp_cluster.specs.Station.{HasVault};
 ghost use Rattle.alp_top.specs.Endings.{AreNoRests, ArePutFirst, IsHeldOf, IsRestPut, IsReportOf, AreCellsOf};
 ghost use Rattle.alp_top.specs.Looks.{HasLooked};
@@ -73,12 +73,13 @@ fn held_of<V: Vault>(
     requires serving { IsTrue (V.serves vault.old) }
     requires free { V.allowance vault.old ≡ Free }
     requires server { V.server vault.old ≡ server }
-    ensures gone { HasGone V.Vault (Unit {0}) vault.old vault.new result }
+    ensures gone { HasGoneBy V.Vault (λ s. s ≡ server) (Unit {0}) vault.old vault.new result }
     ensures looked { HasLooked V.Vault vault.old vault.new result }
     ensures numbers { IfOk result (IsHeldOf server epoch clock) }
     ensures cells { IsTrue (V.tells vault.old) → IfOk result (AreCellsOf (V.held vault.old).cells) }
 {
     let owners = owner_records(alloc, server, vault)?;
+    vault.knows();
     Ok(Held {
         server,
         epoch,
@@ -98,7 +99,7 @@ pub fn end_node<V: Vault>(
     requires on { IsOn V.Vault node }
     requires up { node.kept.is_down ≡ false }
     requires free { V.allowance node.kept.vault ≡ Free }
-    ensures gone { HasGone V.Vault (Unit {0}) node.kept.vault result.0 result.1 }
+    ensures gone { HasGoneBy V.Vault (λ s. s ≡ node.kept.server) (Unit {0}) node.kept.vault result.0 result.1 }
     ensures looked { HasLooked V.Vault node.kept.vault result.0 result.1 }
     ensures rest { OnOk result.1 (IsRestPut V.Vault node ranks.items rests.old rests.new) }
 {

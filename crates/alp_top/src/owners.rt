@@ -4,7 +4,7 @@ ghost use Rattle.std.specs.FinMap as map;
 ghost use Rattle.alp_base.specs.declared.allowance.Allowance.TheVariants.{Free};
 ghost use Rattle.alp_base.specs.declared.key.Key.TheVariants.{OwnerOf};
 ghost use Rattle.alp_files.specs.Cells.{owner_in, owners_of};
-ghost use Rattle.alp_cluster.specs.Servers.{HasGone};
+ghost use Rattle.alp_cluster.specs.Servers.{HasGoneBy};
 ghost use Rattle.alp_top.specs.Looks.{HasLooked};
 
 use alp_base::{Cell, Key, Name, OutOfMemory, OwnerRecord, VaultFault};
@@ -29,7 +29,7 @@ fn owner_record<V: Vault>(
     requires serving { IsTrue (V.serves vault.old) }
     requires free { V.allowance vault.old ≡ Free }
     requires server { V.server vault.old ≡ server }
-    ensures gone { HasGone V.Vault (Unit {0}) vault.old vault.new result }
+    ensures gone { HasGoneBy V.Vault (λ s. s ≡ server) (Unit {0}) vault.old vault.new result }
     ensures looked { HasLooked V.Vault vault.old vault.new result }
     ensures record { IsTrue (V.tells vault.old) → IfOk result (λ o. o ≡ owner_in (map.get (V.held vault.old).cells (OwnerOf name))) }
 {
@@ -50,7 +50,7 @@ pub fn owner_records<V: Vault>(
     requires serving { IsTrue (V.serves vault.old) }
     requires free { V.allowance vault.old ≡ Free }
     requires server { V.server vault.old ≡ server }
-    ensures gone { HasGone V.Vault (Unit {0}) vault.old vault.new result }
+    ensures gone { HasGoneBy V.Vault (λ s. s ≡ server) (Unit {0}) vault.old vault.new result }
     ensures looked { HasLooked V.Vault vault.old vault.new result }
     ensures owners { IsTrue (V.tells vault.old) → IfOk result (λ v. v.items ≡ owners_of (V.held vault.old).cells) }
 {
