@@ -7,6 +7,8 @@ pub mod ClientLemmas
 pub mod CloseLemmas
 pub mod LeaveLemmas
 pub mod LookLemmas
+pub mod GivenLemmas
+pub mod GoneAtLemmas
 pub mod OwnerLemmas
 pub mod PairLemmas
 pub mod PlayedLemmas

@@ -64,7 +64,7 @@ matched_map P Q f (x ∷ xs) (y ∷ ys) g h = (g x y h.0, matched_map P Q f xs y
 
 -- two places that are one
 pub same_there : {A : Type 0} (o : Option A) (x y : A) → o ≡ Some x → o ≡ Some y → x ≡ y
-same_there o x y a b = go x y (sym a ∙ b)
+same_there {A = A} o x y a b = go x y (sym a ∙ b)
   where
-    go : (x y : A) → Some x ≡ Some y → x ≡ y
+    go : (x y : A) → ◌≡◌ {A = Option A} (Some x) (Some y) → x ≡ y
     go x y e = cc
