@@ -1,5 +1,5 @@
 -- what a run leaves of the disk of each server
-use Rattle.std.specs.Prelude.{Bool, IsTrue, map as list_map, slice_get, Option, None, Some, Result, Ok, Err}
+use Rattle.std.specs.Prelude.{Bool, IsTrue, map as list_map, slice_get, Option, None, Some, Result, Ok, Err, OnOk}
 use Rattle.std.proofs.Common.{inl, inr, ◌⊎◌, ◌≡◌, ◌≢◌, ℕ, zero, suc, ◌+◌, ◌-◌, ◌<◌, ◌≤◌, List, [], ◌∷◌, length, refl, sym, ◌∙◌, ap, subst, arith}
 use Rattle.std.proofs.lemmas.Bool.{cases_eq}
 use Rattle.alp_base.specs.Causes.{Rose}
@@ -51,6 +51,15 @@ pub record IsGoneAt {V D T : Type 0} (G : VaultGhosts V) (g : Ghosts D) (tells :
   pub back : IsGiven G g vault given
   pub there : IsTrue tells → after n ≡ Some given
 
+-- It was at rest, and was closed.
+pub record IsDoneAt {V D T : Type 0} (G : VaultGhosts V) (g : Ghosts D) (tells : Bool) (lines : List NumberedLine) (before after : ℕ → Option D) (first now : Stations V) (r : Result T RunFault) (n : ℕ) : Type 0 where
+  pub at : IsGoneAt G g tells lines before after first now r n
+  pub rest : NodeState V
+  pub rests : at.left.server ≡ standing rest
+  pub held : OnOk r (G.held at.vault ≡ G.held rest.kept.vault)
+  pub serves : OnOk r (IsTrue (G.serves at.vault))
+  pub telling : G.tells rest.kept.vault ≡ G.tells at.node.kept.vault
+
 module _ {V D : Type 0} (G : VaultGhosts V) (g : Ghosts D) (tells : Bool) (lines : List NumberedLine) (before mid after : ℕ → Option D) (ns : List (NodeState V)) (ds : List D) (first now : Stations V) (stand : AreStationsOf ns first.all.items) (many : length ns ≡ servers_said lines)
     (begun : AreBegun G g tells lines before 1 ns ds) (same : IsTrue tells → AreOthersSame (servers_said lines) before mid) where
   first_many : length first.all.items ≡ servers_said lines
@@ -94,8 +103,8 @@ module _ {V D : Type 0} (G : VaultGhosts V) (g : Ghosts D) (tells : Bool) (lines
 
   -- all was played, and then the servers were closed
   module _ {T U : Type 0} (x : T) (q : Result U RunFault) (gone : HaveGone G (StopNone lines) first now (Ok x)) where
-    pub closed_at : (closed : AreClosed G g tells (length now.all.items) now.all.items mid after q) (n : ℕ) → IsOneOf (servers_said lines) n → IsGoneAt G g tells lines before after first now q n
-    closed_at closed n here =
+    pub done_at : (closed : AreClosed G g tells (length now.all.items) now.all.items mid after q) (n : ℕ) → IsOneOf (servers_said lines) n → IsDoneAt G g tells lines before after first now q n
+    done_at closed n here =
         let low : 1 ≤ n = here.first in
         let less : n - 1 < length ns = (let high : n ≤ servers_said lines = here.last in omega (arith, low, high, many)) in
         let number : 1 + (n - 1) ≡ n = omega (arith, low) in
@@ -109,20 +118,27 @@ module _ {V D : Type 0} (G : VaultGhosts V) (g : Ghosts D) (tells : Bool) (lines
         let first_gone : HasGoneBy {T = T} G (IsOfRun (servers_said lines)) (StopNone lines) p.one.kept.vault y.node.kept.vault (Ok x) =
         subst (λ (w : V). HasGoneBy {T = T} G (IsOfRun (servers_said lines)) (StopNone lines) p.one.kept.vault w (Ok x)) v (subst (λ (m : ℕ). HasGoneBy {T = T} G (IsOfRun m) (StopNone lines) p.one.kept.vault l.vault (Ok x)) first_many l.gone) in
         record {
-          node = p.one;
-          taken = p.two;
-          begun = subst (λ (m : ℕ). IsBegunAt G g tells lines before m p.one p.two) number p.both;
-          station = s;
-          stood = at;
-          was = stands;
-          left = c.one;
-          stands = c.at_one;
-          vault = y.vault;
-          gone = gone_then G (IsOfRun (servers_said lines)) (StopNone lines) (Unit {0}) (StopNone lines) p.one.kept.vault y.node.kept.vault y.vault x q (λ none. none) (λ none. tt) first_gone
-              (subst (λ (m : ℕ). HasGoneBy G (IsOfRun m) (Unit {0}) y.node.kept.vault y.vault q) (gone.many ∙ first_many) y.gone);
-          given = c.two;
-          back = y.back;
-          there = y.there;
+          at = record {
+            node = p.one;
+            taken = p.two;
+            begun = subst (λ (m : ℕ). IsBegunAt G g tells lines before m p.one p.two) number p.both;
+            station = s;
+            stood = at;
+            was = stands;
+            left = c.one;
+            stands = c.at_one;
+            vault = y.vault;
+            gone = gone_then G (IsOfRun (servers_said lines)) (StopNone lines) (Unit {0}) (StopNone lines) p.one.kept.vault y.node.kept.vault y.vault x q (λ none. none) (λ none. tt) first_gone
+                (subst (λ (m : ℕ). HasGoneBy G (IsOfRun m) (Unit {0}) y.node.kept.vault y.vault q) (gone.many ∙ first_many) y.gone);
+            given = c.two;
+            back = y.back;
+            there = y.there;
+          };
+          rest = y.node;
+          rests = y.stands;
+          held = y.held;
+          serves = y.serves;
+          telling = first_gone.same.telling;
         }
 
 -- ---- why a run was not played to its end

@@ -7,6 +7,7 @@ pub mod ClientLemmas
 pub mod CloseLemmas
 pub mod LeaveLemmas
 pub mod LookLemmas
+pub mod PlayedOutLemmas
 pub mod GivenLemmas
 pub mod GoneAtLemmas
 pub mod OwnerLemmas
