@@ -51,6 +51,11 @@ pub record IsGoneAt {V D T : Type 0} (G : VaultGhosts V) (g : Ghosts D) (tells :
   pub back : IsGiven G g vault given
   pub there : IsTrue tells → after n ≡ Some given
 
+-- It is left as it was.
+pub record IsLeftSo {V D T : Type 0} (G : VaultGhosts V) (g : Ghosts D) (tells : Bool) (lines : List NumberedLine) (before after : ℕ → Option D) (first now : Stations V) (r : Result T RunFault) (n : ℕ) : Type 0 where
+  pub at : IsGoneAt G g tells lines before after first now r n
+  pub its : HasVault at.left.server at.vault
+
 -- It was at rest, and was closed.
 pub record IsDoneAt {V D T : Type 0} (G : VaultGhosts V) (g : Ghosts D) (tells : Bool) (lines : List NumberedLine) (before after : ℕ → Option D) (first now : Stations V) (r : Result T RunFault) (n : ℕ) : Type 0 where
   pub at : IsGoneAt G g tells lines before after first now r n
@@ -73,7 +78,7 @@ module _ {V D : Type 0} (G : VaultGhosts V) (g : Ghosts D) (tells : Bool) (lines
     others_same told others n out = others n (λ here. out (subst (λ (m : ℕ). IsOneOf m n) now_many here)) ∙ same told n out
 
     -- the run ended, and all was left as it was
-    pub left_at : (left : AreLeftBy G g tells now.all.items mid after) (n : ℕ) → IsOneOf (servers_said lines) n → IsGoneAt G g tells lines before after first now r n
+    pub left_at : (left : AreLeftBy G g tells now.all.items mid after) (n : ℕ) → IsOneOf (servers_said lines) n → IsLeftSo G g tells lines before after first now r n
     left_at left n here =
         let low : 1 ≤ n = here.first in
         let less : n - 1 < length ns = (let high : n ≤ servers_said lines = here.last in omega (arith, low, high, many)) in
@@ -86,19 +91,22 @@ module _ {V D : Type 0} (G : VaultGhosts V) (g : Ghosts D) (tells : Bool) (lines
         let one : q.one ≡ l.station = same_there (slice_get now.all.items (n - 1)) q.one l.station q.at_one l.there in
         let v : l.vault ≡ y.vault = one_vault q.one.server l.vault y.vault (subst (λ (s : Station V). HasVault s.server l.vault) (sym one) l.its) y.its in
         record {
-          node = p.one;
-          taken = p.two;
-          begun = subst (λ (m : ℕ). IsBegunAt G g tells lines before m p.one p.two) number p.both;
-          station = x;
-          stood = at;
-          was = stands;
-          left = q.one;
-          stands = q.at_one;
-          vault = y.vault;
-          gone = subst (λ (w : V). HasGoneBy G (IsOfRun (servers_said lines)) (StopNone lines) p.one.kept.vault w r) v (subst (λ (m : ℕ). HasGoneBy G (IsOfRun m) (StopNone lines) p.one.kept.vault l.vault r) first_many l.gone);
-          given = q.two;
-          back = y.back;
-          there = y.there;
+          at = record {
+            node = p.one;
+            taken = p.two;
+            begun = subst (λ (m : ℕ). IsBegunAt G g tells lines before m p.one p.two) number p.both;
+            station = x;
+            stood = at;
+            was = stands;
+            left = q.one;
+            stands = q.at_one;
+            vault = y.vault;
+            gone = subst (λ (w : V). HasGoneBy G (IsOfRun (servers_said lines)) (StopNone lines) p.one.kept.vault w r) v (subst (λ (m : ℕ). HasGoneBy G (IsOfRun m) (StopNone lines) p.one.kept.vault l.vault r) first_many l.gone);
+            given = q.two;
+            back = y.back;
+            there = y.there;
+          };
+          its = y.its;
         }
 
   -- all was played, and then the servers were closed

@@ -7,6 +7,8 @@ pub mod ClientLemmas
 pub mod CloseLemmas
 pub mod LeaveLemmas
 pub mod LookLemmas
+pub mod FilledLemmas
+pub mod CutLemmas
 pub mod PlayedOutLemmas
 pub mod GivenLemmas
 pub mod GoneAtLemmas

@@ -1,7 +1,7 @@
 -- a server that the bay has no disk for, and faults that are handed on
 use Rattle.std.specs.Prelude.{Bool, IsTrue, Option, Result, Ok, Err, IfErr}
 use Rattle.std.specs.Result.{IsErr, IsErrAnd}
-use Rattle.std.proofs.Common.{inl, inr, ◌≡◌, ℕ, List, refl, sym, ◌∙◌, ap, subst}
+use Rattle.std.proofs.Common.{inl, inr, ◌⊎◌, ◌≡◌, ℕ, List, refl, sym, ◌∙◌, ap, subst}
 use Rattle.alp_base.specs.Causes.{Rose}
 use Rattle.alp_bay.specs.Bays.{HasBayCause}
 use Rattle.alp_bay.specs.declared.bay.BayFault.{BayFault}
@@ -10,7 +10,7 @@ use Rattle.alp_disk.specs.declared.disk.Disk.{Ghosts}
 use Rattle.alp_script.specs.declared.numbered.NumberedLine.{NumberedLine}
 use Rattle.alp_top.specs.Disks.{IsUntaken, IsOfServer, IsRefusedHere}
 use Rattle.alp_top.specs.Faults.{of_bay}
-use Rattle.alp_top.specs.Volumes.{IsBayFault, IsBayTold}
+use Rattle.alp_top.specs.Volumes.{IsBayFault, IsBayTold, IsFolderChosen}
 use Rattle.alp_top.specs.declared.fault.NoReport.{NoReport}
 use Rattle.alp_top.specs.declared.fault.NoReport.TheVariants as fault
 
@@ -27,7 +27,7 @@ told_of {U = U} before now f r is same p = subst (λ (q : Result U NoReport). Is
 
 -- ---- the bay gave no disk
 
-untaken : {T : Type 0} (before now : ℕ) (f : BayFault) → HasBayCause {T = T} before now (Err f) → IsUntaken (of_bay f) before now
+pub untaken : {T : Type 0} (before now : ℕ) (f : BayFault) → HasBayCause {T = T} before now (Err f) → IsUntaken (of_bay f) before now
 untaken before now bay_fault.Failed h = h.failed refl
 untaken before now bay_fault.OutOfMemory h = tt
 
@@ -56,3 +56,21 @@ disk_still g server fault.JournalFull before now same other = same
 disk_still g server (fault.EpochEnd s) before now same other = same
 disk_still g server (fault.NotAVolume s found) before now same other = same
 disk_still g server (fault.Damaged s place) before now same other = same
+
+-- which folder the bay is left with
+pub bay_folder : {U : Type 0} (f : BayFault) (r : Result U NoReport) → IsErr r → IsErrAnd r (λ e. e ≡ of_bay f) → (was is named : Option (List ℕ)) → (is ≡ named) ⊎ (is ≡ was) → IsFolderChosen r was is named
+bay_folder {U = U} f r err alike was is named left = subst (λ (q : Result U NoReport). IsFolderChosen q was is named) (sym (as_err (of_bay f) r err alike)) (go f)
+  where
+    go : (f : BayFault) → IsFolderChosen {T = U} (Err (of_bay f)) was is named
+    go bay_fault.Failed = left
+    go bay_fault.OutOfMemory = left
+
+pub folder_taken : {U : Type 0} (r : Result U NoReport) (was is named : Option (List ℕ)) → is ≡ named → IsFolderChosen r was is named
+folder_taken (Ok x) was is named same = same
+folder_taken (Err fault.Bay) was is named same = inl same
+folder_taken (Err (fault.Disk s)) was is named same = same
+folder_taken (Err fault.OutOfMemory) was is named same = inl same
+folder_taken (Err fault.JournalFull) was is named same = same
+folder_taken (Err (fault.EpochEnd s)) was is named same = same
+folder_taken (Err (fault.NotAVolume s found)) was is named same = same
+folder_taken (Err (fault.Damaged s place)) was is named same = same
