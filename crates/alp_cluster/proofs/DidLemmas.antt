@@ -9,7 +9,6 @@ use Rattle.alp_course.specs.Languages.{Language, Nothing, Just, Then, Each}
 use Rattle.alp_course.specs.Plays.{Due, IsCut}
 use Rattle.alp_course.proofs.LanguageLemmas.{Has, then_word, cut_first, cut_second, cut_map, each_cut, each_next}
 use Rattle.alp_cluster.specs.Come.{Come}
-
 use Rattle.alp_cluster.specs.Messages.{DidSay}
 use Rattle.alp_cluster.specs.Servers.{HasGoneBy}
 use Rattle.alp_cluster.specs.Station.{standing, HasVault}
@@ -126,7 +125,7 @@ module _ {V : Type 0} (G : Ghosts V) where
           let two : LeavesOf G (length b.all.items) Q mid.node (slice_get c.all.items i) r = k.each i one.station mid.node one.there mid.keeps.stands in
           let same : one.vault ≡ mid.node.kept.vault = vault_of one.station.server mid.node one.vault mid.keeps.stands one.its in
           let later : HasGoneBy G (IsOfRun (length a.all.items)) Q one.vault two.vault r =
-              subst (λ (v : V). HasGoneBy G (IsOfRun (length a.all.items)) Q v two.vault r) (sym same) (subst (λ (m : ℕ). HasGoneBy G (IsOfRun m) Q mid.node.kept.vault two.vault r) h.many two.gone) in
+          subst (λ (v : V). HasGoneBy G (IsOfRun (length a.all.items)) Q v two.vault r) (sym same) (subst (λ (m : ℕ). HasGoneBy G (IsOfRun m) Q mid.node.kept.vault two.vault r) h.many two.gone) in
           record { station = two.station; there = two.there; vault = two.vault; its = two.its; gone = gone_then G (IsOfRun (length a.all.items)) P Q R n.kept.vault one.vault two.vault x r first second one.gone later }
 
   pub gone_both : {T U : Type 0} (P : Type 0) (a b c : Stations V) (x : T) (r : Result U RunFault) → AreOn G b → HaveGone {T = T} G P a b (Ok x) → HaveGone G P b c r → HaveGone G P a c r

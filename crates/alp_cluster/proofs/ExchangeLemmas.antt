@@ -222,7 +222,7 @@ module _ {V : Type 0} (G : Ghosts V) (c : Crowd) (before after : Stations V) (k 
       let served : IsServed G a.was a.is k frame.server h = handed_served G a.was a.is k frame.server h a.on (sym a.number) frame.bytes (whole request frame.bytes) a.handed in
       let kind : IsSent (state_at before) c.words c.settings k d l.line now frame = sent_here (state_at before) c k l.line now frame (step.each k).frames (step.each k).past asked fits owns in
       let mine : IsOfClient (state_at before) (state_at after) c.words c.settings k d l.line now frame w h =
-          of_client G a.was a.is (state_at before) (state_at after) c.words c.settings k d l.line now frame w h a.stood a.stands (λ n x. later.reached n k x) a.on (step.each k) form marks a.handed kind in
+      of_client G a.was a.is (state_at before) (state_at after) c.words c.settings k d l.line now frame w h a.stood a.stands (λ n x. later.reached n k x) a.on (step.each k) form marks a.handed kind in
       let knows_reply : (new, behind) ≡ hears c k l.line now frame h.reply = knows ∙ ap (hears c k l.line now frame) served.told in
       let words : WordMap = words_heard c.words d l.line now frame.server h.reply in
       let e : Client = (heard c.words c.settings d l.line now frame h.reply).0 in

@@ -33,3 +33,9 @@ pub mod GatherLemmas
 pub mod AtLemmas
 pub mod TakeLemmas
 pub mod BringLemmas
+pub mod OpenLemmas
+pub mod LoopLemmas
+pub mod OtherLemmas
+pub mod SendLemmas
+pub mod LeftLemmas
+pub mod RestLemmas

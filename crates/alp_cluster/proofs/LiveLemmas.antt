@@ -10,7 +10,6 @@ use Rattle.alp_journal.specs.Coordinator.{Fate, Undrawn, Running, Finishing, Com
 use Rattle.alp_journal.specs.Deeds.{Deed, Begins, Registers, Finishes, Hears, Decides, Ends, Acknowledges, Forgets, Restarts, Quits}
 use Rattle.alp_journal.specs.Ids.{same_trans}
 
-
 abbrev pub IsNoBegin : Deed → Type 0
 IsNoBegin (Begins t client who seen) = ⊥
 IsNoBegin d = Unit {0}

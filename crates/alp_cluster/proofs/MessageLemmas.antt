@@ -54,7 +54,7 @@ module _ (p : List Post) (table : IsTable p) (from to : ℕ) (servers : AreServe
   taken_last x f t P mine before = elim (cases_eq (place_of f t) (place_of from to)) [
     | inl same ↦
         let now : get_or (slice_set p (place_of from to) x) (place_of f t) (nothing_taken t) ≡ x =
-            ap (λ (i : ℕ). get_or (slice_set p (place_of from to) x) i (nothing_taken t)) same ∙ get_or-set_same p (place_of from to) x (nothing_taken t) place_there in
+        ap (λ (i : ℕ). get_or (slice_set p (place_of from to) x) i (nothing_taken t)) same ∙ get_or-set_same p (place_of from to) x (nothing_taken t) place_there in
         subst (λ (y : Post). P y.last) (sym now) mine
     | inr away ↦
         let now : get_or (slice_set p (place_of from to) x) (place_of f t) (nothing_taken t) ≡ post_at p f t = get_or-set_other p (place_of from to) (place_of f t) x (nothing_taken t) away in
@@ -152,8 +152,8 @@ module _ {V : Type 0} (G : Ghosts V) (s : Stations V) (on : AreOn G s) where
 
     pub shown_on : Fits (journals_in (course_of G s)) after.posts → AreOn G after
     shown_on fits = still_on after all fits (λ f t two.
-      subst (λ (p : List Post). IfSome (post_at p f t).last (λ x. IsTimelyMessage x.0)) (sym posts)
-      (taken_last s.posts on.fits.table from to servers (shown_all journal (post_at s.posts from to)) f t (λ o. IfSome o (λ x. IsTimelyMessage x.0)) (on.timely from to servers) (on.timely f t two)))
+        subst (λ (p : List Post). IfSome (post_at p f t).last (λ x. IsTimelyMessage x.0)) (sym posts)
+        (taken_last s.posts on.fits.table from to servers (shown_all journal (post_at s.posts from to)) f t (λ o. IfSome o (λ x. IsTimelyMessage x.0)) (on.timely from to servers) (on.timely f t two)))
 
   -- ---- it was taken
 
@@ -163,5 +163,5 @@ module _ {V : Type 0} (G : Ghosts V) (s : Stations V) (on : AreOn G s) where
 
     pub taken_on : IsTimelyMessage m → Fits (journals_in (course_of G s)) after.posts → AreOn G after
     taken_on may fits = still_on after all fits (λ f t two.
-      subst (λ (p : List Post). IfSome (post_at p f t).last (λ x. IsTimelyMessage x.0)) (sym posts)
-      (taken_last s.posts on.fits.table from to servers (took m rank journal (post_at s.posts from to)) f t (λ o. IfSome o (λ x. IsTimelyMessage x.0)) may (on.timely f t two)))
+        subst (λ (p : List Post). IfSome (post_at p f t).last (λ x. IsTimelyMessage x.0)) (sym posts)
+        (taken_last s.posts on.fits.table from to servers (took m rank journal (post_at s.posts from to)) f t (λ o. IfSome o (λ x. IsTimelyMessage x.0)) may (on.timely f t two)))

@@ -135,7 +135,7 @@ own_hands n s t k c d epoch number x r frame place on h own at spelled o =
     let q : Request = record { client = k; epoch = epoch; number = number; call = x } in
     let b : Come = record { epoch = epoch; number = number } in
     let carries : (j : ℕ) → Carries (s j) k (session_of j c) (session_of j d) =
-        at_each n (λ j. Carries (s j) k (session_of j c) (session_of j d)) o.carries (λ j away y within reached. subst (λ (z : Option Come). IsWithin z y) (sym (o.elsewhere j away)) within) in
+    at_each n (λ j. Carries (s j) k (session_of j c) (session_of j d)) o.carries (λ j away y within reached. subst (λ (z : Option Come). IsWithin z y) (sym (o.elsewhere j away)) within) in
     let old : KeepsPast t k d = keeps_past s t k c d on carries o.frames h.past in
     record {
       step = record {
@@ -313,7 +313,7 @@ module _ {V : Type 0} (n : ℕ) (s t : States V) (s0 t0 : ServerState V) (was : 
       let known : HasReached (s n) k (Some (come_in g)) = subst (HasReached (s n) k) has (step.session n) in
       let b : Come = record { epoch = g.epoch; number = number_after g.last } in
       let there : IsReachedBy (t n) k b =
-          subst (λ (o : Option (ServerState V)). IsReachedBy o k b) (sym now_is) (own_reached s0 t0 k g x r h no_greeting (subst (λ (o : Option (ServerState V)). IsReachedBy o k (come_in g)) was known.2)) in
+      subst (λ (o : Option (ServerState V)). IsReachedBy o k b) (sym now_is) (own_reached s0 t0 k g x r h no_greeting (subst (λ (o : Option (ServerState V)). IsReachedBy o k (come_in g)) was known.2)) in
       let inside : IsWithin (session_of n d) b = within_kept (session_of n d) (behind g) b k0.session (up_to_self b) in
       record {
         carries = λ z within reached. within_kept (session_of n d) (behind g) z k0.session (within_more g z known.1 (subst (λ (o : Option Come). IsWithin o z) has within));
@@ -397,7 +397,7 @@ module _ {V : Type 0} (n : ℕ) (s t : States V) (k : ℕ) (c : Client) (q : Req
       let k0 : Again d = again_told r refl in
       let frames : d.frames ≡ c.frames = again_stays c n r in
       let carries : (j : ℕ) → Carries (s j) k (session_of j c) (session_of j d) =
-          at_each n (λ j. Carries (s j) k (session_of j c) (session_of j d)) (λ a within reached. within_again d a k0.session within) (λ j away y within reached. subst (λ (z : Option Come). IsWithin z y) (sym (k0.elsewhere j away)) within) in
+      at_each n (λ j. Carries (s j) k (session_of j c) (session_of j d)) (λ a within reached. within_again d a k0.session within) (λ j away y within reached. subst (λ (z : Option Come). IsWithin z y) (sym (k0.elsewhere j away)) within) in
       record {
         step = record {
           session = at_each n (λ j. HasReached (t j) k (session_of j d)) (session_again d k0.session)

@@ -22,10 +22,11 @@ use Rattle.alp_session.specs.declared.frames.Frames.{Frames}
 use Rattle.alp_vault.specs.declared.vault.Vault.{Ghosts}
 use Rattle.alp_course.specs.Courses.{Course, Occurrence, AreCourse}
 use Rattle.alp_course.specs.Plays.{Due, sent_of, Plays, IsCut}
-use Rattle.alp_course.specs.Settles.{IsSettling, AreUp}
+use Rattle.alp_course.specs.Settles.{IsSettling, AreUp, AreTaken}
 use Rattle.alp_course.specs.Turns.{Turn, lists_in, own_in, sent_in, turns_text}
 use Rattle.alp_course.proofs.LanguageLemmas.{course_append}
 use Rattle.alp_course.proofs.PlayLemmas.{Plays-push, sent_append, sent_in-append, plays_sent, begins_sent, settling_cut_sent, own_append}
+use Rattle.alp_course.proofs.TakenLemmas.{taken_all}
 use Rattle.alp_course.proofs.UpLemmas.{lifting_up, many_on}
 use Rattle.alp_cluster.specs.Clients.{States, come_in, session_of, HasSaid}
 use Rattle.alp_cluster.specs.Runs.{Ran, HasPlayed, HasPlayedOut, HasEndedEarly}
@@ -36,6 +37,7 @@ use Rattle.alp_cluster.specs.declared.fault.RunFault.{RunFault}
 use Rattle.alp_cluster.specs.declared.stations.Stations.{Stations}
 use Rattle.alp_cluster.proofs.DidLemmas.{passes_course}
 use Rattle.alp_cluster.proofs.LineLemmas.{said_goes}
+use Rattle.alp_cluster.proofs.RestLemmas.{rested_alone}
 
 -- ---- one line more
 
@@ -149,11 +151,22 @@ module _ {V : Type 0} (G : Ghosts V) (servers : ℕ) (ls : List NumberedLine) (c
       let many : length (list_map (seat_of G) s.all.items) ≡ servers = length-map s.all.items (seat_of G) ∙ h.count in
       lifting_up (course_of G s) (course_of G t) e.hs (subst (λ (n : ℕ). IsSettling n e.hs) (sym many) e.word) (passes_course G e.hs s t e.goes.passes)
 
+  -- and no message is left
+  taken_then : (e : Did G (IsSettling servers) s t) → AreTaken (course_of G t)
+  taken_then e =
+      let many : length (list_map (seat_of G) s.all.items) ≡ servers = length-map s.all.items (seat_of G) ∙ h.count in
+      taken_all (course_of G s) (course_of G t) e.hs (subst (λ (n : ℕ). IsSettling n e.hs) (sym many) e.word) (passes_course G e.hs s t e.goes.passes)
+
+  did_alone : Did G (IsSettling servers) s t → servers ≡ 1 → Did G (IsSettling 1) s t
+  did_alone e one = subst (λ (n : ℕ). Did G (IsSettling n) s t) one e
+
   pub played_out : length ls < 2 ^ 29 → Did G (IsSettling servers) s t → HasPlayedOut G servers ls t lists text
   played_out low e = record {
     on = e.goes.later.on;
     count = count_more t e.hs e.goes;
     up = up_then e;
+    taken = taken_then e;
+    rests = λ one told. rested_alone G s t h.step.on (did_alone e one) (h.count ∙ one) told;
     turns = h.turns;
     hs = h.happened ++ e.hs;
     played = record { clients = c; by_lines = h.happened; behind = e.hs; are = refl; plays = h.plays; settles = e.word };

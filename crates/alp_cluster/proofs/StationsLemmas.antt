@@ -228,13 +228,13 @@ module _ {V : Type 0} (G : Ghosts V) (s after : Stations V) (on : AreOn G s) (se
     grown k = elim (cases_eq (k - 1) (server - 1)) [
       | inl same ↦
           let now : journals_in (course_of G after) k ≡ (seat_at (course_of G s) server).journal ++ w.goes.entries =
-              ap (λ (ss : List Seat). (get_or ss (k - 1) no_seat).journal) seats_then ∙ ap (λ (i : ℕ). (get_or (slice_set (course_of G s).seats (server - 1) (seat_after (seat_at (course_of G s) server) seen w.goes.entries (stand_of G y.is_fused w.after))) i no_seat).journal) same
-              ∙ ap (λ (z : Seat). z.journal) (get_or-set_same (course_of G s).seats (server - 1) (seat_after (seat_at (course_of G s) server) seen w.goes.entries (stand_of G y.is_fused w.after)) no_seat long) in
+          ap (λ (ss : List Seat). (get_or ss (k - 1) no_seat).journal) seats_then ∙ ap (λ (i : ℕ). (get_or (slice_set (course_of G s).seats (server - 1) (seat_after (seat_at (course_of G s) server) seen w.goes.entries (stand_of G y.is_fused w.after))) i no_seat).journal) same
+          ∙ ap (λ (z : Seat). z.journal) (get_or-set_same (course_of G s).seats (server - 1) (seat_after (seat_at (course_of G s) server) seen w.goes.entries (stand_of G y.is_fused w.after)) no_seat long) in
           record { more = w.goes.entries; is = now ∙ ap (λ (i : ℕ). (get_or (course_of G s).seats i no_seat).journal ++ w.goes.entries) (sym same) }
       | inr away ↦
           let now : journals_in (course_of G after) k ≡ journals_in (course_of G s) k =
-              ap (λ (ss : List Seat). (get_or ss (k - 1) no_seat).journal) seats_then
-              ∙ ap (λ (z : Seat). z.journal) (get_or-set_other (course_of G s).seats (server - 1) (k - 1) (seat_after (seat_at (course_of G s) server) seen w.goes.entries (stand_of G y.is_fused w.after)) no_seat away) in
+          ap (λ (ss : List Seat). (get_or ss (k - 1) no_seat).journal) seats_then
+          ∙ ap (λ (z : Seat). z.journal) (get_or-set_other (course_of G s).seats (server - 1) (k - 1) (seat_after (seat_at (course_of G s) server) seen w.goes.entries (stand_of G y.is_fused w.after)) no_seat away) in
           record { more = []; is = now ∙ sym (append-nil (journals_in (course_of G s) k)) }
     ]
       where

@@ -1,7 +1,8 @@
 -- A run that has played some lines of a script, and its servers at the end.
-use Rattle.std.specs.Prelude.{◌≡◌, ◌⊎◌, ℕ, ◌*◌, ◌<◌, ◌≤◌, ◌^◌, Bool, false, true, List, [], ◌∷◌, ◌++◌, length, map as list_map, Vec}
+use Rattle.std.specs.Prelude.{◌≡◌, ◌⊎◌, ℕ, ◌*◌, ◌<◌, ◌≤◌, ◌^◌, Bool, false, true, IsTrue, List, [], ◌∷◌, ◌++◌, length, map as list_map, Option, None, Vec}
 use Rattle.std.specs.Global.{Global}
 use Rattle.std.specs.List.{AllByRecursion}
+use Rattle.alp_base.specs.declared.ids.TransId.{TransId}
 use Rattle.alp_journal.specs.declared.log.Item.{Item}
 use Rattle.alp_lines.specs.declared.line.Line.{Line}
 use Rattle.alp_lines.specs.declared.line.Line.TheVariants as line
@@ -10,10 +11,10 @@ use Rattle.alp_session.specs.Crowd.{Crowd}
 use Rattle.alp_session.specs.Crowds.{new_crowd, client_at}
 use Rattle.alp_history.specs.RunLogs.{item_of}
 use Rattle.alp_vault.specs.declared.vault.Vault.{Ghosts}
-use Rattle.alp_course.specs.Courses.{Course, Occurrence, AreCourse}
+use Rattle.alp_course.specs.Courses.{Course, Occurrence, seat_at, AreCourse}
 use Rattle.alp_course.specs.Links.{IsFirst}
 use Rattle.alp_course.specs.Plays.{Due, sent_of, IsCut, Plays, BeginsLine, ArePlayed}
-use Rattle.alp_course.specs.Settles.{IsSettling, AreUp}
+use Rattle.alp_course.specs.Settles.{IsSettling, AreUp, AreTaken}
 use Rattle.alp_course.specs.Turns.{Turn, lists_in, own_in, sent_in, turns_text}
 use Rattle.alp_cluster.specs.Clients.{InStep, HasSaid}
 use Rattle.alp_cluster.specs.Fills.{IsEndFor}
@@ -66,11 +67,14 @@ pub record HasPlayed {V : Type 0} (G : Ghosts V) (servers : ℕ) (lines : List N
 
 -- ---- all of it
 
--- All lines were played on servers that did nothing before, and then the run was settled: each server is up, and nobody stops its disk.
+-- All lines were played on servers that did nothing before, and then the run was settled: each server is up, nobody stops its disk, and no message
+-- to another one is left. Where it is the only one, no transaction is live there.
 pub record HasPlayedOut {V : Type 0} (G : Ghosts V) (servers : ℕ) (lines : List NumberedLine) (last : Stations V) (vs : List (Vec Item Global)) (printed : List ℕ) : Type 0 where
   pub on : AreOn G last
   pub count : length last.all.items ≡ servers
   pub up : AreUp (course_of G last)
+  pub taken : AreTaken (course_of G last)
+  pub rests : servers ≡ 1 → IsTrue (seat_at (course_of G last) 1).tells → (t : TransId) → (seat_at (course_of G last) 1).stand.state.holder.lives t ≡ None
   pub turns : List Turn
   pub hs : List Occurrence
   pub played : ArePlayed servers lines turns hs

@@ -1,8 +1,9 @@
 //! How messages come from one server of a run to another.
-ghost use Rattle.std.specs.Prelude.{◌≡◌, ◌∷◌, [], Ok, OnOk, IfOk, IfSome, length};
+ghost use Rattle.std.specs.Prelude.{◌≡◌, ◌||◌, ◌∷◌, [], Ok, OnOk, IfOk, IfSome, length};
 ghost use Rattle.alp_node.specs.Halts.{IsTimelyMessage};
 ghost use Rattle.alp_course.specs.Courses.{looks, brings, loses, repeats, next_message as next_of};
 ghost use Rattle.alp_course.specs.Languages.{Just};
+ghost use Rattle.alp_course.specs.Plays.{OfTwo};
 ghost use Rattle.alp_course.specs.Carries.{ArePairCarried, CarriesTo, CarriesFrom, IsSweep, IsCarried, CarriesIf};
 ghost use Rattle.alp_cluster.specs.Fills.{OnEnd};
 ghost use Rattle.alp_cluster.specs.Servers.{OnFull};
@@ -13,6 +14,13 @@ use crate::fault::RunFault;
 use crate::stations::Stations;
 use alp_journal::{Event, Message};
 use alp_vault::Vault;
+
+// Whether one of the two holds.
+fn is_either(one: bool, other: bool) -> bool
+    ensures { result ≡ one || other }
+{
+    one || other
+}
 
 impl<V: Vault> Stations<V> {
     // The next message of one server to another that was not taken.
@@ -37,8 +45,7 @@ impl<V: Vault> Stations<V> {
         ensures all { self.new.all ≡ self.old.all }
         ensures taken { IfOr (next_of (course_of V.Vault self.old) from to) (course_of V.Vault self.new ≡ course_of V.Vault self.old) (λ m. course_of V.Vault self.new ≡ taking_at (course_of V.Vault self.old) from to m rank) }
     {
-        self.posts
-            .take(self.all[from as usize - 1].node().journal(), from, to, rank);
+        self.posts.take(self.all[from as usize - 1].node().journal(), from, to, rank);
     }
 
     // Whether a message of one server waits for another one that is up.
@@ -48,7 +55,10 @@ impl<V: Vault> Stations<V> {
         ensures gone { HaveGone {T = Unit {0}} V.Vault (Unit {0}) self.old self.new (Ok tt) }
         ensures did { Did V.Vault (Just (looks from to result ∷ [])) self.old self.new }
     {
-        self.next_message(from, to).is_some() && !self.at(to).node().is_down()
+        let Some(_) = self.next_message(from, to) else {
+            return false;
+        };
+        !self.at(to).node().is_down()
     }
 
     // A message comes to a server, where that is up. The last rank of its sender was this.
@@ -63,8 +73,8 @@ impl<V: Vault> Stations<V> {
         self.all[to as usize - 1].happen(Event::Arrive { from, message }, seen)
     }
 
-    /// The next message of one server to another is brought, if there is one; it is lost where that server is down.
-    pub(crate) fn carry(&mut self, from: u8, to: u8) -> Result<(), RunFault>
+    // The next message of one server to another is brought, if there is one; it is lost where that server is down.
+    fn carry(&mut self, from: u8, to: u8) -> Result<(), RunFault>
         requires on { AreOn V.Vault self.old }
         requires apart { AreApart self.old from to }
         ensures gone { HaveGone V.Vault (Unit {0}) self.old self.new result }
@@ -80,8 +90,8 @@ impl<V: Vault> Stations<V> {
         Ok(())
     }
 
-    /// The next message of one server to another is lost, if there is one.
-    pub(crate) fn lose(&mut self, from: u8, to: u8)
+    // The next message of one server to another is lost, if there is one.
+    fn lose(&mut self, from: u8, to: u8)
         requires on { AreOn V.Vault self.old }
         requires apart { AreApart self.old from to }
         ensures gone { HaveGone {T = Unit {0}} V.Vault (Unit {0}) self.old self.new (Ok tt) }
@@ -91,8 +101,8 @@ impl<V: Vault> Stations<V> {
         self.take(from, to, seen);
     }
 
-    /// What was taken last of the messages of one server to another is brought once more.
-    pub(crate) fn again(&mut self, from: u8, to: u8) -> Result<(), RunFault>
+    // What was taken last of the messages of one server to another is brought once more.
+    fn again(&mut self, from: u8, to: u8) -> Result<(), RunFault>
         requires on { AreOn V.Vault self.old }
         requires apart { AreApart self.old from to }
         ensures gone { HaveGone V.Vault (Unit {0}) self.old self.new result }
@@ -103,6 +113,50 @@ impl<V: Vault> Stations<V> {
             return Ok(());
         };
         self.arrive(from, to, message, seen)
+    }
+
+    /// The next message of one server to another is brought, as a line says; but no server sends to itself.
+    pub(crate) fn carry_other(&mut self, from: u8, to: u8) -> Result<(), RunFault>
+        requires on { AreOn V.Vault self.old }
+        requires from { IsOneOf self.old from }
+        requires to { IsOneOf self.old to }
+        ensures gone { HaveGone V.Vault (Unit {0}) self.old self.new result }
+        ensures did { OnOk result (Did V.Vault (OfTwo from to (brings from to)) self.old self.new) }
+        ensures ended { OnEnd result (λ f. DidSome V.Vault (OfTwo from to (brings from to)) f self.old self.new) }
+    {
+        if from == to {
+            return Ok(());
+        }
+        self.carry(from, to)
+    }
+
+    /// The next message of one server to another is lost, as a line says; but no server sends to itself.
+    pub(crate) fn lose_other(&mut self, from: u8, to: u8)
+        requires on { AreOn V.Vault self.old }
+        requires from { IsOneOf self.old from }
+        requires to { IsOneOf self.old to }
+        ensures gone { HaveGone {T = Unit {0}} V.Vault (Unit {0}) self.old self.new (Ok tt) }
+        ensures did { Did V.Vault (OfTwo from to (loses from to)) self.old self.new }
+    {
+        if from == to {
+            return;
+        }
+        self.lose(from, to);
+    }
+
+    /// What was taken last is brought once more, as a line says; but no server sends to itself.
+    pub(crate) fn again_other(&mut self, from: u8, to: u8) -> Result<(), RunFault>
+        requires on { AreOn V.Vault self.old }
+        requires from { IsOneOf self.old from }
+        requires to { IsOneOf self.old to }
+        ensures gone { HaveGone V.Vault (Unit {0}) self.old self.new result }
+        ensures did { OnOk result (Did V.Vault (OfTwo from to (repeats from to)) self.old self.new) }
+        ensures ended { OnEnd result (λ f. DidSome V.Vault (OfTwo from to (repeats from to)) f self.old self.new) }
+    {
+        if from == to {
+            return Ok(());
+        }
+        self.again(from, to)
     }
 
     // All messages of one server to another are brought, unless that is down. Tells whether there were some.
@@ -146,7 +200,8 @@ impl<V: Vault> Stations<V> {
     {
         let mut some = false;
         for place in 0..self.count() {
-            some = self.carry_to(from, place + 1)? || some;
+            let more = self.carry_to(from, place + 1)?;
+            some = is_either(more, some);
         }
         Ok(some)
     }
@@ -160,7 +215,8 @@ impl<V: Vault> Stations<V> {
     {
         let mut some = false;
         for place in 0..self.count() {
-            some = self.carry_from(place + 1)? || some;
+            let more = self.carry_from(place + 1)?;
+            some = is_either(more, some);
         }
         Ok(some)
     }

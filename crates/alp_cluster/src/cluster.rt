@@ -58,19 +58,20 @@ impl<V: Vault> Cluster<V> {
     pub fn new(alloc: Global) -> Result<Cluster<V>, OutOfMemory>
         ensures { IfOk result (λ c. AreGathered [] c.parties c.lists.items c.text.items) }
     {
-        let stations = Stations {
-            all: Vec::new(alloc),
-            posts: Posts::new(alloc)?,
-        };
+        let all = Vec::new(alloc);
+        let posts = Posts::new(alloc)?;
+        let clients = Clients::new(alloc)?;
+        let lists = new_lists(alloc)?;
+        let text = Vec::new(alloc);
         let parties = Parties {
             alloc,
-            stations,
-            clients: Clients::new(alloc)?,
+            stations: Stations { all, posts },
+            clients,
         };
         Ok(Cluster {
             parties,
-            lists: new_lists(alloc)?,
-            text: Vec::new(alloc),
+            lists,
+            text,
         })
     }
 
@@ -164,7 +165,8 @@ impl<V: Vault> Cluster<V> {
         requires new { HasPlayed V.Vault (servers_said lines.now) [] self.old.parties.clients self.old.parties.stations self.old.lists.items self.old.text.items }
         ensures gone { HaveGone V.Vault (StopNone lines.now) self.old.parties.stations self.new.parties.stations result }
         ensures ended { OnEnd result (λ f. HasEndedEarly V.Vault (servers_said lines.now) lines.now f self.new.parties.stations) }
-        ensures openings { openings_of self.new.parties.stations ≡ openings_of self.old.parties.stations }
+        ensures openings { OnOk result (openings_of self.new.parties.stations ≡ openings_of self.old.parties.stations) }
+        ensures left { OnEnd result (λ _. openings_of self.new.parties.stations ≡ openings_of self.old.parties.stations) }
         ensures played { OnOk result (HasPlayed V.Vault (servers_said lines.now) lines.now self.new.parties.clients self.new.parties.stations self.new.lists.items self.new.text.items) }
     {
         for line in lines {
@@ -180,7 +182,8 @@ impl<V: Vault> Cluster<V> {
         requires new { HasPlayed V.Vault (servers_said lines.now) [] self.old.parties.clients self.old.parties.stations self.old.lists.items self.old.text.items }
         ensures gone { HaveGone V.Vault (StopNone lines.now) self.old.parties.stations self.new.parties.stations result }
         ensures ended { OnEnd result (λ f. HasEndedEarly V.Vault (servers_said lines.now) lines.now f self.new.parties.stations) }
-        ensures openings { openings_of self.new.parties.stations ≡ openings_of self.old.parties.stations }
+        ensures openings { OnOk result (openings_of self.new.parties.stations ≡ openings_of self.old.parties.stations) }
+        ensures left { OnEnd result (λ _. openings_of self.new.parties.stations ≡ openings_of self.old.parties.stations) }
         ensures played { OnOk result (HasPlayedOut V.Vault (servers_said lines.now) lines.now self.new.parties.stations self.new.lists.items self.new.text.items) }
     {
         self.play(lines)?;

@@ -87,7 +87,7 @@ impl<V: Vault> Parties<V> {
     {
         let server = frame.server;
         // A client knows no server but those of the run; but of a vault that does not tell what it holds no contract says so.
-        if server < 1 || self.stations.count() < server {
+        if !self.stations.has(server) {
             return Err(RunFault::OutOfMemory);
         }
         let handed = self
@@ -112,7 +112,7 @@ impl<V: Vault> Parties<V> {
             return Ok(());
         };
         // As a frame goes to a server of the run, so its call waits at one.
-        if server < 1 || self.stations.count() < server {
+        if !self.stations.has(server) {
             return Err(RunFault::OutOfMemory);
         }
         self.stations.happen(server, Event::Timeout { trans })
@@ -178,12 +178,12 @@ impl<V: Vault> Parties<V> {
         ensures clients { self.new.clients ≡ self.old.clients }
     {
         match line {
-            Line::Carry { from, to } if from != to => self.stations.carry(*from, *to),
-            Line::Lose { from, to } if from != to => {
-                self.stations.lose(*from, *to);
+            Line::Carry { from, to } => self.stations.carry_other(*from, *to),
+            Line::Lose { from, to } => {
+                self.stations.lose_other(*from, *to);
                 Ok(())
             }
-            Line::Again { from, to } if from != to => self.stations.again(*from, *to),
+            Line::Again { from, to } => self.stations.again_other(*from, *to),
             _ => Ok(()),
         }
     }

@@ -1,5 +1,5 @@
 //! How a run is settled.
-ghost use Rattle.std.specs.Prelude.{IfOk, OnOk, length};
+ghost use Rattle.std.specs.Prelude.{OnOk, length};
 ghost use Rattle.alp_course.specs.Languages.{Then, Each};
 ghost use Rattle.alp_course.specs.Settles.{IsLifted, AreTimedOut, IsTicked, IsRound, AreRounds, IsSettling};
 ghost use Rattle.alp_cluster.specs.Fills.{OnEnd};
@@ -8,7 +8,7 @@ ghost use Rattle.alp_cluster.specs.Settled.{FindsOpen, TellsRest, IsUpAt, AreUp}
 
 use crate::fault::RunFault;
 use crate::stations::Stations;
-use alp_base::{OutOfMemory, TransId};
+use alp_base::TransId;
 use alp_journal::Event;
 use alp_vault::Vault;
 
@@ -43,10 +43,10 @@ impl<V: Vault> Stations<V> {
     }
 
     // The least transaction that has an open part at this server.
-    fn open_at(&self, server: u8) -> Result<Option<TransId>, OutOfMemory>
+    fn open_at(&self, server: u8) -> Option<TransId>
         requires on { AreOn V.Vault self.now }
         requires server { IsOneOf self.now server }
-        ensures { IfOk result (λ least. FindsOpen V.Vault server least self.now) }
+        ensures { FindsOpen V.Vault server result self.now }
     {
         self.at(server).node().open_part()
     }
@@ -60,7 +60,7 @@ impl<V: Vault> Stations<V> {
         ensures did { OnOk result (Did V.Vault (AreTimedOut server) self.old self.new) }
         ensures ended { OnEnd result (λ f. DidSome V.Vault (AreTimedOut server) f self.old self.new) }
     {
-        let Some(trans) = self.open_at(server)? else {
+        let Some(trans) = self.open_at(server) else {
             return Ok(());
         };
         self.time_out(server, Some(trans))?;
@@ -104,16 +104,16 @@ impl<V: Vault> Stations<V> {
     }
 
     // Whether no part lives at any server, none is ready, and no decision stands.
-    fn is_settled(&self) -> Result<bool, OutOfMemory>
+    fn is_settled(&self) -> bool
         requires on { AreOn V.Vault self.now }
-        ensures { IfOk result (λ is_rest. TellsRest V.Vault is_rest self.now) }
+        ensures { TellsRest V.Vault result self.now }
     {
         for station in self.all.iter() {
-            if !station.node().is_settled()? {
-                return Ok(false);
+            if !station.node().is_settled() {
+                return false;
             }
         }
-        Ok(true)
+        true
     }
 
     // At most so many rounds, each further one only where not all is settled.
@@ -127,7 +127,7 @@ impl<V: Vault> Stations<V> {
             return Ok(());
         }
         self.round()?;
-        if self.is_settled()? {
+        if self.is_settled() {
             return Ok(());
         }
         self.rounds(most - 1)

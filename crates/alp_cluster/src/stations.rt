@@ -1,5 +1,5 @@
 //! The servers of a run, and what happens at one of them.
-ghost use Rattle.std.specs.Prelude.{◌≡◌, ◌≤◌, ◌-◌, [], ◌∷◌, Some, Ok, IsSome, IfOk, OnOk, length, slice_get};
+ghost use Rattle.std.specs.Prelude.{◌≡◌, ◌≤◌, ◌-◌, true, false, [], ◌∷◌, Some, Ok, IsSome, IfOk, OnOk, length, slice_get};
 ghost use Rattle.alp_fields.specs.Forms.{whole};
 ghost use Rattle.alp_node.specs.Served.{IsServed};
 ghost use Rattle.alp_rpc.specs.Frames.{request};
@@ -36,6 +36,18 @@ impl<V: Vault> Stations<V> {
         ensures { result ≡ length self.now.all.items }
     {
         self.all.len() as u8
+    }
+
+    /// Whether there is a server of this number.
+    pub(crate) fn has(&self, server: u8) -> bool
+        requires on { AreOn V.Vault self.now }
+        ensures yes { result ≡ true → IsOneOf self.now server }
+        ensures no { result ≡ false → IsOneOf self.now server → ⊥ }
+    {
+        if server == 0 {
+            return false;
+        }
+        server <= self.count()
     }
 
     /// The server of this number.

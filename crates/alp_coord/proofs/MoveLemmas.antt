@@ -79,6 +79,26 @@ finishing_at s t h = go (course_in s t) refl h
     go None e i = cc
     go (Some c) e i = record { course = c; stands = e; at = finishing_is c.stage i }
 
+-- one whose joins have all voted is finishing
+pub voted_finishing : (s : Coordinator) (t : TransId) → has_votes (fate_in s t) ≡ true → at_stage is_finishing_stage (course_in s t) ≡ true
+voted_finishing s t h = go (course_in s t) h
+  where
+    none : (x : Option Settled) → has_votes (fate_settled t x) ≡ true → false ≡ true
+    none None i = i
+    none (Some settled.Open) i = i
+    none (Some (settled.Committed ts)) i = i
+    none (Some (settled.Forgotten ts ms)) i = i
+    none (Some (settled.Ended c)) i = i
+
+    at : (x : Stage) (client : ℕ) (ms : List Member) → has_votes (fate_at t x client ms) ≡ true → is_finishing_stage x ≡ true
+    at stage.Running client ms i = i
+    at stage.Finishing client ms i = refl
+    at (stage.Decided ts) client ms i = i
+
+    go : (o : Option Course) → has_votes (fate_known t o (settled_in s t)) ≡ true → at_stage is_finishing_stage o ≡ true
+    go None i = none (settled_in s t) i
+    go (Some c) i = at c.stage c.client c.members i
+
 pub decided_at : (s : Coordinator) (t : TransId) → at_stage is_decided_stage (course_in s t) ≡ true → IsDecided s t
 decided_at s t h = go (course_in s t) refl h
   where
@@ -244,25 +264,6 @@ pub alone_fates : (s : Coordinator) (t : TransId) (ts : ℕ) → IsAt s t stage.
 alone_fates s t ts a none =
     settle_moves s t (settled.Committed ts) (journal.decided (record { ts = ts; trans = t }) (joins_of (fate_in s t))) (open_there s t stage.Finishing a refl)
     (alone_moves t ts (joins_of (fate_in s t)) (fate_in s t) a.course.client a.course.members (fate_there s t stage.Finishing a) none)
-
--- and what is at no such stage stays
-decide_settled : (t : TransId) (x : Stamp) (js : List JoinNo) → StillSettled (journal.decided x js) t
-decide_settled t x js None = refl
-decide_settled t x js (Some settled.Open) = refl
-decide_settled t x js (Some (settled.Committed ts)) = refl
-decide_settled t x js (Some (settled.Forgotten ts ms)) = refl
-decide_settled t x js (Some (settled.Ended e)) = refl
-
-decide_stage : (t : TransId) (stamp : Stamp) (js : List JoinNo) (x : Stage) (client : ℕ) (ms : List Member) → is_finishing_stage x ≡ false → journal.decided stamp js (fate_at t x client ms) ≡ fate_at t x client ms
-decide_stage t stamp js stage.Running client ms away = refl
-decide_stage t stamp js stage.Finishing client ms away = cc
-decide_stage t stamp js (stage.Decided ts) client ms away = refl
-
-pub decide_still : (s : Coordinator) (t : TransId) (ts : ℕ) (js : List JoinNo) → at_stage is_finishing_stage (course_in s t) ≡ false → Comes (Decides (record { ts = ts; trans = t }) js) s s
-decide_still s t ts js away =
-    still_fates (λ (f g : Fate). f ≡ g) (λ f. refl) s t (journal.decided (record { ts = ts; trans = t }) js)
-    (still (journal.decided (record { ts = ts; trans = t }) js) t s (decide_settled t (record { ts = ts; trans = t }) js)
-    (λ c is. decide_stage t (record { ts = ts; trans = t }) js c.stage c.client c.members (not_at is_finishing_stage s t c away is)))
 
 -- a finishing transaction has parts or has none
 no_joins : (ms : List Member) → are_none ms ≡ true → joins ms ≡ []

@@ -19,9 +19,6 @@ use crate::{Decision, Member};
 use alp_base::{OutOfMemory, TransId};
 use std::alloc::Global;
 
-// No counter is greater.
-const LAST_COUNTER: usize = 4_294_967_295;
-
 /// The transactions of a server: what became of those that began in this epoch, and the decisions of older epochs that
 /// parts on other servers are still to apply. What it does costs what it is about, and a tick costs what is not settled.
 #[derive(Drop)]
@@ -79,17 +76,16 @@ impl Coordinator {
         self.begun.len()
     }
 
-    /// A transaction begins for a client. After want of memory, or of a number for it, all is as before.
+    /// A transaction begins for a client. There is room for its counter, which is one more than the last. After want of memory
+    /// all is as before.
     pub fn begin(&mut self, client: u8) -> Result<TransId, OutOfMemory>
+        requires room { count_of self.old + 1 < 2 ^ 32 }
         ensures id { IfOk result (λ t. t ≡ next_id self.old) }
         ensures one { OnOk result (IsOf (server_of self.old) (epoch_of self.old) (count_of self.old + 1) self.new) }
         ensures begun { OnOk result ((who : List ℕ) (seen : ℕ) → Comes (Begins (next_id self.old) client who seen) self.old self.new) }
         ensures err { OnErr result (self.new ≡ self.old) }
     {
         let count = self.begun.len();
-        if count >= LAST_COUNTER {
-            return Err(OutOfMemory);
-        }
         let trans = TransId {
             server: self.server,
             epoch: self.epoch,

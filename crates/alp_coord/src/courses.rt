@@ -105,6 +105,15 @@ impl Courses {
         self.courses.remove(trans)
     }
 
+    /// All of them, by their ids.
+    pub fn tree(&self) -> &BTreeMap<TransId, Course>
+        ensures ids { keys result.now ≡ map.keys self.now }
+        ensures rising { IsOrdered trans_cmp result.now }
+    {
+        let _ = self.courses.len();
+        &self.courses
+    }
+
     /// The ids, in rising order.
     pub fn ids(&self, alloc: Global) -> Result<Vec<TransId>, OutOfMemory>
         ensures ids { IfOk result (λ v. v.items ≡ map.keys self.now) }

@@ -1,8 +1,8 @@
 //! What becomes of transactions.
-ghost use Rattle.std.specs.Prelude.{◌≡◌, ◌==◌, ◌&&◌, IfOk, OnErr, if◌then◌else◌, ℕ, true, false};
+ghost use Rattle.std.specs.Prelude.{◌≡◌, ◌==◌, ◌≤◌, ◌&&◌, IfOk, OnErr, if◌then◌else◌, ℕ, true, false};
 ghost use Rattle.alp_base.specs.declared.ids.TransId.{TransId as ATransId};
 ghost use Rattle.alp_journal.specs.Ids.{same_trans, has_join, has_server};
-ghost use Rattle.alp_journal.specs.Coordinator.{joins_of, with_vote};
+ghost use Rattle.alp_journal.specs.Coordinator.{joins_of, votes_in, has_votes, with_vote};
 ghost use Rattle.alp_journal.specs.Laws.{latest_vote};
 ghost use Rattle.alp_journal.specs.Deeds.{Registers, Finishes, Hears, Decides, Ends, Acknowledges};
 ghost use Rattle.alp_coord.specs.Members.{joins, votes};
@@ -99,14 +99,14 @@ impl Coordinator {
         self.courses.hear(trans, join, time);
     }
 
-    /// A finishing transaction is committed at that time, with all its parts. Takes no memory.
+    /// A finishing transaction is committed at that time, with all its parts: each of them has voted, and no vote is later.
+    /// Takes no memory.
     pub fn decide(&mut self, trans: &TransId, ts: u64)
+        requires voted { has_votes (fate_in self.old trans.now) ≡ true }
+        requires late { latest_vote 0 (votes_in (fate_in self.old trans.now)) ≤ ts }
         ensures along { IsAlong self.old self.new }
         ensures decided { Comes (Decides (record { ts = ts; trans = trans.now }) (joins_of (fate_in self.old trans.now))) self.old self.new }
     {
-        if !self.finishes(trans) {
-            return;
-        }
         if are_none(self.members(trans)) {
             self.settle(trans, Settled::Committed { ts });
             return;

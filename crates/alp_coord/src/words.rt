@@ -1,5 +1,6 @@
 //! What is said of transactions, and said again.
 ghost use Rattle.std.specs.Prelude.{◌≡◌, ◌++◌, ◌&&◌, not, Some, None, OnOk, IfOk, if◌then◌else◌, length, find, filter, flat_map, map as list_map};
+ghost use Rattle.std.specs.BTreeMap.{keys};
 ghost use Rattle.std.specs.List.Sorted.{IsStrictlySortedBy};
 ghost use Rattle.alp_base.specs.Orders.{trans_cmp};
 ghost use Rattle.alp_files.specs.declared.refusal.Cause.TheVariants as cause;
@@ -19,6 +20,7 @@ use crate::{Coordinator, Member};
 use alp_base::{JoinNo, OutOfMemory, Stamp, TransId};
 use alp_files::{Cause, Ended};
 use alp_journal::{Envelope, Message};
+use std::collections::BTreeMap;
 
 impl Coordinator {
     /// What a part is told that asks how the transaction ended: nothing while it is not decided, or was not drawn here.
@@ -155,26 +157,24 @@ impl Coordinator {
     }
 
     /// How many count towards the transactions of a server: those that are running or finishing, and decisions with joins
-    /// that are not forgotten.
-    pub fn counted(&self) -> Result<usize, OutOfMemory>
-        ensures { IfOk result (λ n. n ≡ counted_of self.now) }
+    /// that are not forgotten. Takes no memory.
+    pub fn counted(&self) -> usize
+        ensures { result ≡ counted_of self.now }
     {
-        let ids = self.courses.ids(self.alloc)?;
-        Ok(self.count_all(ids.as_slice()))
+        self.count_all(self.courses.tree())
     }
 
-    /// The least transaction that is running, if one is.
-    pub fn least_running(&self) -> Result<Option<TransId>, OutOfMemory>
-        ensures { IfOk result (IsLeastRunning self.now) }
+    /// The least transaction that is running, if one is. Takes no memory.
+    pub fn least_running(&self) -> Option<TransId>
+        ensures { IsLeastRunning self.now result }
     {
-        let ids = self.courses.ids(self.alloc)?;
-        Ok(self.first_running(ids.as_slice()))
+        self.first_running(self.courses.tree())
     }
 
-    fn first_running(&self, ids: &[TransId]) -> Option<TransId>
-        ensures { result ≡ find (λ t. is_running_fate (fate_in self.now t)) ids.now }
+    fn first_running(&self, courses: &BTreeMap<TransId, Course>) -> Option<TransId>
+        ensures { result ≡ find (λ t. is_running_fate (fate_in self.now t)) (keys courses.now) }
     {
-        for trans in ids {
+        for trans in courses.keys() {
             if self.is_running(trans) {
                 return Some(*trans);
             }
@@ -191,11 +191,11 @@ impl Coordinator {
         }
     }
 
-    fn count_all(&self, ids: &[TransId]) -> usize
-        ensures { result ≡ length (filter (λ t. is_counted (fate_in self.now t)) ids.now) }
+    fn count_all(&self, courses: &BTreeMap<TransId, Course>) -> usize
+        ensures { result ≡ length (filter (λ t. is_counted (fate_in self.now t)) (keys courses.now)) }
     {
         let mut count = 0usize;
-        for trans in ids {
+        for trans in courses.keys() {
             if self.counts(trans) {
                 count += 1;
             }

@@ -8,3 +8,5 @@ pub mod RoomLemmas
 pub mod UpLemmas
 pub mod PlayLemmas
 pub mod TurnLemmas
+pub mod ClosedLemmas
+pub mod TakenLemmas

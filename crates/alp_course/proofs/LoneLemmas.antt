@@ -25,7 +25,7 @@ on_then s h es w t hs happens on = record {
 
 -- ---- there is no other
 
-one_seat : (r : Course) (s : Seat) → r.seats ≡ s ∷ [] → seat_at r 1 ≡ s
+pub one_seat : (r : Course) (s : Seat) → r.seats ≡ s ∷ [] → seat_at r 1 ≡ s
 one_seat r s single = ap (λ (ss : List Seat). get_or ss 0 no_seat) single
 
 first_alone : (r : Course) (s : Seat) (n : ℕ) → r.seats ≡ s ∷ [] → IsSeat r n → n ≡ 1

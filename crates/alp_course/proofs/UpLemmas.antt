@@ -45,8 +45,12 @@ module _ (r after : Course) (n seen : ℕ) (Makes : Seat → List Entry → Stan
 comes_up : (r after : Course) (n seen : ℕ) (x : Event) → IsAt r n seen (λ s es w. ComesTo s.stand s.stand.is_down x es w) after → AreUp r → AreUp after
 comes_up r after n seen x a up = all_up r after n seen (λ s es w. ComesTo s.stand s.stand.is_down x es w) a (stays_up (seat_at r n) seen x a.entries a.stand (up n a.here) a.made) up
 
+-- a transaction times out at a server that is up
+pub timeout_up : (r after : Course) (n : ℕ) (t : TransId) → Occurs r (at n (timed_out t)) after → IsUpIn (seat_at r n) → IsUpIn (seat_at after n)
+timeout_up r after n t a up = subst IsUpIn (sym (seat_there r after n (seat_after (seat_at r n) 0 a.entries a.stand) a.here a.seats)) (stays_up (seat_at r n) 0 (event.Timeout t) a.entries a.stand up a.made)
+
 -- of what occurs behind the lifting
-abbrev IsCalm : Occurrence → Type 0
+abbrev pub IsCalm : Occurrence → Type 0
 IsCalm (at n (timed_out t)) = Unit {0}
 IsCalm (at n ticked) = Unit {0}
 IsCalm (at n (finds least)) = Unit {0}
@@ -121,7 +125,7 @@ pub calm_carried : (servers : ℕ) (xs : List Occurrence) → IsCarried servers 
 calm_carried servers xs (last_sweep ys word quiet) = calm_sweep servers ys word
 calm_carried servers xs (one_more ys zs word some rest) = calm_append ys zs (calm_sweep servers ys word) (calm_carried servers zs rest)
 
-calm_timed : (n : ℕ) → Calm (AreTimedOut n)
+pub calm_timed : (n : ℕ) (xs : List Occurrence) → AreTimedOut n xs → AllByRecursion IsCalm xs
 calm_timed n xs none_open = (tt, tt)
 calm_timed n xs (one_open t zs word) = (tt, (tt, calm_timed n zs word))
 
@@ -141,6 +145,9 @@ calm_further A calm false ys t = calm_then (Just (rests false ∷ [])) A (λ zs 
 calm_rounds : (servers most : ℕ) → Calm (AreRounds servers most)
 calm_rounds servers zero xs h = calm_none xs h
 calm_rounds servers (suc k) xs (is_rest, h) = calm_then (IsRound servers) (Further is_rest (AreRounds servers k)) (calm_round servers) (calm_further (AreRounds servers k) (calm_rounds servers k) is_rest) xs h
+
+pub calm_rounds_all : (servers most : ℕ) (xs : List Occurrence) → AreRounds servers most xs → AllByRecursion IsCalm xs
+calm_rounds_all servers most = calm_rounds servers most
 
 -- ---- lifting
 

@@ -2,7 +2,7 @@
 use Rattle.std.specs.Prelude.{◌≡◌, ℕ, zero, suc, Bool, true, false, List, [], ◌∷◌, length, Option, None, Some}
 use Rattle.alp_base.specs.declared.ids.TransId.{TransId}
 use Rattle.alp_course.specs.Happens.{timed_out, ticked, restarted, lifts, finds}
-use Rattle.alp_course.specs.Courses.{Occurrence, at, rests, Course, Seat, IsSeat, seat_at, AreCourse}
+use Rattle.alp_course.specs.Courses.{Occurrence, at, rests, Course, Seat, IsSeat, seat_at, next_message, AreTwo, AreCourse}
 use Rattle.alp_course.specs.Languages.{Language, Just, Then, Each}
 use Rattle.alp_course.specs.Carries.{IsCarried}
 
@@ -54,3 +54,13 @@ AreUp r = (n : ℕ) → IsSeat r n → IsUpIn (seat_at r n)
 -- Behind a settling all servers are up, and nobody stops a disk.
 abbrev pub Lifting : Type 0
 Lifting = (r after : Course) (xs : List Occurrence) → IsSettling (length r.seats) xs → AreCourse r xs after → AreUp after
+
+-- ---- messages
+
+-- no message of one server to another one is left
+abbrev pub AreTaken : Course → Type 0
+AreTaken r = (from to : ℕ) → AreTwo r from to → next_message r from to ≡ None
+
+-- Behind a settling no message is left.
+abbrev pub Emptying : Type 0
+Emptying = (r after : Course) (xs : List Occurrence) → IsSettling (length r.seats) xs → AreCourse r xs after → AreTaken after

@@ -1,7 +1,7 @@
 //! What holds of each run, whatever happens in it.
 ghost use Rattle.alp_course.specs.Links.{Linking};
-ghost use Rattle.alp_course.specs.Lone.{Alone};
-ghost use Rattle.alp_course.specs.Settles.{Lifting};
+ghost use Rattle.alp_course.specs.Lone.{Alone, Closing};
+ghost use Rattle.alp_course.specs.Settles.{Lifting, Emptying};
 
 /// The journals of a run are linked: ranks rise along each of them, and each message that arrives was sent before.
 pub fn journals_are_linked()
@@ -16,4 +16,14 @@ pub fn one_server_runs_alone()
 /// Behind a settling all servers are up, and nobody stops a disk.
 pub fn settled_servers_are_up()
     ensures { Lifting }
+{}
+
+/// Behind a settling of the only server of a run no transaction of it is open.
+pub fn one_settled_server_has_none_open()
+    ensures { Closing }
+{}
+
+/// Behind a settling no message of one server to another is left.
+pub fn settled_servers_have_all_messages()
+    ensures { Emptying }
 {}

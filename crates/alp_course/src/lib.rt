@@ -3,4 +3,7 @@
 
 mod laws;
 
-pub use laws::{journals_are_linked, one_server_runs_alone, settled_servers_are_up};
+pub use laws::{
+    journals_are_linked, one_server_runs_alone, one_settled_server_has_none_open,
+    settled_servers_are_up, settled_servers_have_all_messages,
+};

@@ -57,7 +57,7 @@ module _ (size : TransId → PartSize) where
       go true rest = more_behind (trans_ready (phase_of l)) (ready_in (filter p ls)) (ready_in ls) rest
       go false rest = more_before (trans_ready (phase_of l)) (ready_in (filter p ls)) (ready_in ls) rest
 
-fewer_pass : {X : Type 0} (p : X → Bool) (xs : List X) → length (filter p xs) ≤ length xs
+pub fewer_pass : {X : Type 0} (p : X → Bool) (xs : List X) → length (filter p xs) ≤ length xs
 fewer_pass p [] = le_refl 0
 fewer_pass {X} p (x ∷ xs) = go (p x) (fewer_pass p xs)
   where

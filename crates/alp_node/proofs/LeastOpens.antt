@@ -59,11 +59,6 @@ lower u v t below not_below = go (is_lt (trans_cmp u v)) refl
 upper : (u v t : TransId) → is_lt (trans_cmp v t) ≡ false → is_lt (trans_cmp u v) ≡ false → is_lt (trans_cmp u t) ≡ false
 upper u v t above not_below = go (is_lt (trans_cmp u t)) refl
   where
-    turned : (o : Ordering) → is_lt o ≡ false → ordering_reverse o ≡ Less → ⊥
-    turned Less e f = cc
-    turned Equal e f = cc
-    turned Greater e f = cc
-
     by : (o : Ordering) → trans_cmp v u ≡ o → is_lt (trans_cmp u t) ≡ true → ⊥
     by Less e below = no_both (is_lt (trans_cmp v t)) (ap is_lt (transactions_total.trans v u t e (less (trans_cmp u t) below))) above
     by Equal e below = no_both (is_lt (trans_cmp v t)) (ap (λ (w : TransId). is_lt (trans_cmp w t)) (exact_transactions v u e) ∙ below) above

@@ -87,6 +87,9 @@ pub mod LockKeptLemmas
 pub mod CollectLemmas
 pub mod CollectedLemmas
 pub mod CollectStepLemmas
+pub mod SoundLives
+pub mod SoundNotes
+pub mod SoundNoted
 pub mod NodeLemmas
 pub mod StopLemmas
 pub mod PastLemmas
@@ -103,3 +106,9 @@ pub mod EndingLemmas
 pub mod OutcomeLemmas
 pub mod JoinLemmas
 pub mod LogLemmas
+pub mod FinishedFates
+pub mod TickSays
+pub mod OpenJoins
+pub mod LateTold
+pub mod LateReady
+pub mod LateSteps

@@ -7,6 +7,10 @@ use Rattle.std.specs.List.{AllByRecursion}
 use Rattle.alp_base.specs.Crashes.{Only}
 use Rattle.alp_base.specs.declared.allowance.Allowance.{Allowance}
 use Rattle.alp_base.specs.declared.memory.OutOfMemory.{OutOfMemory}
+use Rattle.std.specs.FinMap as map
+use Rattle.alp_calls.proofs.PartLaws.{same_change}
+use Rattle.alp_files.specs.Edits.{Edit, edits_map}
+use Rattle.alp_files.specs.Sound.{AreSound}
 use Rattle.alp_files.specs.declared.reply.Reply.{Reply}
 use Rattle.alp_vault.specs.Contents.{Contents}
 use Rattle.alp_vault.specs.declared.vault.Vault.{Ghosts}
@@ -24,17 +28,21 @@ use Rattle.alp_journal.specs.State.{State, state_deed, opened}
 use Rattle.alp_journal.specs.Moves.{next, tried, did, told, halted, stops}
 use Rattle.alp_journal.specs.Laws.{IsLawful, IsLawfulEntry}
 use Rattle.alp_journal.specs.Answered.{IsAnswered, IsAnsweredSo, IsAnsweredEntry, FitsJournal, entries_limit}
-use Rattle.alp_journal.specs.Account.{state_of as account_state}
+use Rattle.alp_journal.specs.Account.{Account, state_of as account_state}
 use Rattle.alp_node.specs.declared.answer.Answer.{Answer}
 use Rattle.alp_node.specs.NodeStates.{NodeState}
 use Rattle.alp_node.specs.ServerState.{IsAs, IsReady}
 use Rattle.alp_node.specs.Durable.{IsDurable, IsSettled, Leaves, Besides, NoOther, HeldOr, IsSaid, IsSaidBy, IsSaidThen, IsStoredBy}
 use Rattle.alp_node.specs.Nodes.{IsConsistent, IsRight, Answered, HasCause, HasRoom, state_of, start_by, start_in, sent_by, sent_in}
 use Rattle.alp_node.specs.Halts.{HaveCauses, MaySay}
+use Rattle.alp_node.specs.Served.{AreLivesSound}
+use Rattle.alp_node.specs.SoundLives.{edits_in, HasSoundLives}
 use Rattle.alp_node.specs.Steps.{Stepped, IsStepAs, IsEntered, entry_of}
 use Rattle.alp_node.specs.Turns.{HasTurned}
 use Rattle.alp_node.specs.declared.server_state.ServerState.{ServerState}
 use Rattle.alp_node.specs.declared.sessions.CallOrder.{CallOrder}
+use Rattle.alp_node.proofs.KeptLemmas.{IsLive, live_there}
+use Rattle.alp_node.proofs.SoundLives.{journal_sound}
 
 pub state_after-push : {S E : Type 0} (step : S → E → S) (s : S) (es : List E) (e : E) → state_after step s (es ++ e ∷ []) ≡ step (state_after step s es) e
 state_after-push step s [] e = refl
@@ -104,6 +112,20 @@ pub sent_pushed : (es fs : List Entry) (e : Entry) → fs ≡ es ++ e ∷ [] →
 sent_pushed es fs e is before own =
     subst (AllByRecursion (λ (x : Envelope). MaySay x.message)) (sym (ap sent_in is ∙ flat_map-append (λ (x : Entry). flat_map sent_by x.acts) es (e ∷ []) ∙ ap (λ (xs : List Envelope). sent_in es ++ xs) (append-nil (flat_map sent_by e.acts))))
     (all-append (λ (x : Envelope). MaySay x.message) (sent_in es) (flat_map sent_by e.acts) before own)
+
+-- ---- what its live parts intend
+
+-- With what a live part intends the files are sound, while the server is up.
+pub right_sound : {V : Type 0} (G : Ghosts V) (n : NodeState V) (held : Contents) → IsRight (start_in G n) held n → n.kept.is_down ≡ false → AreLivesSound held n.kept
+right_sound G n held r up t l there =
+    let a : Account = r.state in
+    let k = n.kept in
+    let now : HasSoundLives (account_state a).holder = subst (λ (s : State). HasSoundLives s.holder) r.says (journal_sound (opened (start_in G n)) n.journal r.lawful r.opening.parts) in
+    let y : IsLive a.holder.cells k.locks.held (a.locked t) t l (a.holder.lives t) = live_there a.holder.cells k.locks.held (a.locked t) t (map.get k.lives t) (a.holder.lives t) l there (r.kept.lives t) in
+    let es : List Edit = y.life.edits in
+    let one : AreSound (edits_map (edits_in (a.holder.lives t) ++ []) a.holder.cells) = now.sound (t ∷ []) refl in
+    let own : AreSound (edits_map es a.holder.cells) = subst (λ (fs : List Edit). AreSound (edits_map fs a.holder.cells)) (append-nil (edits_in (a.holder.lives t)) ∙ ap edits_in y.is) one in
+    subst AreSound (sym (same_change held.cells l.part es y.alike.intents ∙ ap (edits_map es) (r.kept.cells up))) own
 
 -- ---- what its vault holds
 

@@ -35,7 +35,7 @@ use Rattle.alp_coord.specs.Begun.{fate_settled}
 use Rattle.alp_coord.specs.Courses.{fate_at, is_standing}
 use Rattle.alp_coord.specs.Coordinators.{IsOf, IsAlong, Comes, Keeps, server_of, epoch_of, count_of, last_id, next_id, settled_in, course_in, fate_known, fate_in, open_ids, counted_of}
 use Rattle.alp_coord.specs.Likeness.{IsLike, same, finishing, committed, is_over, IsLikeOld, standing, nothing, IsFateOf}
-use Rattle.alp_coord.specs.Ticks.{has_trans, AreOnce}
+use Rattle.alp_coord.specs.Ticks.{has_trans, AreAll, AreOnce}
 use Rattle.alp_coord.proofs.FateLemmas.{IsPlaced, settled_placed, early_open, fate_by, none_by, next_fate}
 use Rattle.alp_coord.proofs.LikeLemmas.{like-after, like-joins}
 use Rattle.alp_coord.proofs.MapLemmas.{tied_same}
@@ -400,11 +400,15 @@ module _ (a : Account) (q : Stands a) where
   pub undrawn_of_other : (t : TransId) → (t.server == a.holder.server) ≡ false → a.fates t ≡ Undrawn
   undrawn_of_other t = elsewhere t (a.fates t) (q.fates t)
 
+  -- a coordinator knows of no other than those that were named
+  pub all_begun : (c : Coordinator) → IsCoordinatorOf a c → AreAll c a.begun
+  all_begun c h = record { once = once_of a.begun q.begun; all = λ t none. known_undrawn a.ids.epoch t (fate_in c t) (a.fates t) (unnamed t (a.fates t) (q.fates t) none) (h.fates t) }
+
   -- so many count as the coordinator counts
   pub count_told : (c : Coordinator) → IsCoordinatorOf a c → length (filter (λ t. is_counted (a.fates t)) a.begun) ≡ counted_of c
   count_told c h =
       ap (λ (ts : List TransId). length ts) (alike a.begun)
-      ∙ (says_all c a.begun (keys_rise c.courses) (record { once = once_of a.begun q.begun; all = λ t none. known_undrawn a.ids.epoch t (fate_in c t) (a.fates t) (unnamed t (a.fates t) (q.fates t) none) (h.fates t) })).counted
+      ∙ (says_all c a.begun (keys_rise c.courses) (all_begun c h)).counted
     where
       alike : (ts : List TransId) → filter (λ t. is_counted (a.fates t)) ts ≡ filter (λ t. is_counted (fate_in c t)) ts
       alike [] = refl

@@ -27,9 +27,12 @@ pub mod Steps
 pub mod Served
 pub mod Starts
 pub mod NodeStates
+pub mod SoundLives
 pub mod Nodes
 pub mod DownStates
 pub mod Downs
 pub mod Arrivals
 pub mod Says
 pub mod Writes
+pub mod Ticks
+pub mod Timeouts

@@ -5,8 +5,6 @@ use Rattle.std.specs.List.{list_any, AllByRecursion}
 use Rattle.alp_base.specs.Causes.{Rose}
 use Rattle.alp_base.specs.declared.allowance.Allowance.{Allowance}
 use Rattle.alp_base.specs.declared.faults.Sizes.{Sizes}
-use Rattle.alp_files.specs.Apart.{AreSized}
-use Rattle.alp_files.specs.Sound.{AreSound}
 use Rattle.alp_files.specs.declared.reply.Reply.{Reply}
 use Rattle.alp_files.specs.declared.reply.Reply.TheVariants as reply
 use Rattle.alp_files.specs.declared.refusal.Refusal.TheVariants as refusal
@@ -18,6 +16,7 @@ use Rattle.alp_journal.specs.declared.message.Envelope.{Envelope}
 use Rattle.alp_journal.specs.declared.event.Event.{Event}
 use Rattle.alp_journal.specs.declared.entry.Entry.{Entry}
 use Rattle.alp_journal.specs.Along.{state_after}
+use Rattle.alp_journal.specs.Holder.{lives_noted}
 use Rattle.alp_journal.specs.Opening.{Start, start_at}
 use Rattle.alp_journal.specs.State.{State, opened}
 use Rattle.alp_journal.specs.Moves.{next, is_stop}
@@ -30,6 +29,7 @@ use Rattle.alp_node.specs.Durable.{IsDurable}
 use Rattle.alp_node.specs.Halts.{HaveCauses, MaySay, IsUncounted, says_shut}
 use Rattle.alp_node.specs.Orders.{is_answered, is_fault_now}
 use Rattle.alp_node.specs.Sessions.{no_sessions}
+use Rattle.alp_node.specs.SoundLives.{AreSoundLives}
 use Rattle.alp_node.specs.Steps.{IsNoted}
 use Rattle.alp_node.specs.declared.sessions.CallOrder.{CallOrder}
 
@@ -44,13 +44,10 @@ start_by G server v = start_at server (G.servers v) (G.volume v) (G.held v).cell
 abbrev pub start_in : {V : Type 0} → Ghosts V → NodeState V → Start
 start_in G n = start_by G n.kept.server n.opening.vault.value
 
--- a server opens on well-formed files whose owners' records hold their charges; sizes are numbers of pages; and so far it has no part
--- that is ready, and no decision with parts elsewhere
+-- A server opens on well-formed files whose owners' records hold their charges, and they are so with whichever of the ready parts
+-- too, whose locks agree and cover what they change. Sizes are numbers of pages.
 pub record IsSoundStart (o : Start) : Type 0 where
-  pub files : AreSound o.cells
-  pub sizes : AreSized (map.get o.cells)
-  pub ready : o.ready ≡ []
-  pub decisions : o.decisions ≡ []
+  pub parts : AreSoundLives o.cells (lives_noted o.ready)
 
 -- The journal is lawful, each of its entries has its cause, and the server keeps what its state says, with this in its
 -- vault. The files were sound when it was started.

@@ -200,7 +200,12 @@ impl<V: Vault> ServerState<V> {
                 number,
                 call,
             } => self.call(*client, *epoch, *number, call),
-            _ => self.answer_event(event),
+            Event::Timeout { trans } => self.time_out(*trans),
+            Event::Arrive { message, .. } => self.arrive(message),
+            Event::Tick => self.tick(),
+            // Each commit is forced as it is made.
+            Event::Force => Ok(self.silence()),
+            Event::Restart => unreachable!(),
         }
     }
 }

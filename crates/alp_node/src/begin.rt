@@ -56,7 +56,7 @@ impl<V: Vault> ServerState<V> {
         requires time { seen.ts ≤ 2 ^ 62 }
         ensures { IsStep V.Vault self.old self.new (event.Call turn.now.client self.old.epoch turn.now.number (call.Begin seen)) result }
     {
-        if let Some(refusal) = self.too_many()? {
+        if let Some(refusal) = self.too_many() {
             self.clear(turn.client);
             return Ok(self.refuse(turn, refusal));
         }
@@ -70,18 +70,18 @@ impl<V: Vault> ServerState<V> {
     }
 
     /// That as many transactions as there may be count here already, if it is so.
-    pub(super) fn too_many(&self) -> Result<Option<Refusal>, OutOfMemory>
+    pub(super) fn too_many(&self) -> Option<Refusal>
         requires { counted_of self.now.coordinator + length self.now.joins.lives ≤ 64 }
-        ensures { IfOk result (λ r. r ≡ if_over (nat_le 64 (counted_of self.now.coordinator + length self.now.joins.lives)) (refusal.TooMany what.Transactions 64)) }
+        ensures { result ≡ if_over (nat_le 64 (counted_of self.now.coordinator + length self.now.joins.lives)) (refusal.TooMany what.Transactions 64) }
     {
-        let own = self.coordinator.counted()?;
+        let own = self.coordinator.counted();
         if own + self.joins.len() < MOST_TRANSACTIONS {
-            return Ok(None);
+            return None;
         }
-        Ok(Some(Refusal::TooMany {
+        Some(Refusal::TooMany {
             what: What::Transactions,
             limit: MOST_TRANSACTIONS as u32,
-        }))
+        })
     }
 
     // The next id is given to a transaction of the client, which is live from now on.

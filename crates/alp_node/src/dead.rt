@@ -1,11 +1,13 @@
 //! Parts that ended while their clients do not know.
-ghost use Rattle.std.specs.Prelude.{◌≡◌, ◌∷◌, ◌++◌, [], OnOk, OnErr, List};
+ghost use Rattle.std.specs.Prelude.{◌≡◌, ◌+◌, ◌≤◌, ◌∷◌, ◌++◌, [], OnOk, OnErr, List, length, vec_capacity};
 ghost use Rattle.alp_journal.specs.Ids.{same_trans};
 ghost use Rattle.alp_node.specs.Dead.{is_part as is_part_said, without_part, without_client, cause_in};
+ghost use Rattle.alp_node.specs.Timeouts.{deads_of};
 ghost use Rattle.alp_node.specs.declared.dead.DeadPart.{DeadPart as APart};
 
 use alp_base::{OutOfMemory, TransId};
 use alp_files::Cause;
+use alp_worker::LiveJoin;
 use std::alloc::Global;
 use std::marker::Model;
 
@@ -61,6 +63,21 @@ impl Dead {
         Ok(())
     }
 
+    /// Those of these joins of the transaction, or none.
+    pub fn add_all(
+        &mut self,
+        trans: TransId,
+        joins: &[LiveJoin],
+        cause: Cause,
+    ) -> Result<(), OutOfMemory>
+        ensures ok { OnOk result (self.new ≡ self.old ++ deads_of trans cause joins.now) }
+        ensures err { OnErr result (self.new ≡ self.old) }
+    {
+        self.parts.reserve(joins.len())?;
+        add_each(&mut self.parts, trans, joins, cause);
+        Ok(())
+    }
+
     /// Takes the last one back.
     pub fn take_back(&mut self)
         ensures { (before : List APart) (last : APart) → self.old ≡ before ++ last ∷ [] → self.new ≡ before }
@@ -80,6 +97,19 @@ impl Dead {
         ensures { self.new ≡ without_client client self.old }
     {
         self.parts.retain(|part| part.client != client);
+    }
+}
+
+fn add_each(parts: &mut Vec<DeadPart>, trans: TransId, joins: &[LiveJoin], cause: Cause)
+    requires room { length parts.old.items + length joins.now ≤ vec_capacity parts.old }
+    ensures said { parts.new.items ≡ parts.old.items ++ deads_of trans cause joins.now }
+{
+    for live in joins {
+        parts.push_reserved(DeadPart {
+            client: live.client,
+            trans,
+            cause,
+        });
     }
 }
 

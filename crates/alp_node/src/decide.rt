@@ -1,11 +1,14 @@
 //! Transactions are decided: the changes of the part here, the clock, and where parts on other servers are to be told a note of the
 //! decision stand in one write.
-ghost use Rattle.std.specs.Prelude.{◌≡◌, ◌≢◌, ◌+◌, ◌<◌, ◌≤◌, ◌^◌, ◌++◌, IsTrue, IfOk, OnOk, OnErr, None, Some, false, length, nat_le, vec_capacity};
+ghost use Rattle.std.specs.Prelude.{◌≡◌, ◌≢◌, ◌+◌, ◌<◌, ◌≤◌, ◌^◌, ◌++◌, IsTrue, IfOk, OnOk, OnErr, None, Some, true, false, length, nat_le, vec_capacity};
 ghost use Rattle.std.specs.FinMap as map;
 ghost use Rattle.alp_vault.specs.Volumes.{AreNoteChanges};
 ghost use Rattle.alp_journal.specs.declared.act.Act.TheVariants as act;
 ghost use Rattle.alp_vault.specs.Contents.{Contents};
 ghost use Rattle.alp_journal.specs.Account.{Account, state_of};
+ghost use Rattle.alp_journal.specs.Coordinator.{finishing, has_votes, votes_in};
+ghost use Rattle.alp_journal.specs.Laws.{latest_vote};
+ghost use Rattle.alp_coord.specs.Coordinators.{fate_in};
 ghost use Rattle.alp_journal.specs.Messages.{clock_end, why_not as why_not_said, why_not_own};
 ghost use Rattle.alp_node.specs.Noted.{ready_room, size_in};
 ghost use Rattle.alp_node.specs.Releases.{grant_acts, granted_behind};
@@ -164,9 +167,11 @@ impl<V: Vault> ServerState<V> {
     }
 
     /// One commit of the vault makes the intents of the transaction's part cells. Behind it the part lets go, and the transaction is
-    /// decided.
+    /// decided: each of its parts elsewhere has voted, and no vote is later than the stamp.
     pub(super) fn decide(&mut self, pending: Pending) -> Result<Decided, OutOfMemory>
         requires live { map.get self.old.lives pending.stamp.trans ≢ None }
+        requires voted { has_votes (finishing (fate_in self.old.coordinator pending.stamp.trans)) ≡ true }
+        requires late { latest_vote 0 (votes_in (finishing (fate_in self.old.coordinator pending.stamp.trans))) ≤ pending.stamp.ts }
         requires up { self.old.is_down ≡ false }
         requires ready { IsReadyForMore (V.serves self.old.vault) self.old }
         requires on { IsOn V.Vault self.old }

@@ -83,7 +83,7 @@ impl<V: Vault> ServerState<V> {
         if !self.is_other(trans.server) {
             return Ok(self.refuse(turn, Refusal::UnknownTrans));
         }
-        if let Some(refusal) = self.too_many()? {
+        if let Some(refusal) = self.too_many() {
             return Ok(self.refuse_joining(turn, refusal));
         }
         self.ask_in(turn, trans)

@@ -3,6 +3,7 @@
 
 mod answer;
 mod answering;
+mod arriving;
 mod asks;
 mod begin;
 mod blocks;
@@ -31,7 +32,8 @@ mod sessions;
 mod shape;
 mod start;
 mod stored;
-mod stub;
+mod ticks;
+mod timeouts;
 mod totals;
 mod votes;
 mod waits;

@@ -150,19 +150,19 @@ impl<V: Vault> Node<V> {
     }
 
     /// The least transaction that runs here, or has a part here that did not vote, if there is one.
-    pub fn open_part(&self) -> Result<Option<TransId>, OutOfMemory>
-        ensures { IsTrue (V.tells self.now.kept.vault) → IfOk result (IsLeastOpen (state_of (start_in V.Vault self.now) self.now.journal)) }
+    pub fn open_part(&self) -> Option<TransId>
+        ensures { IsTrue (V.tells self.now.kept.vault) → IsLeastOpen (state_of (start_in V.Vault self.now) self.now.journal) result }
     {
-        let own = self.kept.coordinator.least_running()?;
-        Ok(lesser(own, self.kept.joins.least_open()))
+        let own = self.kept.coordinator.least_running();
+        lesser(own, self.kept.joins.least_open())
     }
 
     /// Whether no part lives here, none is ready, and no decision stands.
-    pub fn is_settled(&self) -> Result<bool, OutOfMemory>
-        ensures { IsTrue (V.tells self.now.kept.vault) → IfOk result (λ rests. IsRestOf rests (state_of (start_in V.Vault self.now) self.now.journal)) }
+    pub fn is_settled(&self) -> bool
+        ensures { IsTrue (V.tells self.now.kept.vault) → IsRestOf result (state_of (start_in V.Vault self.now) self.now.journal) }
     {
-        let counted = self.kept.coordinator.counted()?;
-        Ok(counted == 0 && self.kept.lives.least().is_none())
+        let counted = self.kept.coordinator.counted();
+        counted == 0 && self.kept.lives.least().is_none()
     }
 
     /// Lets so many further changing calls of its vault pass, or all of them.

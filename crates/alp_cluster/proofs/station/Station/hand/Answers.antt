@@ -14,7 +14,7 @@ returns-clause-filled g c =
     (λ room n keeps.
     let (m, stands, spelled, full) = room n (c.push_rank.ensures.server ∙ keeps.stands) in
     let both = still_by g.V.Vault 0 c.args.self.now c.drop_ranks.new.self n m keeps full (c.drop_ranks.ensures.server ∙ stands) (c.drop_ranks.ensures.fused ∙ c.hand_here-handed.ensures.fused ∙ c.push_rank.ensures.fused)
-          (c.drop_ranks.ensures.dropped m stands ∙ ap (λ v. take (length m.journal) v.items) c.hand_here-handed.ensures.ranks ∙ ap (take (length m.journal)) c.in_ok-push_rank.ensures.pushed) in
+    (c.drop_ranks.ensures.dropped m stands ∙ ap (λ v. take (length m.journal) v.items) c.hand_here-handed.ensures.ranks ∙ ap (take (length m.journal)) c.in_ok-push_rank.ensures.pushed) in
     (spelled, both.0, both.1))
     c.hand_here-handed.ensures.filled
 

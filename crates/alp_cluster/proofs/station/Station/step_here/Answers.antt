@@ -15,8 +15,7 @@ returns-in_err-step-in-Some-Up-clause-filled g c =
 
 pub returns-clause-came : goal.returns-clause-came
 returns-clause-came g c = λ n stood.
-    let is : c.args.self.now.server ≡ standing c.in-Some-Up.node = c.in-Some-Up.is ∙ ap Some c.in-Some-Up.field-0-is in
-    (
+    let is : c.args.self.now.server ≡ standing c.in-Some-Up.node = c.in-Some-Up.is ∙ ap Some c.in-Some-Up.field-0-is in (
       c.step.new.node,
       refl,
       (

@@ -13,25 +13,21 @@ use Rattle.alp_coord.specs.declared.course.Stage.TheVariants as stage
 use Rattle.alp_coord.specs.Courses.{CourseMap}
 use Rattle.alp_coord.specs.Coordinators.{fate_in, Comes, IsAlong, settle_in}
 use Rattle.alp_coord.proofs.MapLemmas.{length_set}
-use Rattle.alp_coord.proofs.MoveLemmas.{finishing_at, open_there, decide_fates, decide_still, alone_fates, no_joins_of}
+use Rattle.alp_coord.proofs.MoveLemmas.{finishing_at, open_there, voted_finishing, decide_fates, alone_fates, no_joins_of}
 use Rattle.alp_coord.proofs.coordinator.Coordinator.decide.Goals as goal
 
 pub settle-requires : goal.settle-requires
 settle-requires c =
     let s = c.args.self.now in
     let t = c.args.trans.now in
-    open_there s t stage.Finishing (finishing_at s t (sym c.finishes.ensures ∙ c.if-not-finishes.false)) refl
-
-pub returns-then-not-finishes-clause-decided : goal.returns-then-not-finishes-clause-decided
-returns-then-not-finishes-clause-decided c =
-    decide_still c.args.self.now c.args.trans.now c.args.ts (joins_of (fate_in c.args.self.now c.args.trans.now)) (sym c.finishes.ensures ∙ c.if-not-finishes.true)
+    open_there s t stage.Finishing (finishing_at s t (voted_finishing s t c.requires.voted)) refl
 
 pub returns-then-are_none-clause-decided : goal.returns-then-are_none-clause-decided
 returns-then-are_none-clause-decided c =
     let s = c.args.self.now in
     let t = c.args.trans.now in
     subst (λ (k : Coordinator). Comes (Decides (record { ts = c.args.ts; trans = t }) (joins_of (fate_in s t))) s k) (sym c.settle.ensures)
-    (alone_fates s t c.args.ts (finishing_at s t (sym c.finishes.ensures ∙ c.if-not-finishes.false)) (no_joins_of (fate_in s t) c.members.result.now c.members.ensures (sym c.are_none.ensures ∙ c.if-are_none.true)))
+    (alone_fates s t c.args.ts (finishing_at s t (voted_finishing s t c.requires.voted)) (no_joins_of (fate_in s t) c.members.result.now c.members.ensures (sym c.are_none.ensures ∙ c.if-are_none.true)))
 
 pub returns-then-are_none-clause-along : goal.returns-then-are_none-clause-along
 returns-then-are_none-clause-along c =
@@ -44,4 +40,4 @@ returns-clause-decided c =
     let s = c.args.self.now in
     let t = c.args.trans.now in
     subst (λ (m : CourseMap). Comes (Decides (record { ts = c.args.ts; trans = t }) (joins_of (fate_in s t))) s (record s { courses = m })) (sym c.turn.ensures)
-    (decide_fates s t c.args.ts (finishing_at s t (sym c.finishes.ensures ∙ c.if-not-finishes.false)))
+    (decide_fates s t c.args.ts (finishing_at s t (voted_finishing s t c.requires.voted)))

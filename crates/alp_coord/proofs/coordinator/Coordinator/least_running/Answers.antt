@@ -9,5 +9,5 @@ use Rattle.alp_coord.proofs.coordinator.Coordinator.least_running.Goals as goal
 
 pub returns : goal.returns
 returns c =
-    least_first c.args.self.now c.first_running.result (subst (λ (ts : List TransId). IsStrictlySortedBy trans_cmp ts) c.in_ok-ids.ensures.ids c.in_ok-ids.ensures.rising)
-    (c.first_running.ensures ∙ ap (find (λ t. is_running_fate (fate_in c.args.self.now t))) (c.as_slice.ensures.value ∙ c.in_ok-ids.ensures.ids))
+    least_first c.args.self.now c.first_running.result (subst (λ (ts : List TransId). IsStrictlySortedBy trans_cmp ts) c.tree.ensures.ids c.tree.ensures.rising)
+    (c.first_running.ensures ∙ ap (find (λ t. is_running_fate (fate_in c.args.self.now t))) c.tree.ensures.ids)

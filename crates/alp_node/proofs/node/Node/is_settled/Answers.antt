@@ -26,13 +26,13 @@ returns-then-counted-eq0 g c =
     let n : NodeState g.row.V.Denot = record { opening = c.self.inside.opening; kept = c.self.inside.kept; journal = c.self.inside.journal } in
     let none : c.is_none.result ≡ is_none c.least.result = turned (is_some c.least.result) c.is_none.result c.is_none.ensures in
     subst (λ (m : NodeState g.row.V.Denot). IsTrue (G.tells m.kept.vault) → IsRestOf c.is_none.result (state_of (start_in G m) m.journal)) c.self.view_is
-    (λ told. subst (λ (b : Bool). IsRestOf b (state_of (start_in G n) n.journal)) (ap (λ (b : Bool). b && is_none c.least.result) (eq-eqb c.in_ok-counted.counted 0 c.if-counted-eq0.true) ∙ sym none)
-    (rest_said G n c.in_ok-counted.counted c.least.result c.self.invariant c.in_ok-counted.ensures c.least.ensures.least told))
+    (λ told. subst (λ (b : Bool). IsRestOf b (state_of (start_in G n) n.journal)) (ap (λ (b : Bool). b && is_none c.least.result) (eq-eqb c.counted-counted.result 0 c.if-counted-eq0.true) ∙ sym none)
+    (rest_said G n c.counted-counted.result c.least.result c.self.invariant c.counted-counted.ensures c.least.ensures.least told))
 
 pub returns-else-counted-eq0 : goal.returns-else-counted-eq0
 returns-else-counted-eq0 g c =
     let G = g.V.Vault in
     let n : NodeState g.row.V.Denot = record { opening = c.self.inside.opening; kept = c.self.inside.kept; journal = c.self.inside.journal } in
-    subst (λ (m : NodeState g.row.V.Denot). IsTrue (G.tells m.kept.vault) → IsRestOf (c.in_ok-counted.counted == 0) (state_of (start_in G m) m.journal)) c.self.view_is
-    (λ told. subst (λ (b : Bool). IsRestOf b (state_of (start_in G n) n.journal)) (counts_not (c.in_ok-counted.counted == 0) (is_none (first_of n)) (ne_eqb c.in_ok-counted.counted 0 c.if-counted-eq0.false))
-    (rest_said G n c.in_ok-counted.counted (first_of n) c.self.invariant c.in_ok-counted.ensures refl told))
+    subst (λ (m : NodeState g.row.V.Denot). IsTrue (G.tells m.kept.vault) → IsRestOf (c.counted-counted.result == 0) (state_of (start_in G m) m.journal)) c.self.view_is
+    (λ told. subst (λ (b : Bool). IsRestOf b (state_of (start_in G n) n.journal)) (counts_not (c.counted-counted.result == 0) (is_none (first_of n)) (ne_eqb c.counted-counted.result 0 c.if-counted-eq0.false))
+    (rest_said G n c.counted-counted.result (first_of n) c.self.invariant c.counted-counted.ensures refl told))

@@ -13,4 +13,4 @@ returns g c =
     let n : NodeState g.row.V.Denot = record { opening = c.self.inside.opening; kept = c.self.inside.kept; journal = c.self.inside.journal } in
     subst (λ (m : NodeState g.row.V.Denot). IsTrue (G.tells m.kept.vault) → IsLeastOpen (state_of (start_in G m) m.journal) c.lesser.result) c.self.view_is
     (λ told. subst (λ (x : Option TransId). IsLeastOpen (state_of (start_in G n) n.journal) x) (sym c.lesser.ensures)
-    (open_said G n c.in_ok-own.own c.least_open.result c.self.invariant c.in_ok-own.ensures c.least_open.ensures.same told))
+    (open_said G n c.least_running-own.result c.least_open.result c.self.invariant c.least_running-own.ensures c.least_open.ensures.same told))

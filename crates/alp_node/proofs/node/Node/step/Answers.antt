@@ -6,7 +6,7 @@ use Rattle.alp_node.specs.NodeStates.{NodeState}
 use Rattle.alp_node.specs.Nodes.{Answered, HasRoom, IsConsistent, start_in, state_of}
 use Rattle.alp_node.specs.Orders.{order_in}
 use Rattle.alp_node.specs.Turns.{HasTurned}
-use Rattle.alp_node.proofs.NodeLemmas.{entered_kept, entered_durable, entered_answered, entered_turned}
+use Rattle.alp_node.proofs.NodeLemmas.{right_sound, entered_kept, entered_durable, entered_answered, entered_turned}
 use Rattle.alp_node.proofs.node.Node.step.Goals as goal
 
 pub answer-requires-clause-known : goal.answer-requires-clause-known
@@ -17,6 +17,11 @@ answer-requires-clause-noted g c = c.self.invariant.noted
 
 pub answer-requires-clause-on : goal.answer-requires-clause-on
 answer-requires-clause-on g c = record { server = c.self.invariant.number; servers = c.self.invariant.all; sizes = c.self.invariant.sizes }
+
+pub answer-requires-clause-sound : goal.answer-requires-clause-sound
+answer-requires-clause-sound g c tells =
+    let old : NodeState g.row.V.Denot = record { opening = c.self.inside.opening; kept = c.self.inside.kept; journal = c.self.inside.journal } in
+    right_sound g.V.Vault old (g.V.Vault.held old.kept.vault) (c.self.invariant.right tells) c.if-self.false
 
 pub invariant_of-self-2 : goal.invariant_of-self-2
 invariant_of-self-2 g c =

@@ -66,7 +66,7 @@ returns g c =
     let is : x ≡ told_answer (Some r) (act.Drawn t ∷ []) =
     c.begun.ensures ∙ ap (told_answer (Some (reply.Begun c.in_ok-trans.trans))) (c.new.ensures ∙ c.push_reserved.ensures.items ∙ ap (λ (ys : List Act). ys ++ act.Drawn c.in_ok-trans.trans ∷ []) c.in_ok-acts.ensures.items)
     ∙ ap (λ (u : TransId). told_answer (Some (reply.Begun u)) (act.Drawn u ∷ [])) drawn.id in
-    let none : many_of k ≡ None = sym c.in_ok-refusal.ensures ∙ c.in_default.is in
+    let none : many_of k ≡ None = sym c.too_many.ensures ∙ c.in_default.is in
     let clock : n ≡ max k.clock seen.ts = c.max-self.ensures ∙ ap (λ (y : ServerState _). max y.clock seen.ts) begun in
     let new = next_new k.servers k.server k.coordinator k.joins k.lives ready.paired ready.seat.0 in
     let after : ServerState g.row.V.Denot = record k {
@@ -101,8 +101,8 @@ returns-in-Some g c =
     let turn = c.args.turn.now in
     let e = event.Call turn.client k.epoch turn.number (call.Begin c.args.seen) in
     let f : Refusal = refusal.TooMany what.Transactions 64 in
-    let same : c.in-Some.refusal ≡ f = over_is (nat_le 64 (counted_of k.coordinator + length k.joins.lives)) f c.in-Some.refusal (sym c.in_ok-refusal.ensures ∙ c.in-Some.is) in
-    let many : many_of k ≡ Some f = sym c.in_ok-refusal.ensures ∙ c.in-Some.is ∙ ap Some same in
+    let same : c.in-Some.refusal ≡ f = over_is (nat_le 64 (counted_of k.coordinator + length k.joins.lives)) f c.in-Some.refusal (sym c.too_many.ensures ∙ c.in-Some.is) in
+    let many : many_of k ≡ Some f = sym c.too_many.ensures ∙ c.in-Some.is ∙ ap Some same in
     let so = c.refuse.ensures.answer ∙ ap (λ (x : Refusal). refused_answer x []) same in
     let kept : c.refuse.new.self ≡ record (cleared k turn.client) { sessions = counted_in k.sessions turn (reply.Refused f) } =
     c.refuse.ensures.kept ∙ ap (λ (y : ServerState _). record y { sessions = counted_in y.sessions turn (reply.Refused c.in-Some.refusal) }) c.clear.ensures

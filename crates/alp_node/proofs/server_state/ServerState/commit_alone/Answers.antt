@@ -1,6 +1,6 @@
 use Rattle.std.specs.Prelude.{true, None, Some}
 use Rattle.std.specs.FinMap as map
-use Rattle.std.proofs.Common.{◌≡◌, ℕ, ◌+◌, ◌^◌, ◌<◌, List, [], length, refl, sym, ap, ◌∙◌, subst, arith}
+use Rattle.std.proofs.Common.{◌≡◌, ℕ, ◌+◌, ◌^◌, ◌<◌, ◌≤◌, List, [], length, refl, sym, ap, ◌∙◌, subst, arith}
 use Rattle.alp_base.specs.declared.ids.Stamp.{Stamp}
 use Rattle.alp_files.specs.declared.refusal.Refusal.TheVariants as refusal
 use Rattle.alp_files.specs.declared.reply.Reply.TheVariants as reply
@@ -8,6 +8,10 @@ use Rattle.alp_vault.specs.Volumes.{AreNoteChanges}
 use Rattle.alp_files.specs.declared.call.Call.TheVariants as call
 use Rattle.alp_journal.specs.declared.act.Act.{Act}
 use Rattle.alp_journal.specs.declared.event.Event.TheVariants as event
+use Rattle.alp_journal.specs.Coordinator.{Fate, Running, has_votes, votes_in}
+use Rattle.alp_journal.specs.Coordinator as fate
+use Rattle.alp_journal.specs.Laws.{latest_vote}
+use Rattle.alp_coord.specs.Coordinators.{fate_in}
 use Rattle.alp_node.specs.Steps.{refused_answer, told_answer}
 use Rattle.alp_node.specs.Writes.{HasLogFor, IsPending, WasDecided}
 use Rattle.alp_node.specs.declared.decide.Decided.{Decided}
@@ -27,6 +31,20 @@ decide-requires-clause-live g c none =
     let mine : WorksHere k c.args.turn.now.client c.args.trans = works_here c.requires.ready.0 (g.V.Vault.serves k.vault) k c.requires.ready.2 c.args.turn.now.client c.args.trans c.requires.works in
     let wrong : None ≡ Some mine.live = sym none ∙ ap (λ (s : Stamp). map.get k.lives s.trans) c.in_ok-pending.ensures.stamp ∙ mine.there in
     cc
+
+pub decide-requires-clause-voted : goal.decide-requires-clause-voted
+decide-requires-clause-voted g c =
+    let k = c.args.self.now in
+    let runs : fate_in k.coordinator c.args.trans ≡ Running c.args.turn.now.client [] = alone_runs k c.args.turn.now.client c.args.trans c.requires.here c.requires.works c.requires.alone in
+    ap (λ (s : Stamp). has_votes (fate.finishing (fate_in k.coordinator s.trans))) c.in_ok-pending.ensures.stamp ∙ ap (λ (f : Fate). has_votes (fate.finishing f)) runs
+
+pub decide-requires-clause-late : goal.decide-requires-clause-late
+decide-requires-clause-late g c =
+    let k = c.args.self.now in
+    let runs : fate_in k.coordinator c.args.trans ≡ Running c.args.turn.now.client [] = alone_runs k c.args.turn.now.client c.args.trans c.requires.here c.requires.works c.requires.alone in
+    let none : latest_vote 0 (votes_in (fate.finishing (fate_in k.coordinator c.in_ok-pending.pending.stamp.trans))) ≡ 0 =
+    ap (λ (s : Stamp). latest_vote 0 (votes_in (fate.finishing (fate_in k.coordinator s.trans)))) c.in_ok-pending.ensures.stamp ∙ ap (λ (f : Fate). latest_vote 0 (votes_in (fate.finishing f))) runs in
+    omega (arith, none)
 
 pub decide-requires-clause-changes : goal.decide-requires-clause-changes
 decide-requires-clause-changes g c =

@@ -1,9 +1,10 @@
 use Rattle.std.specs.Prelude.{max, Ok, Err}
-use Rattle.std.proofs.Common.{true, ◌≡◌, ℕ, List, refl, sym, ap, ◌∙◌, subst, inl, inr}
+use Rattle.std.proofs.Common.{true, ◌≡◌, ◌≤◌, ℕ, List, refl, sym, ap, ◌∙◌, subst, inl, inr}
 use Rattle.alp_base.specs.declared.bytes.NoteChange.{NoteChange}
 use Rattle.alp_base.specs.declared.ids.TransId.{TransId}
 use Rattle.alp_journal.specs.declared.act.Act.TheVariants as act
-use Rattle.alp_journal.specs.Coordinator.{joins_of}
+use Rattle.alp_journal.specs.Coordinator.{Fate, joins_of, has_votes, votes_in}
+use Rattle.alp_journal.specs.Laws.{latest_vote}
 use Rattle.alp_journal.specs.Deeds.{Finishes, Decides}
 use Rattle.alp_coord.specs.declared.coordinator.Coordinator.{Coordinator}
 use Rattle.alp_coord.specs.Coordinators.{Comes, IsAlong, fate_in}
@@ -12,7 +13,23 @@ use Rattle.alp_node.specs.declared.server_state.ServerState.{ServerState}
 use Rattle.alp_node.specs.declared.stored.StoreFault.{StoreFault}
 use Rattle.alp_node.specs.declared.stored.StoreFault.TheVariants as fault
 use Rattle.alp_node.proofs.ReleaseLemmas.{let_go_of}
+use Rattle.alp_node.proofs.FinishedFates.{finished_at, made_coordinator}
 use Rattle.alp_node.proofs.server_state.ServerState.decide.Goals as goal
+
+-- the fate is that of a finishing transaction then
+pub decide-requires-clause-voted : goal.decide-requires-clause-voted
+decide-requires-clause-voted g c =
+    let k = c.args.self.now in
+    let t : TransId = c.args.pending.stamp.trans in
+    let was : c.make.new.self.coordinator ≡ k.coordinator = made_coordinator (g.V.Vault.tells k.vault) (g.V.Vault.held k.vault).cells k c.make.new.self t c.in-Ok.ensures.made in
+    ap has_votes (finished_at k.coordinator c.make.new.self.coordinator c.finish.new.self t was c.finish.ensures.finished) ∙ c.requires.voted
+
+pub decide-requires-clause-late : goal.decide-requires-clause-late
+decide-requires-clause-late g c =
+    let k = c.args.self.now in
+    let t : TransId = c.args.pending.stamp.trans in
+    let was : c.make.new.self.coordinator ≡ k.coordinator = made_coordinator (g.V.Vault.tells k.vault) (g.V.Vault.held k.vault).cells k c.make.new.self t c.in-Ok.ensures.made in
+    subst (λ (f : Fate). latest_vote 0 (votes_in f) ≤ c.args.pending.stamp.ts) (sym (finished_at k.coordinator c.make.new.self.coordinator c.finish.new.self t was c.finish.ensures.finished)) c.requires.late
 
 pub returns-in-Err-Failed-clause-made : goal.returns-in-Err-Failed-clause-made
 returns-in-Err-Failed-clause-made g c =
@@ -73,7 +90,7 @@ returns-clause-made g c =
     let mid : Coordinator = c.finish.new.self in
     let z : Coordinator = c.decide.new.self in
     let part : HasMade (G.tells k.vault) (G.held k.vault).cells k made t = c.in-Ok.ensures.made in
-    let was : made.coordinator ≡ k.coordinator = ap (λ (y : ServerState _). y.coordinator) part.kept ∙ ap (λ (y : ServerState _). y.coordinator) (let_go_of k t) in
+    let was : made.coordinator ≡ k.coordinator = made_coordinator (G.tells k.vault) (G.held k.vault).cells k made t part in
     let clock : c.max-self.result ≡ max k.clock p.stamp.ts = c.max-self.ensures ∙ ap (λ (y : ServerState _). max y.clock p.stamp.ts) part.kept ∙ ap (λ (y : ServerState _). max y.clock p.stamp.ts) (let_go_of k t) in
     record {
       made = made;

@@ -15,6 +15,9 @@ use Rattle.alp_node.proofs.PairedLemmas.{next_new}
 use Rattle.alp_node.proofs.TransactionLemmas.{taken_back}
 use Rattle.alp_node.proofs.server_state.ServerState.draw.Goals as goal
 
+pub begin-requires : goal.begin-requires
+begin-requires g c = omega (arith, c.requires.ready.1, c.requires.ready.2.drawn)
+
 pub enter-requires-clause-new : goal.enter-requires-clause-new
 enter-requires-clause-new g c =
     let k = c.args.self.now in

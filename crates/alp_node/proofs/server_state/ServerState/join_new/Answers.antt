@@ -41,8 +41,8 @@ returns-in-Some g c =
     let refuse = c.refuse_joining in
     let f : Refusal = refusal.TooMany what.Transactions 64 in
     let far : is_away k t.server ≡ true = sym c.is_other.ensures ∙ c.if-not-is_other.false in
-    let same : c.in-Some.refusal ≡ f = over_is (nat_le 64 (counted_of k.coordinator + length k.joins.lives)) f c.in-Some.refusal (sym c.in_ok-refusal.ensures ∙ c.in-Some.is) in
-    let many : many_of k ≡ Some f = sym c.in_ok-refusal.ensures ∙ c.in-Some.is ∙ ap Some same in
+    let same : c.in-Some.refusal ≡ f = over_is (nat_le 64 (counted_of k.coordinator + length k.joins.lives)) f c.in-Some.refusal (sym c.too_many.ensures ∙ c.in-Some.is) in
+    let many : many_of k ≡ Some f = sym c.too_many.ensures ∙ c.in-Some.is ∙ ap Some same in
     let kept = refuse.ensures.kept ∙ ap (λ (x : Refusal). record (buried k turn.client) { sessions = counted_in k.sessions turn (reply.Refused x) }) same in
     let so = refuse.ensures.answer ∙ ap (λ (x : Refusal). refused_answer x []) same in
     buried_step G k refuse.new.self turn t refuse.result (reply.Refused f) kept c.requires.turn c.requires.up refl (record { inside = tt; times = tt }) tt so
@@ -53,4 +53,4 @@ pub ask_in-requires-clause-far : goal.ask_in-requires-clause-far
 ask_in-requires-clause-far g c = sym c.is_other.ensures ∙ c.if-not-is_other.false
 
 pub ask_in-requires-clause-few : goal.ask_in-requires-clause-few
-ask_in-requires-clause-few g c = few_of c.args.self.now (sym c.in_ok-refusal.ensures ∙ c.in_default.is)
+ask_in-requires-clause-few g c = few_of c.args.self.now (sym c.too_many.ensures ∙ c.in_default.is)

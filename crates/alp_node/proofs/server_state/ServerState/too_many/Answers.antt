@@ -10,11 +10,11 @@ use Rattle.alp_node.proofs.server_state.ServerState.too_many.Goals as goal
 pub returns-then-own-len-lt-MOST_TRANSACTIONS : goal.returns-then-own-len-lt-MOST_TRANSACTIONS
 returns-then-own-len-lt-MOST_TRANSACTIONS g c =
     let all : ℕ = counted_of c.args.self.now.coordinator + length c.args.self.now.joins.lives in
-    let few : all < 64 = omega (arith, c.if-own-len-lt-MOST_TRANSACTIONS.true, c.in_ok-own.ensures, c.len.ensures) in
+    let few : all < 64 = omega (arith, c.if-own-len-lt-MOST_TRANSACTIONS.true, c.counted-own.ensures, c.len.ensures) in
     sym (ap (λ b. if_over b (refusal.TooMany what.Transactions 64)) (not_reached 64 all few))
 
 pub returns : goal.returns
 returns g c =
     let all : ℕ = counted_of c.args.self.now.coordinator + length c.args.self.now.joins.lives in
-    let many : 64 ≤ all = omega (arith, c.if-own-len-lt-MOST_TRANSACTIONS.false, c.in_ok-own.ensures, c.len.ensures) in
+    let many : 64 ≤ all = omega (arith, c.if-own-len-lt-MOST_TRANSACTIONS.false, c.counted-own.ensures, c.len.ensures) in
     sym (ap (λ b. if_over b (refusal.TooMany what.Transactions 64)) (le-leb 64 all many))

@@ -1,0 +1,38 @@
+use Rattle.std.specs.Prelude.{Err}
+use Rattle.std.proofs.Common.{ℕ, List, ◌++◌, ◌≤◌, length, append-nil, sym, ◌∙◌, ap}
+use Rattle.alp_journal.specs.declared.log.Item.{Item}
+use Rattle.alp_report.specs.Reports.{line_text}
+use Rattle.alp_session.specs.Crowds.{client_at}
+use Rattle.alp_cluster.specs.declared.fault.RunFault.TheVariants as fault
+use Rattle.alp_cluster.proofs.DidLemmas.{all_memory, all_handed}
+use Rattle.alp_cluster.proofs.GoneLemmas.{end_on, end_memory, handed_on}
+use Rattle.alp_cluster.proofs.LineLemmas.{few_line, behind_front}
+use Rattle.alp_cluster.proofs.parties.Parties.play_own.Goals as goal
+
+pub returns-in_err-send_line-clause-gone : goal.returns-in_err-send_line-clause-gone
+returns-in_err-send_line-clause-gone g c =
+    all_handed g.V.Vault (Unit {0}) c.args.self.now.stations c.send_line.new.self.stations c.in_err-send_line.field-0.0 c.from_residual.result c.in_err-send_line.ensures.gone
+    (handed_on c.in_err-send_line.field-0.0 c.from_residual.result c.from_residual.ensures.0 c.from_residual.ensures.1)
+
+pub returns-in_err-send_line-clause-ended : goal.returns-in_err-send_line-clause-ended
+returns-in_err-send_line-clause-ended g c =
+    end_on c.in_err-send_line.field-0.0 c.from_residual.result _ _ (handed_on c.in_err-send_line.field-0.0 c.from_residual.result c.from_residual.ensures.0 c.from_residual.ensures.1)
+    (λ f some.
+    let (xs, known, few, did) = some in
+    (xs, known, few_line c.args.self.now.clients.words (client_at c.args.self.now.clients c.args.client) c.args.line.now.line (length xs) few, did))
+    c.in_err-send_line.ensures.ended
+
+pub returns-in_err-put_line-clause-gone : goal.returns-in_err-put_line-clause-gone
+returns-in_err-put_line-clause-gone g c =
+    rw (handed_on fault.OutOfMemory c.from_residual-in_err-put_line.result c.from_residual-in_err-put_line.ensures.0 c.from_residual-in_err-put_line.ensures.1)
+    (all_memory g.V.Vault (Unit {0}) c.args.self.now.stations c.send_line.new.self.stations _ c.in_ok-send_line.ensures.gone)
+
+pub returns-in_err-put_line-clause-ended : goal.returns-in_err-put_line-clause-ended
+returns-in_err-put_line-clause-ended g c = end_memory c.from_residual-in_err-put_line.result _ (handed_on fault.OutOfMemory c.from_residual-in_err-put_line.result c.from_residual-in_err-put_line.ensures.0 c.from_residual-in_err-put_line.ensures.1)
+
+pub returns-clause-did : goal.returns-clause-did
+returns-clause-did g c =
+    let (xs, t, few, items, did) = c.in_ok-send_line.ensures.did in
+    let sent = behind_front c.args.items.now.items xs c.deref.result.now c.len-before.result (c.deref.ensures.value ∙ items) (c.len-before.ensures ∙ c.args.items.now.ok.0) in
+    let short : length xs ≤ 5 = few_line c.args.self.now.clients.words (client_at c.args.self.now.clients c.args.client) c.args.line.now.line (length xs) few in
+    (xs, t, short, items, c.in_ok-put_line.ensures ∙ ap (λ (ys : List Item). c.args.text.now.items ++ line_text c.args.line.now.number ys) sent ∙ ap (λ (text : List ℕ). c.args.text.now.items ++ text) (sym (append-nil (line_text c.args.line.now.number xs))), did)

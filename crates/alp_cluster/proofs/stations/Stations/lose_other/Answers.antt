@@ -1,0 +1,22 @@
+use Rattle.std.specs.Prelude.{Ok}
+use Rattle.std.proofs.Common.{[], ◌∷◌}
+use Rattle.alp_course.specs.Courses.{loses}
+use Rattle.alp_course.specs.Languages.{Just}
+use Rattle.alp_course.specs.Plays.{OfTwo}
+use Rattle.alp_cluster.proofs.DidLemmas.{did_map, gone_none}
+use Rattle.alp_cluster.proofs.OtherLemmas.{of_itself, of_other, did_none}
+use Rattle.alp_cluster.proofs.stations.Stations.lose_other.Goals as goal
+
+pub returns-then-from-to-clause-gone : goal.returns-then-from-to-clause-gone
+returns-then-from-to-clause-gone g c = gone_none g.V.Vault (Unit {0}) c.args.self.now (tt {0})
+
+pub returns-then-from-to-clause-did : goal.returns-then-from-to-clause-did
+returns-then-from-to-clause-did g c = did_none g.V.Vault (OfTwo c.args.from c.args.to (loses c.args.from c.args.to)) c.args.self.now c.requires.on (of_itself c.args.from c.args.to (loses c.args.from c.args.to) c.if-from-to.true)
+
+pub lose-requires-clause-apart : goal.lose-requires-clause-apart
+lose-requires-clause-apart g c = record { sender = c.requires.from; receiver = c.requires.to; apart = c.if-from-to.false }
+
+pub returns-clause-did : goal.returns-clause-did
+returns-clause-did g c =
+    let x = loses c.args.from c.args.to in
+    did_map g.V.Vault (Just (x ∷ [])) (OfTwo c.args.from c.args.to x) c.args.self.now c.lose.new.self (of_other c.args.from c.args.to x c.if-from-to.false) c.lose.ensures.did
