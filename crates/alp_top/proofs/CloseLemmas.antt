@@ -24,33 +24,33 @@ use Rattle.alp_journal.specs.declared.entry.Entry.{Entry}
 -- ---- a fault of another server
 
 module _ {V : Type 0} (G : VaultGhosts V) (servers : ℕ) where
-  failed_elsewhere : {T : Type 0} (here before now : ℕ) (f : RunFault) → IsElsewhere {T = T} servers here (Err f) → IsFailure {T = T} (IsOfRun servers) here (Err f) before now
-  failed_elsewhere here before now (fault.DiskFault s) h = (h.0, λ is. absurd (h.1 is))
-  failed_elsewhere here before now fault.OutOfMemory h = tt
-  failed_elsewhere here before now fault.JournalFull h = tt
-  failed_elsewhere here before now (fault.Start s f) h = (h.0, λ is. absurd (h.1 is))
+  failed_elsewhere : (T : Type 0) (here before now : ℕ) (f : RunFault) → IsElsewhere {T = T} servers here (Err f) → IsFailure {T = T} (IsOfRun servers) here (Err f) before now
+  failed_elsewhere T here before now (fault.DiskFault s) h = (h.0, λ is. absurd (h.1 is))
+  failed_elsewhere T here before now fault.OutOfMemory h = tt
+  failed_elsewhere T here before now fault.JournalFull h = tt
+  failed_elsewhere T here before now (fault.Start s f) h = (h.0, λ is. absurd (h.1 is))
 
-  told_elsewhere : {T : Type 0} (here : ℕ) (f : RunFault) → IsElsewhere {T = T} servers here (Err f) → IsToldFault {T = T} here (Err f)
-  told_elsewhere here (fault.DiskFault s) h = tt
-  told_elsewhere here fault.OutOfMemory h = tt
-  told_elsewhere here fault.JournalFull h = tt
-  told_elsewhere here (fault.Start s f) h = λ is. absurd (h.1 is)
+  told_elsewhere : (T : Type 0) (here : ℕ) (f : RunFault) → IsElsewhere {T = T} servers here (Err f) → IsToldFault {T = T} here (Err f)
+  told_elsewhere T here (fault.DiskFault s) h = tt
+  told_elsewhere T here fault.OutOfMemory h = tt
+  told_elsewhere T here fault.JournalFull h = tt
+  told_elsewhere T here (fault.Start s f) h = λ is. absurd (h.1 is)
 
-  counted_elsewhere : {T : Type 0} (here before now : ℕ) (f : RunFault) → IsElsewhere {T = T} servers here (Err f) → now ≡ before → AreCountedIn {T = T} here (Err f) before now
-  counted_elsewhere here before now (fault.DiskFault s) h same = (λ is. absurd (h.1 is), λ away. same)
-  counted_elsewhere here before now fault.OutOfMemory h same = same
-  counted_elsewhere here before now fault.JournalFull h same = same
-  counted_elsewhere here before now (fault.Start s f) h same = (λ is. absurd (h.1 is), λ away. same)
+  counted_elsewhere : (T : Type 0) (here before now : ℕ) (f : RunFault) → IsElsewhere {T = T} servers here (Err f) → now ≡ before → AreCountedIn {T = T} here (Err f) before now
+  counted_elsewhere T here before now (fault.DiskFault s) h same = (λ is. absurd (h.1 is), λ away. same)
+  counted_elsewhere T here before now fault.OutOfMemory h same = same
+  counted_elsewhere T here before now fault.JournalFull h same = same
+  counted_elsewhere T here before now (fault.Start s f) h same = (λ is. absurd (h.1 is), λ away. same)
 
   -- what went well here, while another server's fault ends the whole
   pub gone_elsewhere : {T : Type 0} (P : Type 0) (u v : V) (x : T) (f : RunFault) → HasGoneBy {T = T} G (IsOfRun servers) P u v (Ok x) → IsElsewhere {T = T} servers (G.server u) (Err f) → HasGoneBy {T = T} G (IsOfRun servers) P u v (Err f)
-  gone_elsewhere P u v x f h away = record {
+  gone_elsewhere {T} P u v x f h away = record {
     same = h.same;
     later = h.later;
-    failed = failed_elsewhere (G.server u) (G.faults u) (G.faults v) f away;
-    told = λ e. told_elsewhere (G.server u) f away;
+    failed = failed_elsewhere T (G.server u) (G.faults u) (G.faults v) f away;
+    told = λ e. told_elsewhere T (G.server u) f away;
     free = h.free;
-    counted = λ p e. counted_elsewhere (G.server u) (G.faults u) (G.faults v) f away (h.counted p e);
+    counted = λ p e. counted_elsewhere T (G.server u) (G.faults u) (G.faults v) f away (h.counted p e);
   }
 
   -- a fault that names this server alone
@@ -61,7 +61,7 @@ module _ {V : Type 0} (G : VaultGhosts V) (servers : ℕ) where
   named_elsewhere k n before now (Err fault.JournalFull) of other h = tt
   named_elsewhere k n before now (Err (fault.Start s f)) of other h = (subst (IsOfRun servers) (sym h.0) of, λ is. other (sym is ∙ h.0))
 
-  pub goes_named : {T U : Type 0} (k : ℕ) (u v : V) (x : U) (r : Result T RunFault) → IsOfRun servers k → G.server u ≡ k → HasGoneBy G (λ (s : ℕ). s ≡ k) (Unit {0}) u v r → GoesOn servers k (Ok {A = U} x) r
+  pub goes_named : {T U : Type 0} (k : ℕ) (u v : V) (x : U) (r : Result T RunFault) → IsOfRun servers k → G.server u ≡ k → HasGoneBy G (λ (s : ℕ). s ≡ k) (Unit {0}) u v r → GoesOn {T = U} servers k (Ok x) r
   goes_named k u v x r of here h = λ n other. named_elsewhere k n (G.faults u) (G.faults v) r of other (subst (λ (m : ℕ). IsFailure (λ (s : ℕ). s ≡ k) m r (G.faults u) (G.faults v)) here h.failed)
 
   pub gone_named : {T : Type 0} (k : ℕ) (u v : V) (r : Result T RunFault) → IsOfRun servers k → HasGoneBy G (λ (s : ℕ). s ≡ k) (Unit {0}) u v r → HasGoneBy G (IsOfRun servers) (Unit {0}) u v r

@@ -30,7 +30,7 @@ use Rattle.alp_cluster.specs.Station.{standing, seat_for}
 use Rattle.alp_cluster.specs.Stations.{course_of}
 use Rattle.alp_cluster.specs.declared.fault.RunFault.{RunFault}
 use Rattle.alp_cluster.specs.declared.stations.Stations.{Stations}
-use Rattle.alp_top.specs.Volumes.{IsRightAt, IsCutShort}
+use Rattle.alp_top.specs.Volumes.{IsBare, IsRightAt, IsCutShort}
 use Rattle.alp_top.proofs.AloneLemmas.{own_recorded, IsLone, lone}
 use Rattle.alp_top.proofs.BegunLemmas.{begun_of_run}
 use Rattle.alp_top.proofs.ClientLemmas.{sent_alone, IsSaid, of_clients}
@@ -38,7 +38,7 @@ use Rattle.alp_top.proofs.SeatedLemmas.{seat_on, numbered, proper_course, many}
 use Rattle.alp_top.proofs.SeveralLemmas.{all_seat}
 use Rattle.alp_top.proofs.SingleLemmas.{single, IsSingle, proper}
 
-module _ {V : Type 0} (G : Ghosts V) (lines : List NumberedLine) (f : RunFault) (left : Stations V) (h : HasEndedEarly G (servers_said lines) lines f left) (told : TellAll (course_of G h.last)) where
+module _ {V : Type 0} (G : Ghosts V) (lines : List NumberedLine) (f : RunFault) (left : Stations V) (h : HasEndedEarly G (servers_said lines) lines f left) (told : TellAll (course_of G h.last)) (bare : servers_said lines ≡ 1 → IsBare (seat_at (course_of G h.last) 1).opening) where
   abbrev r : Course
   r = course_of G h.last
 
@@ -73,16 +73,17 @@ module _ {V : Type 0} (G : Ghosts V) (lines : List NumberedLine) (f : RunFault) 
       let tells : IsTrue (G.tells m.node.kept.vault) = subst (λ (s : Seat). IsTrue s.tells) same (all_seat (λ (s : Seat). IsTrue s.tells) r.seats 0 told (omega (arith, seats_many, one_is))) in
       let right : node.IsRight (start_in G m.node) (G.held m.node.kept.vault) m.node = m.keeps.on.kept.right tells in
       let sound : node.IsSoundStart seat.opening = subst (λ (s : Seat). node.IsSoundStart s.opening) is right.opening in
+      let found : IsBare seat.opening = subst (λ (s : Seat). IsBare s.opening) sits (bare one_is) in
       let lawful : IsLawful seat.opening seat.journal = subst (λ (s : Seat). IsLawful s.opening s.journal) is right.lawful in
       let number : seat.opening.server ≡ 1 = ap (λ (s : Seat). s.opening.server) (sym is) ∙ m.number_is in
       let servers : seat.opening.servers ≡ 1 = ap (λ (s : Seat). s.opening.servers) (sym is) ∙ m.keeps.on.all ∙ m.count_is ∙ h.count ∙ one_is in
       let as_read : logs.ServerLog = server_log seat in
       let g : IsSingle as_read = record {
         few = omega (arith, servers);
-        files = sound.files;
-        sizes = sound.sizes;
-        ready = sound.ready;
-        decisions = sound.decisions;
+        files = sound.parts.sound [] refl;
+        sizes = sound.parts.sized;
+        ready = found.ready;
+        decisions = found.decisions;
         lawful = lawful;
         own = own_recorded seat.tells (first_stand seat.opening) (happenings_of h.hs) seat.journal seat.stand l.recorded;
         ranks = l.ranks;

@@ -37,7 +37,7 @@ use Rattle.alp_cluster.specs.declared.server.Server.TheVariants.{Fallen}
 use Rattle.alp_cluster.specs.declared.station.Station.{Station}
 use Rattle.alp_cluster.specs.declared.stations.Stations.{Stations}
 use Rattle.alp_top.specs.Disks.{notes_in}
-use Rattle.alp_top.specs.Volumes.{IsOpenedNew, IsOpenedOn, IsStored, IsCutShort, HasFilled, HasUsedUp}
+use Rattle.alp_top.specs.Volumes.{IsBare, IsOpenedNew, IsOpenedOn, IsStored, IsCutShort, HasFilled, HasUsedUp}
 use Rattle.alp_top.proofs.BeginLemmas.{holds_by}
 use Rattle.alp_top.proofs.CutLemmas.{cut_short}
 use Rattle.alp_top.proofs.GivenLemmas.{up_vault}
@@ -46,7 +46,7 @@ use Rattle.alp_top.proofs.PairLemmas.{same_there}
 use Rattle.alp_top.proofs.PlayedOutLemmas.{some_same, map_at, opening_same, tell_all}
 use Rattle.alp_top.proofs.SeveralLemmas.{one_node}
 use Rattle.alp_top.proofs.SeatedLemmas.{there_less, seat_on, many}
-use Rattle.alp_top.proofs.StoredLemmas.{opened_new, opened_on, started_as, same_start, stored}
+use Rattle.alp_top.proofs.StoredLemmas.{bare_as, opened_new, opened_on, started_as, same_start, stored}
 
 -- ---- a place that is none
 
@@ -107,6 +107,15 @@ module _ {V D T : Type 0} (G : VaultGhosts V) (g : Ghosts D) (tells : Bool) (tol
       opening : m.node.opening ≡ x.node.opening
       opening = opening_same first left (n - 1) x.station x.left x.node m.node opens x.stood x.was x.stands still
 
+      -- where it is the only one, it opened with nothing
+      bare_here : servers_said lines ≡ 1 → IsBare (seat_at r 1).opening
+      bare_here one =
+          let low : 1 ≤ n = here.first in
+          let high : n ≤ servers_said lines = here.last in
+          let first_is : n ≡ 1 = omega (arith, low, high, one) in
+          subst (λ (k : ℕ). IsBare (seat_at r k).opening) first_is (subst (λ (z : Seat). IsBare z.opening) (sym sits)
+          (bare_as G g (sizes_said lines n) n (servers_said lines) x.node m.node x.vault x.taken x.given x.begun.started (x.begun.told told) m.keeps.on m.number_is opening still_tells low high one))
+
       -- its journal was full
       pub still_filled : TellAll r → entries_limit ≤ (seat_at r n).stand.place → (seat_at r n).stand.is_down ≡ false → f ≡ run_fault.JournalFull → HasFilled g lines n x.taken x.given
       still_filled all full up is =
@@ -124,7 +133,7 @@ module _ {V D T : Type 0} (G : VaultGhosts V) (g : Ghosts D) (tells : Bool) (tol
                 subst (λ (z : Seat). IsStored g (StopNone lines) n (servers_said lines) (sizes_said lines n) z.opening (notes_in G m.node) (state_after next (opened z.opening) z.journal) x.taken x.given) (sym sits)
                 (stored G g (sizes_said lines n) n (servers_said lines) x.node m.node x.vault x.taken x.given x.begun.started (x.begun.told told) m.keeps.on m.number_is opening still_tells node_up x.gone.same (ap G.held vault_is) serves x.back (StopNone lines) here.first here.last
                 (λ none. subst (λ (q : RunFault). AreCountedIn {T = T} (G.server x.node.kept.vault) (Err q) (G.faults x.node.kept.vault) (G.faults x.vault)) is (x.gone.counted none x.begun.started.idle.free)));
-            short = subst (λ (q : RunFault). IsCutShort lines q r) is (cut_short G lines f left early all);
+            short = subst (λ (q : RunFault). IsCutShort lines q r) is (cut_short G lines f left early all (λ one. bare_here one));
           }
 
   -- ---- at a full journal
@@ -240,6 +249,12 @@ module _ {V D T : Type 0} (G : VaultGhosts V) (g : Ghosts D) (tells : Bool) (tol
         let opening : e.node.opening ≡ x.node.opening = sym stays.falls.opening ∙ sym stays.stays.opening ∙ opened_so in
         let sits_node : seat_at r (k + 1) ≡ seat_for G y.is_fused y.ranks.items (standing e.node) = sits ∙ ap (λ (n : NodeState V). seat_for G y.is_fused y.ranks.items (standing n)) node_is in
         let same : IsSameVault G.tells G.volume G.server G.servers x.node.kept.vault x.vault = x.gone.same in
+        let bare_then : servers_said lines ≡ 1 → IsBare (seat_at r 1).opening = (λ alone.
+        let low : 1 ≤ k + 1 = here.first in
+        let high : k + 1 ≤ servers_said lines = here.last in
+        let first_is : k + 1 ≡ 1 = omega (arith, low, high, alone) in
+        subst (λ (j : ℕ). IsBare (seat_at r j).opening) first_is (subst (λ (z : Seat). IsBare z.opening) (sym sits_node)
+        (bare_as G g (sizes_said lines (k + 1)) (k + 1) (servers_said lines) x.node e.node x.vault x.taken x.given x.begun.started (x.begun.told told) on number opening tells_node low high alone))) in
         let server_of : G.server x.vault ≡ k + 1 = same.number ∙ x.begun.started.on.kept.number ∙ x.begun.started.number in
         let servers_are : G.servers x.vault ≡ servers_said lines = same.of_all ∙ x.begun.started.on.kept.all ∙ x.begun.started.count in
         let volume : G.volume x.vault ≡ (start_in G e.node).sizes = same.sizes ∙ ap G.volume (sym x.begun.started.idle.opening) ∙ ap (λ o. G.volume o.vault.value) (sym opening) in
@@ -254,7 +269,7 @@ module _ {V D T : Type 0} (G : VaultGhosts V) (g : Ghosts D) (tells : Bool) (tol
               (opened_new G g (sizes_said lines (k + 1)) (k + 1) (servers_said lines) x.node e.node x.vault x.taken x.given x.begun.started (x.begun.told told) on number opening tells_node new);
           found = λ old. subst (λ (z : Seat). IsOpenedOn (k + 1) (servers_said lines) (g.size x.taken) (g.seen x.taken) z.opening (notes_in G e.node)) (sym sits_node)
               (opened_on G g (sizes_said lines (k + 1)) (k + 1) (servers_said lines) x.node e.node x.vault x.taken x.given x.begun.started (x.begun.told told) on number opening tells_node old);
-          short = subst (λ (q : RunFault). IsCutShort lines q r) (is ∙ ap (λ (n : ℕ). run_fault.Start n start_fault.EpochEnd) server_is) (cut_short G lines f left early all_told_then);
+          short = subst (λ (q : RunFault). IsCutShort lines q r) (is ∙ ap (λ (n : ℕ). run_fault.Start n start_fault.EpochEnd) server_is) (cut_short G lines f left early all_told_then bare_then);
           left = λ image may.
               let (c, holds, may_be) = x.back.whole tells_vault image may in (
                 c,

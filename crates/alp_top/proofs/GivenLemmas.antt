@@ -186,10 +186,10 @@ module _ {V D : Type 0} (G : VaultGhosts V) (g : Ghosts D) (tells : Bool) (told 
   pub start_ended : HasRunCause g lines before after bay_before bay_after f
   start_ended = go f (h.next_one.refused told) h.next_one.of_server next_with
     where
-      abbrev Refusal : NoReport → Type 0
+      Refusal : NoReport → Type 0
       Refusal q = IsRefused g lines (k + 1) (h.mid (k + 1)) (now (k + 1)) bay_before bay_after q
 
-      abbrev Next : NoReport → Type 1
+      Next : NoReport → Type 1
       Next q = (P : ℕ → D → D → Type 0) → IsReturned g (sizes_said lines (k + 1)) (h.mid (k + 1)) (now (k + 1)) (WhyNotBegun g (sizes_said lines (k + 1)) (k + 1) (servers_said lines) q)
           → ((d e : D) → WhyNotBegun g (sizes_said lines (k + 1)) (k + 1) (servers_said lines) q d e → P (k + 1) d e) → IsReturned g (sizes_said lines (k + 1)) (h.mid (k + 1)) (now (k + 1)) (P (k + 1))
 

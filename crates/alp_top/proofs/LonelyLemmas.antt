@@ -50,6 +50,7 @@ use Rattle.alp_top.specs.Headline.{IsOfScript, IsAloneScript, IsAloneFaithful, I
 use Rattle.alp_top.specs.Logs.{Log, ServerOfLog, openings, start_of, log_of, lists_of}
 use Rattle.alp_top.specs.Reports.{end_of, files_text_of, owners_text_of, begun_at, counts_text, report_of, tallied_text, tallied_report}
 use Rattle.alp_top.specs.Tallies.{sum_of, one_more, no_tally, is_made, none_seen, seen_from, with_seen, tally_from, tally_in, begun_in, committed_in}
+use Rattle.alp_top.specs.Volumes.{IsBare}
 use Rattle.alp_top.specs.declared.finish.Rests.{Rests}
 use Rattle.alp_top.specs.declared.tally.Seen.{Seen}
 use Rattle.alp_top.specs.declared.tally.Tally.{Tally}
@@ -112,7 +113,7 @@ module _ {V : Type 0} (G : Ghosts V) where
 -- ---- all of it
 
 module _ {V : Type 0} (G : Ghosts V) (lines : List NumberedLine) (last : Stations V) (vs : List (Vec Item Global)) (text printed : List ℕ) (log : Log V) (rests : Rests V) (rises : RisesFrom 1 lines)
-    (out : HasPlayedOut G (servers_said lines) lines last vs text) (kept : AreRestsOf G last.all.items rests) (is : IsReportOf rests vs text log printed) (told : TellAll (course_of G last)) (alone : servers_said lines ≡ 1) where
+    (out : HasPlayedOut G (servers_said lines) lines last vs text) (kept : AreRestsOf G last.all.items rests) (is : IsReportOf rests vs text log printed) (told : TellAll (course_of G last)) (alone : servers_said lines ≡ 1) (bare : IsBare (seat_at (course_of G last) 1).opening) where
   abbrev r : Course
   r = course_of G last
 
@@ -135,6 +136,8 @@ module _ {V : Type 0} (G : Ghosts V) (lines : List NumberedLine) (last : Station
     lawful : IsLawful (start_of G 1 x) x.journal
     answered : IsAnswered (start_of G 1 x) x.journal
     caused : Along next IsDone (opened (start_of G 1 x)) x.journal
+    found : IsBare (start_of G 1 x)
+    rests : (t : TransId) → (end_of G 1 x).holder.lives t ≡ None
 
   has_lone : HasLone
   has_lone =
@@ -170,6 +173,8 @@ module _ {V : Type 0} (G : Ghosts V) (lines : List NumberedLine) (last : Station
         lawful = subst (λ (o : Start). IsLawful o x.journal) start_is (subst (IsLawful (start_in G m.node)) journal_is right.lawful);
         answered = subst (λ (o : Start). IsAnswered o x.journal) start_is (subst (IsAnswered (start_in G m.node)) journal_is right.caused);
         caused = subst (λ (o : Start). Along next IsDone (opened o) x.journal) start_is (subst (Along next IsDone (opened (start_in G m.node))) journal_is (m.keeps.on.answered telling));
+        found = subst IsBare opening (subst (λ (s : Seat). IsBare s.opening) seat bare);
+        rests = λ t. ap (λ (q : State). q.holder.lives t) (sym ((λ i. state_after next (opened (start_is i)) (journal_is i)))) ∙ ap (λ (s : Seat). s.stand.state.holder.lives t) (sym same) ∙ out.rests alone (subst (λ (s : Seat). IsTrue s.tells) (sym seat) tells) t;
       }
 
   module _ (l : HasLone) where
@@ -188,10 +193,10 @@ module _ {V : Type 0} (G : Ghosts V) (lines : List NumberedLine) (last : Station
     is_single : IsSingle as_read
     is_single = record {
       few = (let one_is : (start_of G 1 x).servers ≡ 1 = refl in omega (arith, one_is));
-      files = l.opening.files;
-      sizes = l.opening.sizes;
-      ready = l.opening.ready;
-      decisions = l.opening.decisions;
+      files = l.opening.parts.sound [] refl;
+      sizes = l.opening.parts.sized;
+      ready = l.found.ready;
+      decisions = l.found.decisions;
       lawful = l.lawful;
       own = own;
       ranks = l.ranks;
@@ -223,12 +228,12 @@ module _ {V : Type 0} (G : Ghosts V) (lines : List NumberedLine) (last : Station
         let p : IsProper (log_of G log) = subst IsProper (sym log_single) (proper as_read handed is_single) in
         let clients : AreOfClients (log_of G log) = subst AreOfClients (sym log_single) (of_clients as_read handed out.turns is_said) in
         let h = history (log_of G log) p in
-        let counts = tally_is (start_of G 1 x) x.journal l.opening.ready l.opening.decisions l.lawful own l.answered.1 in
+        let counts = tally_is (start_of G 1 x) x.journal l.found.ready l.found.decisions l.lawful own l.answered.1 in
         record {
           server = x;
           one = l.one;
           number = l.number;
-          counted = report_is G lines log x l.one l.opening.decisions counts.0 (counts.1 ∙ sym (decided_many as_read handed is_single) ∙ ap (λ (y : logs.Log). length (decided y)) (sym log_single));
+          counted = report_is G lines log x l.one l.found.decisions counts.0 (counts.1 ∙ sym (decided_many as_read handed is_single) ∙ ap (λ (y : logs.Log). length (decided y)) (sym log_single));
           faithful = record {
             script = record {
               occurred = out.hs;
@@ -242,6 +247,8 @@ module _ {V : Type 0} (G : Ghosts V) (lines : List NumberedLine) (last : Station
             };
             lawful = l.lawful;
             caused = l.caused;
+            bare = l.found;
+            rests = l.rests;
           };
           serial = record { replies = h.replies; files = h.files };
           kept = record { told = promises (log_of G log) p clients; whole = wholeness (log_of G log) p };

@@ -305,6 +305,6 @@ module _ {D : Type 0} {g : Ghosts D} (lines : List NumberedLine) (before after :
       go fault.JournalFull x = inl refl
       go (fault.EpochEnd n) x =
           let e = x.returned.each n x.cause in
-          elim e.left refl [ inl none ↦ absurd (none.0.old ((on (HasDiskCause g lines (fault.EpochEnd n)) n x e.taken e.from_there).epoch none.1)) | inr over ↦ inr refl ]
+          elim (e.left refl) [ inl none ↦ absurd (none.0.old ((on (HasDiskCause g lines (fault.EpochEnd n)) n x e.taken e.from_there).epoch none.1)) | inr over ↦ inr refl ]
       go (fault.NotAVolume n found) x = (let e = x.returned.each n x.cause in let why = e.left refl in absurd (why.0.old ((on (HasDiskCause g lines (fault.NotAVolume n found)) n x e.taken e.from_there).volume found why.1)))
       go (fault.Damaged n place) x = (let e = x.returned.each n x.cause in let why = e.left refl in absurd (why.0.old ((on (HasDiskCause g lines (fault.Damaged n place)) n x e.taken e.from_there).whole place why.1)))

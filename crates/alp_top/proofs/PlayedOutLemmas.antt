@@ -34,14 +34,14 @@ use Rattle.alp_top.specs.Endings.{IsLogAt, AreRestsOf, IsReportOf}
 use Rattle.alp_top.specs.Headline.{IsStoredBy, IsRunOf}
 use Rattle.alp_top.specs.Logs.{Log, ServerOfLog, openings, start_of}
 use Rattle.alp_top.specs.Reports.{end_of}
-use Rattle.alp_top.specs.Volumes.{pages_of, IsStored, AreReturned}
+use Rattle.alp_top.specs.Volumes.{pages_of, IsBare, IsStored, AreReturned}
 use Rattle.alp_top.specs.declared.finish.Rests.{Rests}
 use Rattle.alp_top.proofs.GoneAtLemmas.{IsGoneAt, IsDoneAt, done_at}
 use Rattle.alp_top.proofs.LonelyLemmas.{is_alone}
 use Rattle.alp_top.proofs.PairLemmas.{matched_at, same_there}
 use Rattle.alp_top.proofs.SeatedLemmas.{there_less, seat_on, many}
 use Rattle.alp_top.proofs.SeveralLemmas.{one_node, one_same, log_many, faithful, decided_whole, tallied}
-use Rattle.alp_top.proofs.StoredLemmas.{stored}
+use Rattle.alp_top.proofs.StoredLemmas.{stored, bare_as}
 
 -- ---- openings
 
@@ -95,6 +95,20 @@ module _ {V D U : Type 0} (G : VaultGhosts V) (g : Ghosts D) (tells : Bool) (tol
       let minus : i + 1 - 1 ≡ i = omega arith in
       let one : x.at.left ≡ s = same_there (slice_get last.all.items i) x.at.left s (ap (slice_get last.all.items) (sym minus) ∙ x.at.stands) at in
       subst (λ (z : Station V). IsTrue (seat_of G z).tells) one (subst (λ o. IsTrue (seat_for G x.at.left.is_fused x.at.left.ranks.items o).tells) (sym x.rests) (rest_told (i + 1) here)))
+
+  -- where it is the only one, it opened with nothing
+  bare_at : servers_said lines ≡ 1 → IsBare (seat_at (course_of G last) 1).opening
+  bare_at one_is =
+      let here : IsOneOf (servers_said lines) 1 = record { first = omega arith; last = omega (arith, one_is) } in
+      let x = at_end 1 here in
+      let seat : IsSeat (course_of G last) 1 = record { first = omega arith; last = (let count : length last.all.items ≡ servers_said lines = out.count in let all : length (course_of G last).seats ≡ length last.all.items = many G last out.on in omega (arith, one_is, count, all)) } in
+      let (s, at, m, sits) = seat_on G last out.on 1 seat in
+      let one : s ≡ x.at.left = same_there (slice_get last.all.items 0) s x.at.left at x.at.stands in
+      let node_is : m.node ≡ x.rest = one_node s.server m.node x.rest m.keeps.stands (ap (λ (z : Station V). z.server) one ∙ x.rests) in
+      let opening : x.rest.opening ≡ x.at.node.opening = opening_same first last 0 x.at.station x.at.left x.at.node x.rest opens x.at.stood x.at.was x.at.stands x.rests in
+      let number : x.rest.kept.server ≡ 1 = ap (λ (k : NodeState V). k.kept.server) (sym node_is) ∙ m.number_is in
+      subst (λ (z : Seat). IsBare z.opening) (sym sits) (subst (λ (k : NodeState V). IsBare (start_in G k)) (sym node_is)
+      (bare_as G g (sizes_said lines 1) 1 (servers_said lines) x.at.node x.rest x.at.vault x.at.taken x.at.given x.at.begun.started (x.at.begun.told told) (subst (λ (k : NodeState V). IsOn G k) node_is m.keeps.on) number opening (rest_told 1 here) (omega arith) (omega (arith, one_is)) one_is))
 
   -- what it holds is what its journal says
   stored_at : (n : ℕ) (here : IsOneOf (servers_said lines) n) → IsStoredBy G g lines log n (at_end n here).at.taken (at_end n here).at.given
@@ -152,5 +166,5 @@ module _ {V D U : Type 0} (G : VaultGhosts V) (g : Ghosts D) (tells : Bool) (tol
     faithful = faithful G lines last vs text printed log rests rises out kept is all_told;
     stored = returned_all;
     whole = decided_whole G lines last vs text printed log rests rises out kept is all_told;
-    alone = λ one. is_alone G lines last vs text printed log rests rises out kept is all_told one;
+    alone = λ one. is_alone G lines last vs text printed log rests rises out kept is all_told one (bare_at one);
   }

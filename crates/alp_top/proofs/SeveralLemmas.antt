@@ -192,6 +192,7 @@ module _ {V : Type 0} (G : Ghosts V) (lines : List NumberedLine) (last : Station
     numbered = numbered G last out.on;
     servers = server_logs;
     up = out.up;
+    taken = out.taken;
   }
 
   text_same : text ≡ turns_text (turns_of lines (lists_of G log))
@@ -242,7 +243,7 @@ module _ {V : Type 0} (G : Ghosts V) (lines : List NumberedLine) (last : Station
     log_same = (λ i. record { servers = server_logs i; handed = runs.handed_of (lists_of G log) })
 
     pub faithful : IsFaithful G lines log
-      faithful = record {
+    faithful = record {
       script = of_script;
       tells = told;
       linked = subst logs.IsLinked log_same (linking out.ran.first r out.hs (runs.handed_of (lists_of G log)) out.ran.is_first out.ran.course);

@@ -21,13 +21,13 @@ use Rattle.alp_course.specs.Courses.{Course, Occurrence, IsOneOf, TellAll, AreCo
 use Rattle.alp_course.specs.Links.{IsFirst, AreNumbered, server_log}
 use Rattle.alp_course.specs.Lone.{happenings_of}
 use Rattle.alp_course.specs.Plays.{ArePlayed}
-use Rattle.alp_course.specs.Settles.{AreUp}
+use Rattle.alp_course.specs.Settles.{AreUp, AreTaken}
 use Rattle.alp_course.specs.Turns.{turns_of, own_in}
 use Rattle.alp_cluster.specs.Runs.{StopNone}
 use Rattle.alp_cluster.specs.Servers.{IsDone}
 use Rattle.alp_top.specs.Logs.{Log, ServerOfLog, openings, start_of, log_of, lists_of}
 use Rattle.alp_top.specs.Reports.{end_of, report_of, tallied_report}
-use Rattle.alp_top.specs.Volumes.{IsStored, AreReturned, HasRunCause, StartsOn}
+use Rattle.alp_top.specs.Volumes.{IsBare, IsStored, AreReturned, HasRunCause, StartsOn}
 use Rattle.alp_top.specs.declared.fault.NoReport.{NoReport}
 
 -- ---- what happened
@@ -51,6 +51,8 @@ pub record IsOfScript {V : Type 0} (G : Ghosts V) (lines : List NumberedLine) (l
   pub numbered : AreNumbered 1 last.seats
   pub servers : list_map server_log last.seats ≡ (log_of G log).servers
   pub up : AreUp last
+  -- no message of one server to another is left
+  pub taken : AreTaken last
 
 -- Each journal is lawful. Each reply has its cause, and comes just where that stands, with what comes about by it; no device failed. The
 -- journals are linked: ranks rise along each, and each message that arrives was sent before.
@@ -107,11 +109,13 @@ pub record IsAloneScript {V : Type 0} (G : Ghosts V) (tells : Bool) (lines : Lis
   pub up : last.is_down ≡ false
   pub ranks : x.ranks.items ≡ ranks_from 1 x.journal
 
--- its journal is lawful, and each entry has its cause
+-- Its journal is lawful, and each entry has its cause. It opened with no part and no decision, and behind it all no transaction is live.
 pub record IsAloneFaithful {V : Type 0} (G : Ghosts V) (lines : List NumberedLine) (log : Log V) (x : ServerOfLog V) : Type 0 where
   pub script : IsAloneScript G true lines log x
   pub lawful : IsLawful (start_of G 1 x) x.journal
   pub caused : Along next IsDone (opened (start_of G 1 x)) x.journal
+  pub bare : IsBare (start_of G 1 x)
+  pub rests : (t : TransId) → (end_of G 1 x).holder.lives t ≡ None
 
 -- What holds of the only server of a run, which left this log: the report is of what its journal says, all decided transactions are one
 -- thread's history, and what clients were told is kept.

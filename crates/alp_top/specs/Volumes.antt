@@ -12,6 +12,7 @@ use Rattle.alp_bay.specs.Bays.{IsTaken}
 use Rattle.alp_disk.specs.Disk.{Image}
 use Rattle.alp_disk.specs.declared.disk.Disk.{Ghosts}
 use Rattle.alp_fields.specs.ClockNote.{clock_name, clock_form, AreClockNotes}
+use Rattle.alp_files.specs.Apart.{AreSized}
 use Rattle.alp_files.specs.Sound.{AreSound}
 use Rattle.alp_journal.specs.Opening.{Start, start_at}
 use Rattle.alp_journal.specs.Along.{Along, state_after}
@@ -21,7 +22,6 @@ use Rattle.alp_journal.specs.Moves.{next}
 use Rattle.alp_journal.specs.State.{State, opened}
 use Rattle.alp_node.specs.Downs.{IsLeftOf}
 use Rattle.alp_node.specs.Durable.{IsSaid}
-use Rattle.alp_node.specs.Nodes.{IsSoundStart}
 use Rattle.alp_node.specs.Starts.{raised}
 use Rattle.alp_node.specs.declared.start.StartFault.TheVariants.{EpochEnd}
 use Rattle.alp_store.specs.Holding.{Holds}
@@ -76,10 +76,18 @@ pub record IsOpenedOn (server servers n : ℕ) (image : Image) (o : Start) (note
 
 -- ---- what a disk holds behind the run
 
--- Of a server that runs alone there is no note but that of the epoch and the clock, and what it holds is sound to start on.
+-- a server finds no part of a transaction that is ready, and no decision that is not at its end
+pub record IsBare (o : Start) : Type 0 where
+  pub ready : o.ready ≡ []
+  pub decisions : o.decisions ≡ []
+
+-- Of a server that runs alone there is no note but that of the epoch and the clock. What it holds is sound to start on, and nothing is
+-- found then.
 pub record IsSoundAlone (o : Start) (held : Contents) : Type 0 where
   pub clock : AreClockNotes held.notes
-  pub sound : IsSoundStart (start_at 1 1 o.sizes held.cells held.notes)
+  pub files : AreSound held.cells
+  pub sizes : AreSized (map.get held.cells)
+  pub bare : IsBare (start_at 1 1 o.sizes held.cells held.notes)
 
 -- What the server holds in the end by its journal is what the disk that was given back holds, and what a crash leaves of it. Where this
 -- holds, the disk did not fail.

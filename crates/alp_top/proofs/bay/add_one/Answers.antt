@@ -38,17 +38,17 @@ returns-in-Err-clause-refused g c =
     let one = c.in_ok-node.ensures.begun in
     let n = c.in_ok-node.node in
     let at = ap (λ p. p.1) c.into_parts-vault.ensures ∙ ap (λ (m : NodeState _). m.kept.vault) c.in-Err.ensures.back in
-    let as = c.give.ensures.given in
-    let filled = λ told. as.filled (subst IsTrue (sym c.in_ok-node.ensures.tells) told) in
+    let placed = c.give.ensures.given in
+    let filled = λ told. placed.filled (subst IsTrue (sym c.in_ok-node.ensures.tells) told) in
     record {
       refused = λ told. inr (record {
           taken = one.disk;
           from_there = one.is.was told;
-          given = as.device;
+          given = placed.device;
           there = (filled told).here;
-          size = as.back.sized ∙ ap (λ v. pages_of (V.volume v)) at ∙ sym one.is.started.sized;
-          later = (let now = as.back.faults ∙ ap V.faults at ∙ one.is.started.faults in omega (arith, now));
-          left = as.back.faults ∙ ap V.faults at ∙ one.is.started.faults;
+          size = placed.back.sized ∙ ap (λ v. pages_of (V.volume v)) at ∙ sym one.is.started.sized;
+          later = (let now = placed.back.faults ∙ ap V.faults at ∙ one.is.started.faults in omega (arith, now));
+          left = placed.back.faults ∙ ap V.faults at ∙ one.is.started.faults;
         });
       others = λ told k away. (filled told).others k away ∙ one.others told k away;
       of_server = tt;

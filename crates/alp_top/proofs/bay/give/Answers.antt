@@ -17,15 +17,15 @@ pub returns-clause-given : goal.returns-clause-given
 returns-clause-given g c =
     let F = fuse_disk.ghosts g.row.B-Device g.B.Device.Disk g.B.Device.Disk-dict g.B.Device.Destruct-dict in
     let h = g.B.Device.Disk in
-    let as = c.give_disk.ensures.given in
+    let placed = c.give_disk.ensures.given in
     let v = c.args.vault in
     let a = c.into_disk-disk.result in
     let last = c.into_disk-disk.ensures in
     let here = λ told. subst IsTrue (sym (ap F.tells last.disk)) told in
     record {
-      device = as.device;
+      device = placed.device;
       back =
-          given_by F h a as.device as.alike _ v (ap F.tells last.disk) (sym last.sized.total) (ap F.faults last.disk) (λ told serves. c.knows.ensures.fitting _ told (c.knows.ensures.as_held told serves))
+          given_by F h a placed.device placed.alike _ v (ap F.tells last.disk) (sym last.sized.total) (ap F.faults last.disk) (λ told serves. c.knows.ensures.fitting _ told (c.knows.ensures.as_held told serves))
           (λ told serves. holds_by _ _ _ _ _ _ _ _ (F.seen a) (contents_of F v.log) refl refl (ap F.size (sym last.disk)) refl (last.holds (here told) serves)) (λ told serves. last.left (here told) serves)
           (λ told image may.
           let (x, holds) = last.whole (here told) image may in (
@@ -33,6 +33,6 @@ returns-clause-given g c =
             holds_by _ _ _ _ _ _ _ _ image x refl refl (ap F.size (sym last.disk)) refl holds,
             record { image = image; left = subst (λ q. F.may_leave q image) last.disk may; holds = holds },
           ))
-          (g.met.B.Device.Disk.as_read as.device);
-      filled = as.filled;
+          (g.met.B.Device.Disk.as_read placed.device);
+      filled = placed.filled;
     }

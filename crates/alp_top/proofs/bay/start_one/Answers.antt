@@ -86,19 +86,19 @@ returns-in-Err-clause-refused g c =
       faults = sym c.new.ensures.faults;
       leaves = record { no_more = c.new.ensures.crash.no_fewer; no_fewer = c.new.ensures.crash.no_more };
     } in
-    let as = c.give_disk.ensures.given in
-    let filled = λ told. as.filled (subst IsTrue (sym took.tells) told) in
+    let placed = c.give_disk.ensures.given in
+    let filled = λ told. placed.filled (subst IsTrue (sym took.tells) told) in
     let x = c.in-Err.ensures in
     record {
       refused = λ told. inr (
-          returned_alike F h S c.new.result c.in-Err.disk c.in_ok-device.device as.device taken as.alike (g.B.Bay.at c.args.bay.now c.args.server) (g.B.Bay.at c.give_disk.new.bay c.args.server)
+          returned_alike F h S c.new.result c.in-Err.disk c.in_ok-device.device placed.device taken placed.alike (g.B.Bay.at c.args.bay.now c.args.server) (g.B.Bay.at c.give_disk.new.bay c.args.server)
           (subst (λ (m : ℕ). IsTaken h (g.B.Bay.at c.args.bay.now c.args.server) m c.in_ok-device.device) (c.pages_of.ensures ∙ ap pages_of c.sizes_of-sizes.ensures) (took.taken told)) (filled told).here x.size x.later _
-          (cause_alike F h S c.new.result c.in-Err.disk c.in_ok-device.device as.device taken as.alike c.args.server (servers_said c.args.lines.now) c.in-Err.fault
+          (cause_alike F h S c.new.result c.in-Err.disk c.in_ok-device.device placed.device taken placed.alike c.args.server (servers_said c.args.lines.now) c.in-Err.fault
           (subst (λ (m : ℕ). WhyNotBegun F S c.args.server m c.in-Err.fault c.new.result c.in-Err.disk) c.requires.servers
           (subst (λ (z : Sizes). WhyNotBegun F z c.args.server c.args.servers c.in-Err.fault c.new.result c.in-Err.disk) c.sizes_of-sizes.ensures (x.cause (subst IsTrue (sym c.new.ensures.tells) (took.told told))))))
         );
       others = λ told k away. (filled told).others k away ∙ (took.emptied told).others k away;
-      of_server = counted_alike F h S c.new.result c.in-Err.disk c.in_ok-device.device as.device taken as.alike c.args.server c.in-Err.fault x.counted;
+      of_server = counted_alike F h S c.new.result c.in-Err.disk c.in_ok-device.device placed.device taken placed.alike c.args.server c.in-Err.fault x.counted;
     }
 
 pub returns-in-Err-clause-bay : goal.returns-in-Err-clause-bay
