@@ -397,7 +397,7 @@ module _ {V : Type 0} (a : Account) (held : Contents) (k : ServerState V) (clien
         intended = λ q f m in_file is. (let wrong : None ≡ Some m = is in cc);
         sized = tt;
         count = refl;
-        known = λ r. refl;
+        known = (λ r. refl, tt);
       }) u)
 
   -- the client has the parts that it had

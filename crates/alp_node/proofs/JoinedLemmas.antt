@@ -343,7 +343,7 @@ module _ {V : Type 0} (a : Account) (faults : ℕ) (held : Contents) (k : Server
         intended = λ q f m in_file at. (let wrong : None ≡ Some m = at in cc);
         sized = tt;
         count = refl;
-        known = λ r. refl;
+        known = (λ r. refl, tt);
       }) u)
 
   pub joined_stepped : (x : Answer) (joins : Joins) (locks : Table) → IsAs a held k → k.is_down ≡ false → AreNamed k.waits → joins ≡ with_entered k.joins j

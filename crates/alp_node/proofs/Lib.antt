@@ -106,6 +106,17 @@ pub mod EndingLemmas
 pub mod OutcomeLemmas
 pub mod JoinLemmas
 pub mod LogLemmas
+mod AbortReady
+mod LeftWrites
+mod LetGoWrites
+mod NoteWrites
+mod WriteSteps
+mod MadeAs
+mod ApplySteps
+mod ForgetSteps
+mod CountedLocks
+mod VoteForSteps
+mod VoteNotes
 pub mod FinishedFates
 pub mod TickSays
 pub mod OpenJoins

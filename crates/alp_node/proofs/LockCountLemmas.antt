@@ -14,7 +14,7 @@ use Rattle.alp_files.specs.Locks.{Need, joined, needs_made}
 use Rattle.alp_files.proofs.HoldingLemmas.{join_held-assoc, held_by-append, none-right}
 use Rattle.alp_locks.proofs.HeldLemmas.{tied}
 use Rattle.alp_journal.specs.Counts.{has_resource, with_resources}
-use Rattle.alp_node.specs.Covers.{AreHeld}
+use Rattle.alp_node.specs.Covers.{AreHeld, AreNamedOnce}
 use Rattle.alp_node.specs.Shapes.{fresh_on}
 
 has-push : (r q : Resource) (rs : List Resource) → has_resource r (rs ++ q ∷ []) ≡ has_resource r rs || eq_by_cmp resource_cmp r q
@@ -57,20 +57,52 @@ has-one_more r q rs = go (has_resource q rs) refl
             let here : has_resource r rs ≡ true = ap (λ (x : Resource). has_resource x rs) same ∙ e in
             here ∙ ap (λ (b : Bool). b || true) (sym here)
 
+-- one that is not named is named behind the others
+once_push : (q : Resource) (rs : List Resource) → has_resource q rs ≡ false → AreNamedOnce rs → AreNamedOnce (rs ++ q ∷ [])
+once_push q [] none once = (refl, tt)
+once_push q (x ∷ xs) none once = (has-push x q xs ∙ (λ i. once.0 i || apart i), once_push q xs (behind (eq_by_cmp resource_cmp q x) (has_resource q xs) none) once.1)
+  where
+    behind : (a b : Bool) → (a || b) ≡ false → b ≡ false
+    behind false b e = e
+    behind true b e = let wrong : true ≡ false = e in cc
+
+    before : (a b : Bool) → (a || b) ≡ false → a ≡ false
+    before false b e = refl
+    before true b e = e
+
+    apart : eq_by_cmp resource_cmp x q ≡ false
+    apart = go (eq_by_cmp resource_cmp x q) refl
+      where
+        go : (b : Bool) → eq_by_cmp resource_cmp x q ≡ b → b ≡ false
+        go false e = refl
+        go true e =
+            let same : x ≡ q = exact_resources x q (tied (resource_cmp x q) e) in
+            let wrong : true ≡ false = sym e ∙ ap (λ (z : Resource). eq_by_cmp resource_cmp z q) same ∙ sym (ap (eq_by_cmp resource_cmp q) same) ∙ before (eq_by_cmp resource_cmp q x) (has_resource q xs) none in
+            cc
+
+once-one_more : (q : Resource) (rs : List Resource) → AreNamedOnce rs → AreNamedOnce (one_more q rs)
+once-one_more q rs once = go (has_resource q rs) refl
+  where
+    go : (b : Bool) → has_resource q rs ≡ b → AreNamedOnce (cond {A = List Resource} b rs (rs ++ q ∷ []))
+    go true e = once
+    go false e = once_push q rs e once
+
 held_one : (held : Holding) (n : Need) (rs : List Resource) → AreHeld held rs → AreHeld (joined held (n ∷ [])) (one_more n.0 rs)
-held_one held n rs all r =
-    has-one_more r n.0 rs ∙ ap (λ (b : Bool). b || eq_by_cmp resource_cmp r n.0) (all r) ∙ sym (some_joined (held r) (eq_by_cmp resource_cmp r n.0) n.1)
+held_one held n rs all = (
+  λ r. has-one_more r n.0 rs ∙ ap (λ (b : Bool). b || eq_by_cmp resource_cmp r n.0) (all.0 r) ∙ sym (some_joined (held r) (eq_by_cmp resource_cmp r n.0) n.1),
+  once-one_more n.0 rs all.1,
+)
 
 -- what is locked then is what is held then
 pub held_then : (held : Holding) (ns : List Need) (rs : List Resource) → AreHeld held rs → AreHeld (joined held ns) (with_resources ns rs)
-held_then held [] rs all r = all r ∙ ap is_some (sym (none-right (held r)))
-held_then held (n ∷ ns) rs all r =
-    held_then (joined held (n ∷ [])) ns (one_more n.0 rs) (held_one held n rs all) r
-    ∙ ap is_some (join_held-assoc (held r) (held_by (n ∷ []) r) (held_by ns r) ∙ ap (join_held (held r)) (sym (held_by-append (n ∷ []) ns r)))
+held_then held [] rs all = (λ r. all.0 r ∙ ap is_some (sym (none-right (held r))), all.1)
+held_then held (n ∷ ns) rs all =
+    let rest : AreHeld (joined (joined held (n ∷ [])) ns) (with_resources ns (one_more n.0 rs)) = held_then (joined held (n ∷ [])) ns (one_more n.0 rs) (held_one held n rs all) in
+    (λ r. rest.0 r ∙ ap is_some (join_held-assoc (held r) (held_by (n ∷ []) r) (held_by ns r) ∙ ap (join_held (held r)) (sym (held_by-append (n ∷ []) ns r))), rest.1)
 
 -- one that is not held counts
 count_one : (held : Holding) (n : Need) (rs : List Resource) → AreHeld held rs → length (one_more n.0 rs) ≡ length rs + cond (is_some (held n.0)) 0 1
-count_one held n rs all = ap (λ (b : Bool). length (cond {A = List Resource} b rs (rs ++ n.0 ∷ []))) (all n.0) ∙ go (is_some (held n.0))
+count_one held n rs all = ap (λ (b : Bool). length (cond {A = List Resource} b rs (rs ++ n.0 ∷ []))) (all.0 n.0) ∙ go (is_some (held n.0))
   where
     go : (b : Bool) → length (cond {A = List Resource} b rs (rs ++ n.0 ∷ [])) ≡ length rs + cond b 0 1
     go true = omega arith
@@ -86,7 +118,7 @@ count_all held (n ∷ ns) rs all =
 -- those that are held already are locked already
 pub none_more : (held : Holding) (ns : List Need) (rs : List Resource) → AreHeld held rs → AllByRecursion (λ (n : Need). is_some (held n.0) ≡ true) ns → with_resources ns rs ≡ rs
 none_more held [] rs all there = refl
-none_more held (n ∷ ns) rs all there = ap (λ (b : Bool). with_resources ns (cond {A = List Resource} b rs (rs ++ n.0 ∷ []))) (all n.0 ∙ there.0) ∙ none_more held ns rs all there.1
+none_more held (n ∷ ns) rs all there = ap (λ (b : Bool). with_resources ns (cond {A = List Resource} b rs (rs ++ n.0 ∷ []))) (all.0 n.0 ∙ there.0) ∙ none_more held ns rs all there.1
 
 -- one need more counts where its resource is neither held nor asked before
 pub fresh_push : (held : Holding) (ns : List Need) (n : Need) → fresh_on held (ns ++ n ∷ []) ≡ fresh_on held ns + cond (is_some (joined held ns n.0)) 0 1
@@ -122,4 +154,4 @@ count_made held f rs all none = count_one held (Whole f, Write) rs all ∙ ap (�
 
 -- locks are counted so under a holding that is the same
 pub held_same : (a b : Holding) (rs : List Resource) → ((r : Resource) → a r ≡ b r) → AreHeld a rs → AreHeld b rs
-held_same a b rs same all r = all r ∙ ap is_some (same r)
+held_same a b rs same all = (λ r. all.0 r ∙ ap is_some (same r), all.1)

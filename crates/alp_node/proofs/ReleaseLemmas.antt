@@ -235,7 +235,7 @@ let_go_parts P k t all = granted_parts P (released k.locks t).woken (record k { 
     left u l false is = all u l is
 
 -- the parts that voted have the sizes that they had
-voters_granted : {V : Type 0} (ls : List LiveJoin) (ts : List TransId) (k : ServerState V) → AreVotersIdle ls k.waits → AreVotersAlike k.lives (granted_all k ts).lives ls
+pub voters_granted : {V : Type 0} (ls : List LiveJoin) (ts : List TransId) (k : ServerState V) → AreVotersIdle ls k.waits → AreVotersAlike k.lives (granted_all k ts).lives ls
 voters_granted ls [] k idle = voters_same k.lives k.lives ls (λ u. refl)
 voters_granted ls (t ∷ ts) k idle =
     voters_then k.lives (granted_one k t).lives (granted_all (granted_one k t) ts).lives ls (one (locks_of t k.waits) refl) (voters_granted ls ts (granted_one k t) (still (locks_of t k.waits)))

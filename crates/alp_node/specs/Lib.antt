@@ -34,5 +34,6 @@ pub mod Downs
 pub mod Arrivals
 pub mod Says
 pub mod Writes
+pub mod Noting
 pub mod Ticks
 pub mod Timeouts

@@ -1,5 +1,5 @@
 //! How parts of other servers' transactions end, and how this server's own are forgotten.
-ghost use Rattle.std.specs.Prelude.{◌≡◌, ℕ, List, IsTrue, IfOk, Ok, None, Some, false};
+ghost use Rattle.std.specs.Prelude.{◌≡◌, ◌≤◌, ◌^◌, ℕ, List, IsTrue, IfOk, Ok, None, Some, false};
 ghost use Rattle.alp_journal.specs.declared.event.Event.TheVariants as event;
 ghost use Rattle.alp_journal.specs.declared.message.Message.TheVariants as msg;
 ghost use Rattle.alp_coord.specs.Coordinators.{fate_in, receipt_of};
@@ -13,11 +13,13 @@ ghost use Rattle.alp_worker.specs.declared.live.Stage.TheVariants as stage;
 
 use crate::answer::Answer;
 use crate::dead::is_same;
+use crate::noting::{applied_notes, decision_end_notes, ready_end_notes};
 use crate::server_state::ServerState;
 use alp_base::{JoinNo, OutOfMemory, Stamp, TransId};
 use alp_coord::Receipt;
+use alp_fields::ClockNote;
 use alp_files::Cause;
-use alp_journal::{Acts, Message};
+use alp_journal::{Act, Acts, Message};
 use alp_vault::Vault;
 use alp_worker::Stage;
 
@@ -29,6 +31,7 @@ impl<V: Vault> ServerState<V> {
         join: JoinNo,
         stamp: Stamp,
     ) -> Result<Answer, OutOfMemory>
+        requires time { stamp.ts ≤ 2 ^ 62 }
         requires up { self.old.is_down ≡ false }
         requires ready { IsReadyForMore (V.serves self.old.vault) self.old }
         requires known { IsTrue (V.tells self.old.vault) → IsOfJournal (V.held self.old.vault) self.old }
@@ -70,6 +73,7 @@ impl<V: Vault> ServerState<V> {
     fn apply(&mut self, trans: TransId, join: JoinNo, stamp: Stamp) -> Result<Answer, OutOfMemory>
         requires voted { (client : ℕ) × (ts : ℕ) × (join_at self.old.joins.lives join ≡ Some (record { join = join; trans = trans; client = client; stage = stage.Ready ts })) }
         requires of { stamp.trans ≡ trans }
+        requires time { stamp.ts ≤ 2 ^ 62 }
         requires up { self.old.is_down ≡ false }
         requires ready { IsReadyForMore (V.serves self.old.vault) self.old }
         requires known { IsTrue (V.tells self.old.vault) → IsOfJournal (V.held self.old.vault) self.old }
@@ -78,8 +82,24 @@ impl<V: Vault> ServerState<V> {
         requires sound { IsTrue (V.tells self.old.vault) → AreLivesSound (V.held self.old.vault) self.old }
         ensures { (from : ℕ) → IsStepAs V.Vault None self.old self.new (event.Arrive from (msg.Commit trans join stamp)) result }
     {
-        let _ = (trans, join, stamp);
-        unreachable!()
+        let clock = ClockNote {
+            epoch: self.epoch,
+            clock: self.clock.max(stamp.ts),
+        };
+        let notes = applied_notes(self.alloc, clock, join)?;
+        let mut acts = Vec::with_capacity(self.alloc, self.locks.waiters() + 3)?;
+        acts.push_reserved(Act::Applied { join, stamp });
+        acts.push_reserved(Act::Released { trans });
+        let mut halted = Vec::with_capacity(self.alloc, 2)?;
+        halted.push_reserved(Act::Applied { join, stamp });
+        match self.make(trans, notes.as_slice(), &mut acts) {
+            Ok(()) => {}
+            Err(fault) => return self.fallen(fault, halted),
+        }
+        self.clock = clock.clock;
+        self.joins.apply(&join, &stamp);
+        self.say(&mut acts, trans.server, Message::Done { trans, join });
+        Ok(Answer::silence(Acts::new(acts)))
     }
 
     /// The coordinator says that the transaction ended without effect.
@@ -160,8 +180,20 @@ impl<V: Vault> ServerState<V> {
         requires on { IsOn V.Vault self.old }
         ensures { (from : ℕ) → IsStepAs V.Vault None self.old self.new (event.Arrive from (msg.Abort trans join cause)) result }
     {
-        let _ = (trans, join, client, cause);
-        unreachable!()
+        let notes = ready_end_notes(self.alloc, join)?;
+        let halted = Vec::with_capacity(self.alloc, 1)?;
+        let mut acts = self.released(trans, 0)?;
+        self.dead.add(client, trans, cause)?;
+        match self.note(notes.as_slice()) {
+            Ok(()) => {}
+            Err(fault) => {
+                self.dead.take_back();
+                return self.fallen(fault, halted);
+            }
+        }
+        self.release(trans, &mut acts);
+        self.joins.abort(&join, &trans);
+        Ok(Answer::silence(Acts::new(acts)))
     }
 
     // ---- this server's own decisions
@@ -195,7 +227,15 @@ impl<V: Vault> ServerState<V> {
         requires on { IsOn V.Vault self.old }
         ensures { (from : ℕ) → IsStepAs V.Vault None self.old self.new (event.Arrive from (msg.Done trans join)) result }
     {
-        let _ = (trans, join);
-        unreachable!()
+        let notes = decision_end_notes(self.alloc, trans)?;
+        let mut acts = Vec::with_capacity(self.alloc, 2)?;
+        acts.push_reserved(Act::Forgot { trans });
+        match self.note(notes.as_slice()) {
+            Ok(()) => {}
+            Err(fault) => return self.fallen(fault, acts),
+        }
+        self.coordinator.acknowledge(&trans, &join);
+        self.coordinator.forget(&trans);
+        Ok(Answer::silence(Acts::new(acts)))
     }
 }

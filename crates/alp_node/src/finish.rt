@@ -242,9 +242,9 @@ impl<V: Vault> ServerState<V> {
         }
     }
 
-    // The vault was stopped, or failed in a commit: the server is down, and the acts name what the commit would have written. The
-    // session does not count the call.
-    fn halt(&mut self, fault: Act, mut acts: Vec<Act>) -> Answer
+    /// The vault was stopped, or failed in a commit: the server is down, and the acts name what the commit would have written. The
+    /// session does not count the call.
+    pub(super) fn halt(&mut self, fault: Act, mut acts: Vec<Act>) -> Answer
         requires room { length acts.items < vec_capacity acts }
         ensures kept { self.new ≡ record self.old { is_down = true } }
         ensures answer { result ≡ refused_answer refusal.Down (acts.items ++ fault ∷ []) }

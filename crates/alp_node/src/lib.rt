@@ -22,6 +22,7 @@ mod locking;
 mod messages;
 mod needs;
 mod node;
+mod noting;
 mod opened;
 mod outcomes;
 mod releases;

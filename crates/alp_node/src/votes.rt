@@ -23,11 +23,12 @@ ghost use Rattle.alp_worker.specs.declared.live.Stage.TheVariants as stage;
 
 use crate::answer::Answer;
 use crate::messages::tell_aborts;
+use crate::noting::ready_notes;
 use crate::server_state::ServerState;
 use alp_base::{JoinNo, OutOfMemory, TransId};
 use alp_coord::Ballot;
 use alp_files::{Cause, Why};
-use alp_journal::{Acts, Message};
+use alp_journal::{Act, Acts, Message};
 use alp_vault::Vault;
 use alp_worker::{LiveJoin, Stage};
 
@@ -108,6 +109,7 @@ impl<V: Vault> ServerState<V> {
     fn vote_for(&mut self, trans: TransId, join: JoinNo, client: u8) -> Result<Answer, OutOfMemory>
         requires active { (who : List ℕ) × (join_of trans (join_at self.old.joins.lives join) ≡ Some (record { join = join; trans = trans; client = client; stage = stage.Active who })) }
         requires may { why_against self.old client trans ≡ None }
+        requires told { (a : Account) (held : Contents) → IsAs a held self.old → why_not false (state_of a) client trans ≡ None }
         requires up { self.old.is_down ≡ false }
         requires ready { IsReadyForMore (V.serves self.old.vault) self.old }
         requires known { IsTrue (V.tells self.old.vault) → IsOfJournal (V.held self.old.vault) self.old }
@@ -116,8 +118,25 @@ impl<V: Vault> ServerState<V> {
         requires sound { IsTrue (V.tells self.old.vault) → AreLivesSound (V.held self.old.vault) self.old }
         ensures { (from : ℕ) → IsStepAs V.Vault None self.old self.new (event.Arrive from (msg.Ask trans join)) result }
     {
-        let _ = (trans, join, client);
-        unreachable!()
+        let Some(live) = self.lives.get(&trans) else {
+            unreachable!()
+        };
+        let locks = self.locks.list_of(trans)?;
+        // The table has as many locks of it as it counts. Else there would be no vote.
+        if locks.len() != live.locks as usize {
+            return Ok(self.silence());
+        }
+        let ts = self.clock + 1;
+        let notes = ready_notes(self.alloc, join, trans, client, ts, &live.part, locks)?;
+        let mut acts = Vec::with_capacity(self.alloc, 2)?;
+        acts.push_reserved(Act::Readied { trans, join, ts });
+        match self.note(notes.as_slice()) {
+            Ok(()) => {}
+            Err(fault) => return self.fallen(fault, acts),
+        }
+        self.joins.ready(&join, ts);
+        self.say(&mut acts, trans.server, Message::Ready { trans, join, ts });
+        Ok(Answer::silence(Acts::new(acts)))
     }
 
     // ---- votes for a transaction of this server

@@ -58,3 +58,6 @@ vote_against-requires-clause-told g c a held h = c.in_ok-why-in-Active.ensures.j
 pub vote_for-requires-clause-active : goal.vote_for-requires-clause-active
 vote_for-requires-clause-active g c =
     (c.in-Active.field-0, found_as c.args.trans c.args.join c.args.self.now.joins.lives c.in-Some.live (stage.Active c.in-Active.field-0) (sym c.join_at.ensures ∙ c.in-Some.is) c.in-Active.is)
+
+pub vote_for-requires-clause-told : goal.vote_for-requires-clause-told
+vote_for-requires-clause-told g c a held h = c.in_ok-why-in-Active.ensures.journal a held h ∙ sym c.in_ok-why-in-Active.ensures.same ∙ c.in-None.is
