@@ -193,6 +193,7 @@ module _ {V D T : Type 0} (G : VaultGhosts V) (g : Ghosts D) (tells : Bool) (tol
     down = e.ends.0
 
     stays : StaysDown G e.pick e.node down start_fault.EpochEnd
+    unfolding down e
     stays = e.ends.3
 
     there_now : slice_get left.all.items k ≡ Some e.left
@@ -203,6 +204,7 @@ module _ {V D T : Type 0} (G : VaultGhosts V) (g : Ghosts D) (tells : Bool) (tol
 
     -- the one that fell
     down_vault : (here : IsOneOf (servers_said lines) (k + 1)) → (at (k + 1) here).at.vault ≡ down.vault
+    unfolding down e
     down_vault here =
         let x = at (k + 1) here in
         let same : k + 1 - 1 ≡ k = omega arith in
@@ -230,6 +232,7 @@ module _ {V D T : Type 0} (G : VaultGhosts V) (g : Ghosts D) (tells : Bool) (tol
         ])
 
     over_at : (here : IsOneOf (servers_said lines) (k + 1)) → server ≡ k + 1 → HasUsedUp g lines (k + 1) (at (k + 1) here).at.taken (at (k + 1) here).at.given
+    unfolding down e
     over_at here server_is =
         let x = (at (k + 1) here).at in
         let minus : k + 1 - 1 ≡ k = omega arith in

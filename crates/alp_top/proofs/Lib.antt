@@ -5,6 +5,7 @@ pub mod BeginLemmas
 pub mod BegunLemmas
 pub mod ClientLemmas
 pub mod CloseLemmas
+pub mod CloseOneLemmas
 pub mod LeaveLemmas
 pub mod LookLemmas
 pub mod FilledLemmas
@@ -16,9 +17,11 @@ pub mod OwnerLemmas
 pub mod PairLemmas
 pub mod PlayedLemmas
 pub mod RefusedLemmas
+pub mod RunLemmas
 pub mod SeatedLemmas
 pub mod SeveralLemmas
 pub mod SingleLemmas
+pub mod StartedLemmas
 pub mod StoredLemmas
 pub mod StreamLemmas
 pub mod SummaryLemmas

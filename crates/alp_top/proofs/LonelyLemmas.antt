@@ -105,7 +105,7 @@ module _ {V : Type 0} (G : Ghosts V) where
       let all : committed_in log.servers.items ≡ length (decided (log_of G log)) = ap committed_in one ∙ (let low : (tally_in x.journal).committed ≤ 2 ^ 32 - 1 = few.committed in let same : min ((tally_in x.journal).committed + 0) (2 ^ 32 - 1) ≡ (tally_in x.journal).committed = omega (arith, low) in same) ∙ committed in
       let began : begun_in log.servers.items ≡ sum (list_map (begun_at G (length log.servers.items)) log.servers.items) =
       ap begun_in one ∙ (let low : (tally_in x.journal).begun ≤ 2 ^ 32 - 1 = few.begun in let same : min ((tally_in x.journal).begun + 0) (2 ^ 32 - 1) ≡ (tally_in x.journal).begun = omega (arith, low) in same) ∙ begun
-      ∙ (let less : length (end_of G 1 x).begun ≡ length (end_of G 1 x).begun - 0 + 0 = omega arith in less) ∙ (λ i. sum ((length (end_of G 1 x).begun - length (sym none i)) ∷ []))
+      ∙ (let less : length (end_of G 1 x).begun ≡ 0 + (length (end_of G 1 x).begun - 0) = omega arith in less) ∙ (λ i. sum ((length (end_of G 1 x).begun - length (sym none i)) ∷ []))
       ∙ sym (ap (λ (xs : List (ServerOfLog V)). sum (list_map (begun_at G (length xs)) xs)) one) in
       (λ i. turns_text (turns_of lines (lists_of G log)) ++ flat_map (λ x. files_text_of (end_of G (length log.servers.items) x)) log.servers.items ++ flat_map (λ x. owners_text_of (end_of G (length log.servers.items) x)) log.servers.items
       ++ count_text (all i) (began i - all i))
@@ -137,7 +137,7 @@ module _ {V : Type 0} (G : Ghosts V) (lines : List NumberedLine) (last : Station
     answered : IsAnswered (start_of G 1 x) x.journal
     caused : Along next IsDone (opened (start_of G 1 x)) x.journal
     found : IsBare (start_of G 1 x)
-    rests : (t : TransId) → (end_of G 1 x).holder.lives t ≡ None
+    calm : (t : TransId) → (end_of G 1 x).holder.lives t ≡ None
 
   has_lone : HasLone
   has_lone =
@@ -174,7 +174,7 @@ module _ {V : Type 0} (G : Ghosts V) (lines : List NumberedLine) (last : Station
         answered = subst (λ (o : Start). IsAnswered o x.journal) start_is (subst (IsAnswered (start_in G m.node)) journal_is right.caused);
         caused = subst (λ (o : Start). Along next IsDone (opened o) x.journal) start_is (subst (Along next IsDone (opened (start_in G m.node))) journal_is (m.keeps.on.answered telling));
         found = subst IsBare opening (subst (λ (s : Seat). IsBare s.opening) seat bare);
-        rests = λ t. ap (λ (q : State). q.holder.lives t) (sym ((λ i. state_after next (opened (start_is i)) (journal_is i)))) ∙ ap (λ (s : Seat). s.stand.state.holder.lives t) (sym same) ∙ out.rests alone (subst (λ (s : Seat). IsTrue s.tells) (sym seat) tells) t;
+        calm = λ t. ap (λ (q : State). q.holder.lives t) (sym ((λ i. state_after next (opened (start_is i)) (journal_is i)))) ∙ ap (λ (s : Seat). s.stand.state.holder.lives t) (sym same) ∙ out.rests alone (subst (λ (s : Seat). IsTrue s.tells) (sym seat) tells) t;
       }
 
   module _ (l : HasLone) where
@@ -223,7 +223,7 @@ module _ {V : Type 0} (G : Ghosts V) (lines : List NumberedLine) (last : Station
     log_single : log_of G log ≡ single as_read handed
     log_single = log_is G log x l.one
 
-    pub is_lone : IsAlone G lines log
+    is_lone : IsAlone G lines log
     is_lone =
         let p : IsProper (log_of G log) = subst IsProper (sym log_single) (proper as_read handed is_single) in
         let clients : AreOfClients (log_of G log) = subst AreOfClients (sym log_single) (of_clients as_read handed out.turns is_said) in
@@ -248,7 +248,7 @@ module _ {V : Type 0} (G : Ghosts V) (lines : List NumberedLine) (last : Station
             lawful = l.lawful;
             caused = l.caused;
             bare = l.found;
-            rests = l.rests;
+            rests = l.calm;
           };
           serial = record { replies = h.replies; files = h.files };
           kept = record { told = promises (log_of G log) p clients; whole = wholeness (log_of G log) p };

@@ -163,7 +163,7 @@ module _ {V : Type 0} (G : Ghosts V) (lines : List NumberedLine) (last : Station
   pub log_many : length log.servers.items ≡ servers
   log_many = ap (λ (xs : List (ServerOfLog V)). length xs) is.servers ∙ matched_many IsLogAt last.all.items rests.logs.items kept.logs ∙ out.count
 
-  lists_are : (k : ℕ) → lists_of G log k ≡ own_in k out.turns
+  pub lists_are : (k : ℕ) → lists_of G log k ≡ own_in k out.turns
   lists_are k = ap (λ (ws : List (Vec Item Global)). lists_in ws k) is.clients ∙ out.lists k
 
   pub turns_same : out.turns ≡ turns_of lines (lists_of G log)
@@ -174,7 +174,7 @@ module _ {V : Type 0} (G : Ghosts V) (lines : List NumberedLine) (last : Station
       let same : i + 1 ≡ 1 + i = omega arith in
       subst (λ (m : ℕ). IsManned G servers m s) same (subst (λ (m : ℕ). IsManned G m (i + 1) s) out.count (out.on.each i s at))
 
-  server_logs : list_map server_log r.seats ≡ (log_of G log).servers
+  pub server_logs : list_map server_log r.seats ≡ (log_of G log).servers
   server_logs =
       same_logs G servers 1 last.all.items rests.logs.items manned kept.logs
       ∙ (λ i. list_map (runs.server_log (openings G) (sym log_many i)) (sym is.servers i))
@@ -269,8 +269,14 @@ module _ {V : Type 0} (G : Ghosts V) (lines : List NumberedLine) (last : Station
         subst (λ (ds : List Held). AreMatched (IsSaidBy G servers) ds rests.logs.items) (sym is.helds) (all_said G servers last.all.items rests.helds.items rests.logs.items seat_up kept.helds kept.logs) in
         let begun = kept.begun ∙ ap begun_in (sym is.servers) in
         let committed = kept.committed ∙ ap committed_in (sym is.servers) in
-        is.report
-        ∙ (λ i. text_same i ++ files_same G servers is.summary.servers.now rests.logs.items said i ++ owners_same G servers is.summary.servers.now rests.logs.items said i
-        ++ count_text ((is.committed ∙ committed) i) ((is.aborted ∙ (λ j. begun j - committed j)) i))
+        let ends : printed_of is.summary ≡ flat_map (λ x. files_text_of (end_of G servers x)) rests.logs.items ++ flat_map (λ x. owners_text_of (end_of G servers x)) rests.logs.items ++ tallied_text log.servers.items =
+        (λ i. files_same G servers is.summary.servers.now rests.logs.items said i ++ owners_same G servers is.summary.servers.now rests.logs.items said i
+        ++ count_text ((is.committed ∙ committed) i) ((is.aborted ∙ (λ j. begun j - committed j)) i)) in
+        let shown : List ℕ = turns_text (turns_of lines (lists_of G log)) in
+        let files : List ℕ = flat_map (λ x. files_text_of (end_of G servers x)) rests.logs.items in
+        let owners : List ℕ = flat_map (λ x. owners_text_of (end_of G servers x)) rests.logs.items in
+        is.report ∙ (λ i. text_same i ++ ends i)
+        ∙ sym (append_assoc shown (files ++ owners) (tallied_text log.servers.items))
+        ∙ ap (λ (zs : List ℕ). zs ++ tallied_text log.servers.items) (sym (append_assoc shown files owners))
         ∙ (λ i. turns_text (turns_of lines (lists_of G log)) ++ flat_map (λ x. files_text_of (end_of G (sym log_many i) x)) (sym is.servers i) ++ flat_map (λ x. owners_text_of (end_of G (sym log_many i) x)) (sym is.servers i)
         ++ tallied_text log.servers.items)

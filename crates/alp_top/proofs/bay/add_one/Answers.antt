@@ -9,12 +9,12 @@ use Rattle.alp_top.proofs.RefusedLemmas.{err_of, told_of}
 use Rattle.alp_top.proofs.bay.add_one.Goals as goal
 
 pub give-requires-clause-server : goal.give-requires-clause-server
-give-requires-clause-server g c =
+give-requires-clause-server g c κs lives =
     let most : servers_said c.args.lines.now ≤ 8 = c.requires.accepted.most in
     (c.requires.server.0, omega (arith, c.requires.server.1, c.requires.servers, most))
 
 pub give-requires-clause-told : goal.give-requires-clause-told
-give-requires-clause-told g c told =
+give-requires-clause-told g c κs lives told =
     let F = fuse_disk.ghosts g.row.B-Device g.B.Device.Disk g.B.Device.Disk-dict g.B.Device.Destruct-dict in
     let V = store_vault.ghosts _ F _ _ in
     let one = c.in_ok-node.ensures.begun in
@@ -39,17 +39,16 @@ returns-in-Err-clause-refused g c =
     let n = c.in_ok-node.node in
     let at = ap (λ p. p.1) c.into_parts-vault.ensures ∙ ap (λ (m : NodeState _). m.kept.vault) c.in-Err.ensures.back in
     let placed = c.give.ensures.given in
-    let filled = λ told. placed.filled (subst IsTrue (sym c.in_ok-node.ensures.tells) told) in
     record {
       refused = λ told. inr (record {
           taken = one.disk;
           from_there = one.is.was told;
           given = placed.device;
-          there = (filled told).here;
+          there = (placed.filled (subst IsTrue (sym c.in_ok-node.ensures.tells) told)).here;
           size = placed.back.sized ∙ ap (λ v. pages_of (V.volume v)) at ∙ sym one.is.started.sized;
           later = (let now = placed.back.faults ∙ ap V.faults at ∙ one.is.started.faults in omega (arith, now));
           left = placed.back.faults ∙ ap V.faults at ∙ one.is.started.faults;
         });
-      others = λ told k away. (filled told).others k away ∙ one.others told k away;
+      others = λ told k away. (placed.filled (subst IsTrue (sym c.in_ok-node.ensures.tells) told)).others k away ∙ one.others told k away;
       of_server = tt;
     }

@@ -24,12 +24,12 @@ start-requires-clause-server g c =
     record { first = c.requires.server.0; among = c.requires.server.1; most = omega (arith, c.requires.servers, most) }
 
 pub give_disk-requires-clause-server : goal.give_disk-requires-clause-server
-give_disk-requires-clause-server g c =
+give_disk-requires-clause-server g c κs lives =
     let most : servers_said c.args.lines.now ≤ 8 = c.requires.accepted.most in
     (c.requires.server.0, omega (arith, c.requires.server.1, c.requires.servers, most))
 
 pub give_disk-requires-clause-told : goal.give_disk-requires-clause-told
-give_disk-requires-clause-told g c told =
+give_disk-requires-clause-told g c κs lives told =
     let took = c.in_ok-device.ensures in
     subst IsTrue (sym (c.in-Err.ensures.tells ∙ c.new.ensures.tells)) (took.told (subst IsTrue took.tells told))
 
@@ -63,7 +63,7 @@ returns-in-Ok-clause-begun g c =
       is = record {
         started =
             subst (λ (z : Sizes). IsStarted _ h z c.args.server (servers_said c.args.lines.now) c.in_ok-device.device c.in-Ok.node) c.sizes_of-sizes.ensures
-            (subst (λ (m : ℕ). IsStarted _ h c.sizes_of-sizes.result c.args.server m c.in_ok-device.device c.in-Ok.node) c.requires.servers (started_alike F h c.new.result c.in_ok-device.device taken _ c.sizes_of-sizes.result c.args.server c.args.servers c.in-Ok.node c.in-Ok.ensures));
+            (subst (λ (m : ℕ). IsStarted _ h c.sizes_of-sizes.result c.args.server m c.in_ok-device.device c.in-Ok.node) c.requires.servers (started_alike F h c.new.result c.in_ok-device.device taken _ c.sizes_of-sizes.result c.args.server c.args.servers c.in-Ok.node c.in-Ok.ensures.started));
         told = took.told;
         was = λ told.
             subst (λ (m : ℕ). IsTaken h (g.B.Bay.at c.args.bay.now c.args.server) m c.in_ok-device.device) (c.pages_of.ensures ∙ ap pages_of c.sizes_of-sizes.ensures) (took.taken told);
@@ -87,20 +87,20 @@ returns-in-Err-clause-refused g c =
       leaves = record { no_more = c.new.ensures.crash.no_fewer; no_fewer = c.new.ensures.crash.no_more };
     } in
     let placed = c.give_disk.ensures.given in
-    let filled = λ told. placed.filled (subst IsTrue (sym took.tells) told) in
     let x = c.in-Err.ensures in
     record {
       refused = λ told. inr (
           returned_alike F h S c.new.result c.in-Err.disk c.in_ok-device.device placed.device taken placed.alike (g.B.Bay.at c.args.bay.now c.args.server) (g.B.Bay.at c.give_disk.new.bay c.args.server)
-          (subst (λ (m : ℕ). IsTaken h (g.B.Bay.at c.args.bay.now c.args.server) m c.in_ok-device.device) (c.pages_of.ensures ∙ ap pages_of c.sizes_of-sizes.ensures) (took.taken told)) (filled told).here x.size x.later _
+          (subst (λ (m : ℕ). IsTaken h (g.B.Bay.at c.args.bay.now c.args.server) m c.in_ok-device.device) (c.pages_of.ensures ∙ ap pages_of c.sizes_of-sizes.ensures) (took.taken told)) (placed.filled (subst IsTrue (sym took.tells) told)).here x.size x.later _
           (cause_alike F h S c.new.result c.in-Err.disk c.in_ok-device.device placed.device taken placed.alike c.args.server (servers_said c.args.lines.now) c.in-Err.fault
           (subst (λ (m : ℕ). WhyNotBegun F S c.args.server m c.in-Err.fault c.new.result c.in-Err.disk) c.requires.servers
           (subst (λ (z : Sizes). WhyNotBegun F z c.args.server c.args.servers c.in-Err.fault c.new.result c.in-Err.disk) c.sizes_of-sizes.ensures (x.cause (subst IsTrue (sym c.new.ensures.tells) (took.told told))))))
         );
-      others = λ told k away. (filled told).others k away ∙ (took.emptied told).others k away;
+      others = λ told k away. (placed.filled (subst IsTrue (sym took.tells) told)).others k away ∙ (took.emptied told).others k away;
       of_server = counted_alike F h S c.new.result c.in-Err.disk c.in_ok-device.device placed.device taken placed.alike c.args.server c.in-Err.fault x.counted;
     }
 
 pub returns-in-Err-clause-bay : goal.returns-in-Err-clause-bay
 returns-in-Err-clause-bay g c =
-    disk_still g.B.Device.Disk c.args.server c.in-Err.fault _ _ (c.give_disk.ensures.faults ∙ c.in_ok-device.ensures.cause.still) (λ is. subst (λ f. IsCountedStart c.args.server f _ _) is c.in-Err.ensures.counted)
+    disk_still g.B.Device.Disk c.args.server c.in-Err.fault _ _ (c.give_disk.ensures.faults ∙ c.in_ok-device.ensures.cause.still)
+    (λ is. subst (λ f. IsCountedStart c.args.server f (g.B.Device.Disk.faults c.new.result.inner) (g.B.Device.Disk.faults c.in-Err.disk.inner)) is c.in-Err.ensures.counted)

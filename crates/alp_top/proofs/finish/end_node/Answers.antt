@@ -4,7 +4,9 @@ use Rattle.alp_base.specs.declared.allowance.Allowance.TheVariants.{Free}
 use Rattle.alp_cluster.specs.Servers.{HasGoneBy}
 use Rattle.alp_cluster.specs.declared.fault.RunFault.TheVariants as fault
 use Rattle.alp_cluster.proofs.GoneLemmas.{gone_ok, gone_err, gone_memory}
-use Rattle.alp_top.specs.Endings.{IsHeldOf, AreCellsOf}
+use Rattle.alp_top.specs.Endings.{IsHeldOf, AreCellsOf, ArePutFirst}
+use Rattle.alp_top.specs.Tallies.{tally_in}
+use Rattle.alp_top.specs.Logs.{ServerOfLog}
 use Rattle.alp_top.specs.Looks.{HasLooked}
 use Rattle.alp_top.proofs.LookLemmas.{looked_err}
 use Rattle.alp_top.proofs.finish.end_node.Goals as goal
@@ -52,4 +54,17 @@ returns-in-Err-put-clause-looked g c =
     record { held = c.in-Ok.ensures.looked.held ∙ ap (λ v. g.V.Vault.held v) at; allowance = c.in-Ok.ensures.looked.allowance ∙ ap (λ v. g.V.Vault.allowance v) at; serves = tt; room = tt }
 
 pub returns-in-Ok-put-clause-rest : goal.returns-in-Ok-put-clause-rest
-returns-in-Ok-put-clause-rest g c = ?
+returns-in-Ok-put-clause-rest g c =
+    let at = ap (λ p. p.1) c.into_parts-opening.ensures in
+    let numbers = c.in-Ok.ensures.numbers in
+    let log : ServerOfLog g.row.V.Denot = record { server = c.server-server.result; opening = c.into_parts-opening.result.0; journal = c.into_parts-opening.result.2; ranks = c.args.ranks } in
+    record {
+      held = c.in-Ok.held;
+      log = log;
+      is_held = record {
+        numbers = record { server = numbers.server ∙ c.server-server.ensures; epoch = numbers.epoch ∙ c.epoch-epoch.ensures; clock = numbers.clock ∙ c.clock-clock.ensures };
+        cells = λ told. subst (λ v. AreCellsOf (g.V.Vault.held v).cells c.in-Ok.held) at (c.in-Ok.ensures.cells (subst (λ v. IsTrue (g.V.Vault.tells v)) (sym at) told));
+      };
+      is_log = record { number = c.server-server.ensures; opened = ap (λ p. p.0) c.into_parts-opening.ensures; entries = ap (λ p. p.2) c.into_parts-opening.ensures; ranked = refl };
+      put = subst (λ t. ArePutFirst c.in-Ok.held log t c.args.rests.now c.put.new.self) (c.tally_of-tally.ensures ∙ ap tally_in (c.entries.ensures ∙ c.journal.ensures)) c.in-Ok-put.ensures;
+    }
