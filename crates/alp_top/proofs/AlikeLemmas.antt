@@ -12,8 +12,6 @@ use Rattle.alp_node.specs.NodeStates.{NodeState}
 use Rattle.alp_node.specs.Nodes.{start_in}
 use Rattle.alp_store.specs.Holding.{Holds}
 use Rattle.alp_store.specs.Starts.{IsNew, WhyNotStarted}
-use Rattle.alp_vault.specs.Contents.{Contents}
-use Rattle.alp_vault.specs.Volumes.{IsVolumeOf}
 use Rattle.alp_vault.specs.declared.vault.Vault.{Ghosts as VaultGhosts}
 use Rattle.alp_top.specs.Disks.{ShowAlike, IsStarted, IsGiven, IsOfServer, IsCountedStart, notes_in}
 use Rattle.alp_top.specs.Volumes.{pages_of, IsOpenedOn, IsReturned, IsLeftAlone, HasNoEpoch, WhyNotBegun}
@@ -46,21 +44,16 @@ module _ {A B : Type 0} (g : Ghosts A) (h : Ghosts B) (a : A) (b : B) (alike : S
   }
 
   -- what is left of a vault
-  pub given_by : {V : Type 0} (G : VaultGhosts V) (v : V) → g.tells a ≡ G.tells v → g.size a ≡ pages_of (G.volume v) → g.faults a ≡ G.faults v
-      → (IsTrue (G.tells v) → IsTrue (G.serves v) → IsVolumeOf (G.volume v) (G.held v).cells)
-      → (IsTrue (G.tells v) → IsTrue (G.serves v) → Holds (G.server v) (G.servers v) (g.size a) (G.volume v).home (g.seen a) (G.held v))
-      → (IsTrue (G.tells v) → IsTrue (G.serves v) → Only (g.seen a) (g.may_leave a))
-      → (IsTrue (G.tells v) → (image : Image) → g.may_leave a image → (c : Contents) × Holds (G.server v) (G.servers v) (g.size a) (G.volume v).home image c × G.may_leave v c)
-      → (IsTrue (h.tells b) → h.may_leave b (h.seen b)) → IsGiven G h v b
-  given_by G v telling sized faults files holds only whole read = record {
-    telling = alike.telling ∙ telling;
-    sized = alike.size ∙ sized;
-    faults = alike.faults ∙ faults;
-    files = files;
-    holds = λ told serves. at_alike (λ m i. Holds (G.server v) (G.servers v) m (G.volume v).home i (G.held v)) (holds told serves);
-    only = λ told serves. only_alike (g.seen a) (h.seen b) (g.may_leave a) (h.may_leave b) alike.leaves.no_more alike.seen (only told serves);
-    whole = λ told image may. (let (c, is, left) = whole told image (alike.leaves.no_more image may) in (c, subst (λ (m : ℕ). Holds (G.server v) (G.servers v) m (G.volume v).home image c) (sym alike.size) is, left));
-    read = λ told. read (subst IsTrue (sym (alike.telling ∙ telling)) told);
+  pub given_alike : {V : Type 0} (G : VaultGhosts V) (v : V) → IsGiven G g v a → IsGiven G h v b
+  given_alike G v x = record {
+    telling = alike.telling ∙ x.telling;
+    sized = alike.size ∙ x.sized;
+    faults = alike.faults ∙ x.faults;
+    files = x.files;
+    holds = λ told serves. at_alike (λ m i. Holds (G.server v) (G.servers v) m (G.volume v).home i (G.held v)) (x.holds told serves);
+    only = λ told serves. only_alike (g.seen a) (h.seen b) (g.may_leave a) (h.may_leave b) alike.leaves.no_more alike.seen (x.only told serves);
+    whole = λ told image may. (let (c, is, left) = x.whole told image (alike.leaves.no_more image may) in (c, subst (λ (m : ℕ). Holds (G.server v) (G.servers v) m (G.volume v).home image c) (sym alike.size) is, left));
+    read = λ told. subst (h.may_leave b) (sym alike.seen) (alike.leaves.no_fewer (g.seen a) (x.read told));
   }
 
 module _ {A B : Type 0} (g : Ghosts A) (h : Ghosts B) (sizes : Sizes) (ta ga : A) (tb gb : B) (taken : ShowAlike g h ta tb) (given : ShowAlike g h ga gb) where

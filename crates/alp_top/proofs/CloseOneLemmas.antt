@@ -1,6 +1,6 @@
 -- one server at rest that is closed
 use Rattle.std.specs.Prelude.{Bool, IsTrue, Option, Result, Ok, Err, OnOk}
-use Rattle.std.proofs.Common.{◌≡◌, ℕ, ◌≤◌, refl, sym, ◌∙◌, ap, subst, arith}
+use Rattle.std.proofs.Common.{◌≡◌, ℕ, ◌≤◌, List, refl, sym, ◌∙◌, ap, subst, arith}
 use Rattle.alp_disk.specs.declared.disk.Disk.{Ghosts}
 use Rattle.alp_node.specs.NodeStates.{NodeState}
 use Rattle.alp_vault.specs.declared.vault.Vault.{Ghosts as VaultGhosts}
@@ -80,3 +80,8 @@ module _ {V D : Type 0} (G : VaultGhosts V) (g : Ghosts D) (tells : Bool) (serve
 
     pub goes_now : {U : Type 0} (x : U) → 1 ≤ server → server ≤ servers → GoesOn {T = U} servers server (Ok x) r
     goes_now x first last = goes_named G servers server n.kept.vault v x r (first, last) at by_number
+
+-- what it did and holds comes in front of the others
+pub station_put : {V T : Type 0} (G : VaultGhosts V) (s : Station V) (n : NodeState V) (r : Result T RunFault) (old new : Rests V) (rs : List ℕ) → s.server ≡ standing n → rs ≡ s.ranks.items → OnOk r (IsRestPut G n rs old new) → OnOk r (IsStationPut G s old new)
+station_put G s n (Ok x) old new rs stands ranks h = record { node = n; stands = stands; put = subst (λ (xs : List ℕ). IsRestPut G n xs old new) ranks h }
+station_put G s n (Err f) old new rs stands ranks h = tt

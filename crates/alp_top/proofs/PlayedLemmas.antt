@@ -23,7 +23,7 @@ use Rattle.alp_words.specs.declared.command.Command.TheVariants as command
 use Rattle.alp_top.specs.Anywhere.{IsPlayedThrough, HasReported, IsDeclared}
 use Rattle.alp_top.specs.Headline.{IsRunOf, IsPromised, IsPlayed, IsCutOff}
 use Rattle.alp_top.specs.Logs.{Log}
-use Rattle.alp_top.specs.Statuses.{IsLimit, OnTooLong, OnBadDisk, OnUntaken, OnFlaw, Kept, OnDone, OnWriteFault, OnCutShort, ended_by, folder_in, IsFolderTold, IsBayFaultTold, OnDiskFault, IsHandedOver, IsPlayedOrMemory}
+use Rattle.alp_top.specs.Statuses.{IsLimit, OnTooLong, OnBadDisk, OnUntaken, OnFlaw, Kept, OnDone, OnWriteFault, OnCutShort, ended_by, folder_in, IsFolderTold, IsBayFaultTold, OnDiskFault, IsHandedOver, IsPlayedOrMemory, IsReadFaultTold, IsWriteFaultTold}
 use Rattle.alp_top.specs.Volumes.{pages_of, AreLeft, HasDiskCause, HasRunCause, IsBayFault, IsFolderLeft, IsOfServers, IsStartable, StartsOn}
 use Rattle.alp_top.specs.declared.fault.NoReport.{NoReport}
 use Rattle.alp_top.specs.declared.fault.NoReport.TheVariants as fault
@@ -170,6 +170,31 @@ module _ {D : Type 0} {g : Ghosts D} where
       go (fault.EpochEnd server) h b = b
       go (fault.NotAVolume server found) h b = b
       go (fault.Damaged server place) h b = b
+
+  -- the other streams failed not
+  pub read_well : (s : Status D g) (f : NoReport) (before now : ℕ) → s ≡ ended_by f → now ≡ before → IsReadFaultTold s before now
+  read_well s f before now is h = subst (λ (q : Status D g). IsReadFaultTold q before now) (sym is) (go f h)
+    where
+      go : (f : NoReport) → now ≡ before → IsReadFaultTold (ended_by {D = D} {g = g} f) before now
+      go fault.Bay h = h
+      go (fault.Disk server) h = h
+      go fault.OutOfMemory h = h
+      go fault.JournalFull h = h
+      go (fault.EpochEnd server) h = h
+      go (fault.NotAVolume server found) h = h
+      go (fault.Damaged server place) h = h
+
+  pub wrote_well : (s : Status D g) (f : NoReport) (before now : ℕ) → s ≡ ended_by f → now ≡ before → IsWriteFaultTold s before now
+  wrote_well s f before now is h = subst (λ (q : Status D g). IsWriteFaultTold q before now) (sym is) (go f h)
+    where
+      go : (f : NoReport) → now ≡ before → IsWriteFaultTold (ended_by {D = D} {g = g} f) before now
+      go fault.Bay h = h
+      go (fault.Disk server) h = h
+      go fault.OutOfMemory h = h
+      go fault.JournalFull h = h
+      go (fault.EpochEnd server) h = h
+      go (fault.NotAVolume server found) h = h
+      go (fault.Damaged server place) h = h
 
   pub handed_limits : (s : Status D g) (P : ℕ → Type 0) → IsHandedOver s → OnTooLong s P
   handed_limits (status.Done log) P h = tt

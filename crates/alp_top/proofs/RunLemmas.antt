@@ -1,7 +1,7 @@
 -- a run on the disks of a bay, and how it ended
 use Rattle.std.specs.Prelude.{Vec, Bool, IsTrue, slice_get, Option, Some, Result, Ok, Err, OnOk}
 use Rattle.std.specs.Global.{Global}
-use Rattle.std.proofs.Common.{◌≡◌, ℕ, zero, suc, ◌+◌, ◌<◌, ◌≤◌, List, [], ◌∷◌, length, refl, sym, ◌∙◌, ap, subst, arith}
+use Rattle.std.proofs.Common.{◌≡◌, ℕ, zero, suc, ◌+◌, ◌-◌, ◌<◌, ◌≤◌, List, [], ◌∷◌, length, refl, sym, ◌∙◌, ap, subst, arith}
 use Rattle.alp_course.specs.Courses.{Seat, IsOneOf, IsSeat, seat_at}
 use Rattle.alp_disk.specs.declared.disk.Disk.{Ghosts}
 use Rattle.alp_journal.specs.declared.log.Item.{Item}
@@ -250,3 +250,22 @@ some_held G g tells lines before now bay_before bay_now f c h = held_of_begun G 
 
 pub some_few : {V D : Type 0} (G : VaultGhosts V) (g : Ghosts D) (tells : Bool) (lines : List NumberedLine) (before now : ℕ → Option D) (bay_before bay_now : ℕ) (f : NoReport) (c : Cluster V) → servers_said lines ≤ 8 → HaveBegunSome G g tells lines before now bay_before bay_now f c → length c.parties.stations.all.items ≤ 8
 some_few G g tells lines before now bay_before bay_now f c few h = (let all = stations_many h.nodes c.parties.stations.all.items h.stand in omega (arith, all, h.many, h.few, few))
+
+-- ---- the same, said of equal things
+
+pub cause_moved : {D : Type 0} (g : Ghosts D) (lines : List NumberedLine) (b before after : ℕ → Option D) (x bay_before y bay_after : ℕ) (f : NoReport) → b ≡ before → x ≡ bay_before → y ≡ bay_after → HasRunCause g lines b after x y f → HasRunCause g lines before after bay_before bay_after f
+cause_moved {D} g lines b before after x bay_before y bay_after f places first last h =
+    subst (λ (z : ℕ → Option D). HasRunCause g lines z after bay_before bay_after f) places
+    (subst (λ (m : ℕ). HasRunCause g lines b after m bay_after f) first (subst (λ (m : ℕ). HasRunCause g lines b after x m f) last h))
+
+pub left_moved : {V D : Type 0} (G : VaultGhosts V) (g : Ghosts D) (t tells : Bool) (xs ss : List (Station V)) (mid after : ℕ → Option D) → t ≡ tells → xs ≡ ss → AreLeftBy G g t xs mid after → AreLeftBy G g tells ss mid after
+left_moved {V} G g t tells xs ss mid after same stations h = subst (λ (zs : List (Station V)). AreLeftBy G g tells zs mid after) stations (subst (λ (b : Bool). AreLeftBy G g b xs mid after) same h)
+
+pub closed_moved : {V D T : Type 0} (G : VaultGhosts V) (g : Ghosts D) (t tells : Bool) (xs ss : List (Station V)) (mid after : ℕ → Option D) (r : Result T RunFault) → t ≡ tells → xs ≡ ss → AreClosed G g t (length xs) xs mid after r → AreClosed G g tells (length ss) ss mid after r
+closed_moved {V} G g t tells xs ss mid after r same stations h = subst (λ (zs : List (Station V)). AreClosed G g tells (length zs) zs mid after r) stations (subst (λ (b : Bool). AreClosed G g b (length xs) xs mid after r) same h)
+
+pub held_moved : {V : Type 0} (G : VaultGhosts V) (t tells : Bool) (xs ss : List (Station V)) → tells ≡ t → xs ≡ ss → AreHeld G tells ss → AreHeld G t xs
+held_moved {V} G t tells xs ss same stations h = subst (λ (b : Bool). AreHeld G b xs) same (subst (AreHeld G tells) (sym stations) h)
+
+pub rest_moved : {V : Type 0} (G : VaultGhosts V) (t tells : Bool) (xs ss : List (Station V)) → tells ≡ t → xs ≡ ss → AreAtRest G tells 1 ss → AreAtRest G t 1 xs
+rest_moved {V} G t tells xs ss same stations h = subst (λ (b : Bool). AreAtRest G b 1 xs) same (subst (AreAtRest G tells 1) (sym stations) h)

@@ -12,7 +12,7 @@ ghost use Rattle.alp_top.specs.Volumes.{HasRunCause, IsBayTold, IsFolderChosen, 
 ghost use Rattle.alp_vault.specs.Vault.{AreSizes};
 
 use crate::fault::NoReport;
-use crate::finish::{Ended, Rests, end_node, report, vault_of};
+use crate::finish::{Ended, Rests, disk_in, end_node, report, vault_of};
 use crate::start::start;
 use alp_base::{OutOfMemory, Sizes};
 use alp_bay::Bay;
@@ -56,9 +56,7 @@ fn give<B: Bay>(bay: &mut B, server: u8, vault: Store<Fuse<B::Device>>)
     ensures chosen { B.chosen bay.new ≡ B.chosen bay.old }
     ensures faults { B.faults bay.new ≡ B.faults bay.old }
 {
-    vault.knows();
-    let disk = vault.into_disk();
-    give_disk(bay, server, disk);
+    give_disk(bay, server, disk_in(vault));
 }
 
 // ---- the servers are started

@@ -3,6 +3,7 @@ ghost use Rattle.std.specs.Prelude.{◌≡◌, IsTrue, IfOk, OnOk, false};
 ghost use Rattle.alp_base.specs.declared.allowance.Allowance.TheVariants.{Free};
 ghost use Rattle.alp_cluster.specs.Servers.{IsOn, HasGoneBy};
 ghost use Rattle.alp_cluster.specs.Station.{HasVault};
+ghost use Rattle.alp_top.specs.Disks.{IsGiven};
 ghost use Rattle.alp_top.specs.Endings.{AreNoRests, ArePutFirst, IsHeldOf, IsRestPut, IsReportOf, AreCellsOf};
 ghost use Rattle.alp_top.specs.Looks.{HasLooked};
 
@@ -10,9 +11,11 @@ use crate::owners::owner_records;
 use crate::tally::{Tally, tally_of};
 use alp_base::OutOfMemory;
 use alp_cluster::{RunFault, Server, Station};
+use alp_disk::Disk;
 use alp_journal::{Item, RunLog, ServerLog};
 use alp_node::{Node, Opened};
 use alp_report::{Held, Summary, put_summary};
+use alp_store::Store;
 use alp_vault::Vault;
 use std::alloc::Global;
 
@@ -141,6 +144,14 @@ pub fn vault_of<V: Vault>(station: Station<V>) -> V
             vault
         }
     }
+}
+
+/// The disk of a vault, as it is.
+pub fn disk_in<D: Disk>(vault: Store<D>) -> D
+    ensures { IsGiven ⟦<Store<D> as Vault>⟧ D.Disk vault result }
+{
+    vault.knows();
+    vault.into_disk()
 }
 
 /// The log and the report of a run, behind the lines of its clients.

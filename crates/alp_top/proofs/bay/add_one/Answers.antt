@@ -3,6 +3,7 @@ use Rattle.std.proofs.Common.{inr, ◌≡◌, ◌≤◌, ℕ, refl, sym, ◌∙�
 use Rattle.alp_script.specs.Accepted.{servers_said}
 use Rattle.alp_node.specs.NodeStates.{NodeState}
 use Rattle.alp_store.specs.contracts.store.StoreVault.TheImpl as store_vault
+use Rattle.alp_disk.specs.contracts.fuse.Fuse.{the_row}
 use Rattle.alp_disk.specs.contracts.fuse.FuseDisk.TheImpl as fuse_disk
 use Rattle.alp_top.specs.Volumes.{pages_of}
 use Rattle.alp_top.proofs.RefusedLemmas.{err_of, told_of}
@@ -16,7 +17,7 @@ give-requires-clause-server g c κs lives =
 pub give-requires-clause-told : goal.give-requires-clause-told
 give-requires-clause-told g c κs lives told =
     let F = fuse_disk.ghosts g.row.B-Device g.B.Device.Disk g.B.Device.Disk-dict g.B.Device.Destruct-dict in
-    let V = store_vault.ghosts _ F _ _ in
+    let V = store_vault.ghosts (the_row g.row.B-Device g.B.Device.Disk) F fuse_disk.no_dict fuse_disk.no_dict in
     let one = c.in_ok-node.ensures.begun in
     let at = ap (λ p. p.1) c.into_parts-vault.ensures ∙ ap (λ (n : NodeState _). n.kept.vault) c.in-Err.ensures.back in
     subst (λ v. IsTrue (V.tells v)) (sym at) (subst IsTrue (sym one.is.started.telling) (one.is.told (subst IsTrue c.in_ok-node.ensures.tells told)))
@@ -34,7 +35,7 @@ pub returns-in-Err-clause-refused : goal.returns-in-Err-clause-refused
 returns-in-Err-clause-refused g c =
     let h = g.B.Device.Disk in
     let F = fuse_disk.ghosts g.row.B-Device g.B.Device.Disk g.B.Device.Disk-dict g.B.Device.Destruct-dict in
-    let V = store_vault.ghosts _ F _ _ in
+    let V = store_vault.ghosts (the_row g.row.B-Device g.B.Device.Disk) F fuse_disk.no_dict fuse_disk.no_dict in
     let one = c.in_ok-node.ensures.begun in
     let n = c.in_ok-node.node in
     let at = ap (λ p. p.1) c.into_parts-vault.ensures ∙ ap (λ (m : NodeState _). m.kept.vault) c.in-Err.ensures.back in

@@ -1,7 +1,11 @@
 use Rattle.std.specs.Prelude.{IsTrue}
 use Rattle.std.proofs.Common.{◌≡◌, ◌≤◌, ◌<◌, ◌+◌, ℕ, refl, sym, ◌∙◌, ap, subst, arith}
+use Rattle.alp_disk.specs.contracts.fuse.Fuse.{the_row}
+use Rattle.alp_disk.specs.contracts.fuse.FuseDisk.TheImpl as fuse_disk
+use Rattle.alp_store.specs.contracts.store.StoreVault.TheImpl as store_vault
 use Rattle.alp_script.specs.Accepted.{servers_said}
 use Rattle.alp_top.specs.Disks.{HaveBegun}
+use Rattle.alp_top.specs.Volumes.{IsBayFault}
 use Rattle.alp_top.proofs.RefusedLemmas.{err_of, told_of}
 use Rattle.alp_top.proofs.StartedLemmas.{begun_none, begun_more, begun_some}
 use Rattle.alp_top.proofs.bay.start_all.Goals as goal
@@ -21,7 +25,7 @@ overflow_add-at g c =
     omega (arith, low, c.requires.servers, most)
 
 pub add_one-requires-clause-server : goal.add_one-requires-clause-server
-add_one-requires-clause-server g c = (let low = c.loop-at-test.true in (omega arith, omega (arith, low)))
+add_one-requires-clause-server g c κs lives = (let low = c.loop-at-test.true in (omega arith, omega (arith, low)))
 
 pub returns-in_err-add_one-clause-some : goal.returns-in_err-add_one-clause-some
 returns-in_err-add_one-clause-some g c =
@@ -37,7 +41,8 @@ pub returns-in_err-add_one-clause-chosen : goal.returns-in_err-add_one-clause-ch
 returns-in_err-add_one-clause-chosen g c = c.in_err-add_one.ensures.chosen ∙ c.loop-at.invariant.chosen
 
 pub returns-in_err-add_one-clause-bay : goal.returns-in_err-add_one-clause-bay
-returns-in_err-add_one-clause-bay g c = ?
+returns-in_err-add_one-clause-bay g c =
+    told_of _ _ _ c.from_residual.result c.from_residual.ensures.0 c.from_residual.ensures.1 (subst (λ (m : ℕ). IsBayFault c.in_err-add_one.field-0.0 m (g.B.Bay.faults c.add_one.new.bay)) c.loop-at.invariant.faults c.in_err-add_one.ensures.bay)
 
 pub loop-at-preserved : goal.loop-at-preserved
 loop-at-preserved g c = record {
@@ -48,7 +53,12 @@ loop-at-preserved g c = record {
 }
 
 pub returns-clause-begun : goal.returns-clause-begun
-returns-clause-begun g c = ?
+returns-clause-begun g c =
+    let G = store_vault.ghosts (the_row g.row.B-Device g.B.Device.Disk) (fuse_disk.ghosts g.row.B-Device g.B.Device.Disk g.B.Device.Disk-dict g.B.Device.Destruct-dict) fuse_disk.no_dict fuse_disk.no_dict in
+    let low = c.loop-at-test.false in
+    let high = c.loop-at.auto.at-end in
+    let same : c.loop-at.at ≡ c.args.servers = omega (arith, low, high) in
+    subst (λ (m : ℕ). HaveBegun G g.B.Device.Disk (g.B.Bay.tells c.args.bay.now) c.args.lines.now m (g.B.Bay.at c.args.bay.now) (g.B.Bay.at c.loop-at.bay) c.loop-at.cluster) same c.loop-at.invariant.begun
 
 pub returns-clause-tells : goal.returns-clause-tells
 returns-clause-tells g c = c.loop-at.invariant.tells

@@ -2,6 +2,7 @@ use Rattle.std.specs.Prelude.{IsTrue, Option}
 use Rattle.std.proofs.Common.{inr, ◌≡◌, ◌≤◌, ℕ, refl, sym, ◌∙◌, ap, subst, arith}
 use Rattle.alp_base.specs.declared.faults.Sizes.{Sizes}
 use Rattle.alp_bay.specs.Bays.{IsTaken}
+use Rattle.alp_disk.specs.contracts.fuse.Fuse.{the_row}
 use Rattle.alp_disk.specs.contracts.fuse.FuseDisk.TheImpl as fuse_disk
 use Rattle.alp_script.specs.Accepted.{servers_said}
 use Rattle.alp_script.specs.Volumes.{sizes_said}
@@ -49,6 +50,7 @@ pub returns-in-Ok-clause-begun : goal.returns-in-Ok-clause-begun
 returns-in-Ok-clause-begun g c =
     let h = g.B.Device.Disk in
     let F = fuse_disk.ghosts g.row.B-Device g.B.Device.Disk g.B.Device.Disk-dict g.B.Device.Destruct-dict in
+    let G = store_vault.ghosts (the_row g.row.B-Device g.B.Device.Disk) (fuse_disk.ghosts g.row.B-Device g.B.Device.Disk g.B.Device.Disk-dict g.B.Device.Destruct-dict) fuse_disk.no_dict fuse_disk.no_dict in
     let took = c.in_ok-device.ensures in
     let S : Sizes = sizes_said c.args.lines.now c.args.server in
     let taken : ShowAlike F h c.new.result c.in_ok-device.device = record {
@@ -62,8 +64,8 @@ returns-in-Ok-clause-begun g c =
       disk = c.in_ok-device.device;
       is = record {
         started =
-            subst (λ (z : Sizes). IsStarted _ h z c.args.server (servers_said c.args.lines.now) c.in_ok-device.device c.in-Ok.node) c.sizes_of-sizes.ensures
-            (subst (λ (m : ℕ). IsStarted _ h c.sizes_of-sizes.result c.args.server m c.in_ok-device.device c.in-Ok.node) c.requires.servers (started_alike F h c.new.result c.in_ok-device.device taken _ c.sizes_of-sizes.result c.args.server c.args.servers c.in-Ok.node c.in-Ok.ensures.started));
+            subst (λ (z : Sizes). IsStarted G h z c.args.server (servers_said c.args.lines.now) c.in_ok-device.device c.in-Ok.node) c.sizes_of-sizes.ensures
+            (subst (λ (m : ℕ). IsStarted G h c.sizes_of-sizes.result c.args.server m c.in_ok-device.device c.in-Ok.node) c.requires.servers (started_alike F h c.new.result c.in_ok-device.device taken G c.sizes_of-sizes.result c.args.server c.args.servers c.in-Ok.node c.in-Ok.ensures.started));
         told = took.told;
         was = λ told.
             subst (λ (m : ℕ). IsTaken h (g.B.Bay.at c.args.bay.now c.args.server) m c.in_ok-device.device) (c.pages_of.ensures ∙ ap pages_of c.sizes_of-sizes.ensures) (took.taken told);

@@ -1,12 +1,12 @@
 use Rattle.std.specs.Prelude.{Option, map as list_map, string_bytes}
-use Rattle.std.proofs.Common.{◌≡◌, ℕ, List, sym, ◌∙◌, subst}
+use Rattle.std.proofs.Common.{◌≡◌, ℕ, List, refl, sym, ◌∙◌, subst}
 use Rattle.alp_script.specs.Accepted.{IsAccepted}
 use Rattle.alp_script.specs.Reading.{GaveScript}
 use Rattle.alp_script.specs.declared.numbered.NumberedLine.{NumberedLine}
 use Rattle.alp_words.specs.Words.{folder_named}
 use Rattle.alp_top.specs.Headline.{HasCause}
 use Rattle.alp_top.specs.Volumes.{IsFolderLeft}
-use Rattle.alp_top.proofs.PlayedLemmas.{is_played, is_cut_off, done_then, cut_then, caused, folder_left, handed_folder, disk_counted, handed_counted, has_reported, has_reported_part, handed_limits, handed_disk, not_done, not_cut, limited, of_declared, bay_told, named_folder, folder_told, plays_on, not_flawed, not_untaken}
+use Rattle.alp_top.proofs.PlayedLemmas.{is_played, is_cut_off, done_then, cut_then, caused, folder_left, handed_folder, disk_counted, handed_counted, has_reported, has_reported_part, handed_limits, handed_disk, not_done, not_cut, limited, of_declared, bay_told, read_well, wrote_well, named_folder, folder_told, plays_on, not_flawed, not_untaken}
 use Rattle.alp_top.proofs.run.run_alpine.Goals as goal
 
 pub run_bay-requires-clause-accepted : goal.run_bay-requires-clause-accepted
@@ -61,7 +61,7 @@ returns-clause-any_bay g c =
     }
 
 pub returns-clause-faults : goal.returns-clause-faults
-returns-clause-faults g c = ?
+returns-clause-faults g c = (read_well c.ended_by.result c.in-Err.fault _ _ c.ended_by.ensures ?, wrote_well c.ended_by.result c.in-Err.fault _ _ c.ended_by.ensures refl, bay_told c.ended_by.result c.in-Err.fault _ _ _ c.ended_by.ensures c.in-Err.ensures.counted c.in-Err.ensures.bay)
 
 pub returns-clause-folder : goal.returns-clause-folder
 returns-clause-folder g c =
