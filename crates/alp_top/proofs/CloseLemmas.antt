@@ -252,3 +252,18 @@ module _ {V D : Type 0} (G : VaultGhosts V) (g : Ghosts D) (tells : Bool) (all :
   all_kept left now r x rests h none is =
       let whole : h.done ≡ all = sym (h.are ∙ ap (λ (xs : List (Station V)). xs ++ h.done) none) in
       subst (λ (xs : List (Station V)). AreRestsOf G xs rests) whole (subst (λ p. OnOk p (AreRestsOf G h.done rests)) is h.kept)
+
+-- what they came to
+ok_not : {T : Type 0} (x : T) (f : RunFault) → ◌≡◌ {A = Result T RunFault} (Ok x) (Err f) → ⊥
+ok_not x f e = cc
+
+err_same : {T : Type 0} (a b : RunFault) → ◌≡◌ {A = Result T RunFault} (Err a) (Err b) → a ≡ b
+err_same a b e = cc
+
+module _ {V D : Type 0} (G : VaultGhosts V) (g : Ghosts D) (tells : Bool) (all : List (Station V)) (before : ℕ → Option D) where
+  pub closed_ok : {T U : Type 0} (left : List (Station V)) (now : ℕ → Option D) (r : Result T RunFault) (x : T) (y : U) (rests : Rests V) → Closing G g tells all left before now r rests → left ≡ [] → r ≡ Ok x → AreClosed {T = U} G g tells (length all) all before now (Ok y)
+  closed_ok left now r x y rests h none is = all_closed G g tells all before left now r (Ok y) rests h none (λ f e. absurd (ok_not x f (sym is ∙ e))) (λ z e. (y, refl))
+
+  pub closed_err : {T U : Type 0} (left : List (Station V)) (now : ℕ → Option D) (r : Result T RunFault) (f : RunFault) (rests : Rests V) → Closing G g tells all left before now r rests → left ≡ [] → r ≡ Err f → AreClosed {T = U} G g tells (length all) all before now (Err f)
+  closed_err {T} {U} left now r f rests h none is =
+      all_closed G g tells all before left now r (Err f) rests h none (λ k e. subst (λ (q : RunFault). ◌≡◌ {A = Result U RunFault} (Err f) (Err q)) (err_same f k (sym is ∙ e)) refl) (λ x e. absurd (ok_not x f (sym e ∙ is)))

@@ -2,6 +2,8 @@
 use Rattle.std.specs.Prelude.{Vec, Bool, IsTrue, slice_get, Option, Some, Result, Ok, Err, OnOk}
 use Rattle.std.specs.Global.{Global}
 use Rattle.std.proofs.Common.{◌≡◌, ℕ, zero, suc, ◌+◌, ◌-◌, ◌<◌, ◌≤◌, List, [], ◌∷◌, length, refl, sym, ◌∙◌, ap, subst, arith}
+use Rattle.alp_bay.specs.declared.bay.BayFault.{BayFault}
+use Rattle.alp_bay.specs.declared.bay.BayFault.TheVariants as bay_fault
 use Rattle.alp_course.specs.Courses.{Seat, IsOneOf, IsSeat, seat_at}
 use Rattle.alp_disk.specs.declared.disk.Disk.{Ghosts}
 use Rattle.alp_journal.specs.declared.log.Item.{Item}
@@ -27,7 +29,7 @@ use Rattle.alp_cluster.proofs.GoneLemmas.{gone_memory}
 use Rattle.alp_top.specs.Anywhere.{IsPlayedThrough}
 use Rattle.alp_top.specs.Disks.{IsBegunAt, AreBegun, IsOfServer, HaveBegun, HaveBegunSome, AreHeld, AreLeftBy, IsAtRest, AreAtRest, AreClosed}
 use Rattle.alp_top.specs.Endings.{AreRestsOf, IsReportOf}
-use Rattle.alp_top.specs.Faults.{played}
+use Rattle.alp_top.specs.Faults.{of_bay, played}
 use Rattle.alp_top.specs.Headline.{IsRunOf}
 use Rattle.alp_top.specs.Logs.{Log}
 use Rattle.alp_top.specs.Volumes.{HasFilled, HasUsedUp, HasRunCause, IsBayFault, IsBayTold, IsOfServers}
@@ -63,6 +65,11 @@ play_still (run_fault.Start s (start_fault.Vault (vault_fault.NotAVolume found))
 play_still (run_fault.Start s (start_fault.Vault (vault_fault.Damaged place))) before now same = same
 play_still (run_fault.Start s start_fault.BadNote) before now same = same
 play_still (run_fault.Start s start_fault.EpochEnd) before now same = same
+
+-- the bay names no server
+pub bay_uncounted : {D : Type 0} (g : Ghosts D) (servers : ℕ) (f : BayFault) → IsOfServers g servers (of_bay f)
+bay_uncounted g servers bay_fault.Failed = tt
+bay_uncounted g servers bay_fault.OutOfMemory = tt
 
 -- one of the servers, the first of those that are not started
 pub start_counted : {D : Type 0} (g : Ghosts D) (servers k : ℕ) (f : NoReport) → k < servers → IsOfServer g (k + 1) f → IsOfServers g servers f
@@ -269,3 +276,10 @@ held_moved {V} G t tells xs ss same stations h = subst (λ (b : Bool). AreHeld G
 
 pub rest_moved : {V : Type 0} (G : VaultGhosts V) (t tells : Bool) (xs ss : List (Station V)) → tells ≡ t → xs ≡ ss → AreAtRest G tells 1 ss → AreAtRest G t 1 xs
 rest_moved {V} G t tells xs ss same stations h = subst (λ (b : Bool). AreAtRest G b 1 xs) same (subst (AreAtRest G tells 1) (sym stations) h)
+
+pub rests_moved : {V : Type 0} (G : VaultGhosts V) (xs ss : List (Station V)) (r : Rests V) → xs ≡ ss → AreRestsOf G xs r → AreRestsOf G ss r
+rests_moved {V} G xs ss r same h = subst (λ (zs : List (Station V)). AreRestsOf G zs r) same h
+
+pub report_moved : {V : Type 0} (r : Rests V) (ls vs : List (Vec Item Global)) (xs text : List ℕ) (log : Log V) (printed : List ℕ) → ls ≡ vs → xs ≡ text → IsReportOf r ls xs log printed → IsReportOf r vs text log printed
+report_moved r ls vs xs text log printed lists texts h =
+    subst (λ (zs : List (Vec Item Global)). IsReportOf r zs text log printed) lists (subst (λ (zs : List ℕ). IsReportOf r ls zs log printed) texts h)

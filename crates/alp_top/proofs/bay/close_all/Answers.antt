@@ -1,10 +1,11 @@
-use Rattle.std.specs.Prelude.{Bool, Option, IsTrue, Ok, Err}
-use Rattle.std.proofs.Common.{◌≡◌, ◌≤◌, ◌<◌, ◌+◌, ℕ, List, length, length-append, refl, sym, ◌∙◌, ap, subst, arith}
+use Rattle.std.specs.Prelude.{Bool, Option, IsTrue}
+use Rattle.std.proofs.Common.{rules, ◌≡◌, ◌≤◌, ◌<◌, ◌+◌, ℕ, List, length, length-append, refl, sym, ◌∙◌, ap, subst, arith}
 use Rattle.alp_disk.specs.contracts.fuse.Fuse.{the_row}
 use Rattle.alp_disk.specs.contracts.fuse.FuseDisk.TheImpl as fuse_disk
 use Rattle.alp_store.specs.contracts.store.StoreVault.TheImpl as store_vault
-use Rattle.alp_top.specs.Disks.{IsAtRest, AreAtRest, IsClosedHere, GoesOn}
-use Rattle.alp_top.proofs.CloseLemmas.{rest_last, closing_none, closing_more, all_closed, all_kept}
+use Rattle.alp_cluster.specs.Fills.{OnEnd}
+use Rattle.alp_top.specs.Disks.{IsAtRest, AreAtRest, IsElsewhere, IsClosedHere, GoesOn}
+use Rattle.alp_top.proofs.CloseLemmas.{rest_last, closing_none, closing_more, closed_ok, closed_err, all_kept}
 use Rattle.alp_top.proofs.bay.close_all.Goals as goal
 
 pub loop-station-init : goal.loop-station-init
@@ -70,16 +71,13 @@ loop-station-preserved g c =
     }
 
 pub returns-in-Ok-clause-closed : goal.returns-in-Ok-clause-closed
-returns-in-Ok-clause-closed g c =
-    all_closed _ g.B.Device.Disk (g.B.Bay.tells c.args.bay.now) c.args.stations.items (g.B.Bay.at c.args.bay.now) c.loop-station.stations.items (g.B.Bay.at c.loop-station.bay) c.loop-station.ended (Ok c.loop-station.rests) c.loop-station.rests c.loop-station.invariant.going
-    ? (λ f is. absurd (wrong (sym c.in-Ok.is ∙ is))) (λ x is. (c.loop-station.rests, refl))
-  where
-    wrong : {T : Type 0} {E : Type 0} {x : T} {f : E} → ◌≡◌ {A = Result T E} (Ok x) (Err f) → ⊥
-    wrong e = cc
+returns-in-Ok-clause-closed g c = closed_ok _ g.B.Device.Disk (g.B.Bay.tells c.args.bay.now) c.args.stations.items (g.B.Bay.at c.args.bay.now) c.loop-station.stations.items (g.B.Bay.at c.loop-station.bay) c.loop-station.ended c.in-Ok.field-0 c.loop-station.rests c.loop-station.rests c.loop-station.invariant.going (search rules) c.in-Ok.is
 
 pub returns-clause-closed : goal.returns-clause-closed
-returns-clause-closed g c = ?
+returns-clause-closed g c = closed_err _ g.B.Device.Disk (g.B.Bay.tells c.args.bay.now) c.args.stations.items (g.B.Bay.at c.args.bay.now) c.loop-station.stations.items (g.B.Bay.at c.loop-station.bay) c.loop-station.ended c.in-Err.fault c.loop-station.rests c.loop-station.invariant.going (search rules) c.in-Err.is
 
 pub returns-in-Ok-clause-rests : goal.returns-in-Ok-clause-rests
-returns-in-Ok-clause-rests g c =
-    all_kept _ g.B.Device.Disk (g.B.Bay.tells c.args.bay.now) c.args.stations.items (g.B.Bay.at c.args.bay.now) c.loop-station.stations.items (g.B.Bay.at c.loop-station.bay) c.loop-station.ended c.in-Ok.field-0 c.loop-station.rests c.loop-station.invariant.going ? c.in-Ok.is
+returns-in-Ok-clause-rests g c = all_kept _ g.B.Device.Disk (g.B.Bay.tells c.args.bay.now) c.args.stations.items (g.B.Bay.at c.args.bay.now) c.loop-station.stations.items (g.B.Bay.at c.loop-station.bay) c.loop-station.ended c.in-Ok.field-0 c.loop-station.rests c.loop-station.invariant.going (search rules) c.in-Ok.is
+
+pub returns-clause-room : goal.returns-clause-room
+returns-clause-room g c = subst (λ r. OnEnd r (λ f. ⊥)) c.in-Err.is c.loop-station.invariant.room

@@ -40,8 +40,9 @@ unreachable-requires g c = (let rest = c.requires.at_rest in c.in_default-up.not
 
 pub end_node-vault-requires-clause-on : goal.end_node-vault-requires-clause-on
 end_node-vault-requires-clause-on g c =
+    let G = store_vault.ghosts (the_row g.row.B-Device g.B.Device.Disk) (fuse_disk.ghosts g.row.B-Device g.B.Device.Disk g.B.Device.Disk-dict g.B.Device.Destruct-dict) fuse_disk.no_dict fuse_disk.no_dict in
     let rest = c.requires.at_rest in
-    subst (λ n. IsOn _ n) (one_node c.args.station.server rest.node c.in-Up.node rest.stands (c.into_parts-up.ensures.server ∙ ap (λ s. Some s) c.in-Up.is)) rest.on
+    subst (λ n. IsOn G n) (one_node c.args.station.server rest.node c.in-Up.node rest.stands (c.into_parts-up.ensures.server ∙ ap (λ s. Some s) c.in-Up.is)) rest.on
 
 pub end_node-vault-requires-clause-up : goal.end_node-vault-requires-clause-up
 end_node-vault-requires-clause-up g c =
@@ -55,7 +56,11 @@ end_node-vault-requires-clause-free g c =
     subst (λ n. G.allowance n.kept.vault ≡ Free) (one_node c.args.station.server rest.node c.in-Up.node rest.stands (c.into_parts-up.ensures.server ∙ ap (λ s. Some s) c.in-Up.is)) rest.free
 
 pub give-requires-2-clause-told : goal.give-requires-2-clause-told
-give-requires-2-clause-told g c κs lives told = ?
+give-requires-2-clause-told g c κs lives told =
+    let G = store_vault.ghosts (the_row g.row.B-Device g.B.Device.Disk) (fuse_disk.ghosts g.row.B-Device g.B.Device.Disk g.B.Device.Disk-dict g.B.Device.Destruct-dict) fuse_disk.no_dict fuse_disk.no_dict in
+    let rest = c.requires.at_rest in
+    subst IsTrue (sym c.end_node-vault.ensures.gone.same.telling)
+    (subst (λ n. IsTrue (G.tells n.kept.vault)) (one_node c.args.station.server rest.node c.in-Up.node rest.stands (c.into_parts-up.ensures.server ∙ ap (λ s. Some s) c.in-Up.is)) (rest.told told))
 
 pub returns-clause-closed : goal.returns-clause-closed
 returns-clause-closed g c servers most away =

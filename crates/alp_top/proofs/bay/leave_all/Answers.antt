@@ -1,5 +1,5 @@
 use Rattle.std.specs.Prelude.{Bool, Option, IsTrue}
-use Rattle.std.proofs.Common.{◌≡◌, ◌≤◌, ◌<◌, ◌+◌, ℕ, List, length, length-append, refl, sym, ◌∙◌, ap, subst, arith}
+use Rattle.std.proofs.Common.{rules, ◌≡◌, ◌≤◌, ◌<◌, ◌+◌, ℕ, List, length, length-append, refl, sym, ◌∙◌, ap, subst, arith}
 use Rattle.alp_disk.specs.contracts.fuse.Fuse.{the_row}
 use Rattle.alp_disk.specs.contracts.fuse.FuseDisk.TheImpl as fuse_disk
 use Rattle.alp_store.specs.contracts.store.StoreVault.TheImpl as store_vault
@@ -67,7 +67,7 @@ loop-station-preserved g c =
 pub returns-clause-left : goal.returns-clause-left
 returns-clause-left g c =
     all_left _ g.B.Device.Disk (g.B.Bay.tells c.args.bay.now) c.args.stations.items (g.B.Bay.at c.args.bay.now) c.loop-station.stations.items (g.B.Bay.at c.loop-station.bay) c.loop-station.invariant.going
-    ?
+    (search rules)
 
 pub returns-clause-tells : goal.returns-clause-tells
 returns-clause-tells g c = c.loop-station.invariant.tells

@@ -61,7 +61,7 @@ returns-clause-any_bay g c =
     }
 
 pub returns-clause-faults : goal.returns-clause-faults
-returns-clause-faults g c = (read_well c.ended_by.result c.in-Err.fault _ _ c.ended_by.ensures ?, wrote_well c.ended_by.result c.in-Err.fault _ _ c.ended_by.ensures refl, bay_told c.ended_by.result c.in-Err.fault _ _ _ c.ended_by.ensures c.in-Err.ensures.counted c.in-Err.ensures.bay)
+returns-clause-faults g c = (read_well c.ended_by.result c.in-Err.fault _ _ c.ended_by.ensures c.in-Ok-read_script.ensures.cause, wrote_well c.ended_by.result c.in-Err.fault _ _ c.ended_by.ensures refl, bay_told c.ended_by.result c.in-Err.fault _ _ _ c.ended_by.ensures c.in-Err.ensures.counted c.in-Err.ensures.bay)
 
 pub returns-clause-folder : goal.returns-clause-folder
 returns-clause-folder g c =
