@@ -15,6 +15,7 @@ use Rattle.alp_base.specs.declared.ids.Stamp.{Stamp}
 use Rattle.alp_base.specs.declared.ids.TransId.{TransId}
 use Rattle.alp_fields.specs.ClockNote.{clock_name, clock_form, clock_kept}
 use Rattle.alp_fields.specs.declared.clock_note.ClockNote.{ClockNote}
+use Rattle.alp_fields.specs.declared.decision_note.Decision.{Decision as DecisionKept}
 use Rattle.alp_fields.specs.declared.ready_note.ReadyPart.{ReadyPart}
 use Rattle.alp_files.specs.History.{Decided}
 use Rattle.alp_files.specs.declared.call.Call.{Call}
@@ -99,6 +100,8 @@ module _ (s : State) (stamp : Stamp) (l : Life) (voted : AreVoted s) (here : (st
         clock = k.clock ∙ ap (λ (o : Option Life). record { epoch = epoch; clock = (commits s.holder stamp o).kept }) (sym live);
         ready = λ j named. ready_on s.holder.lives decided_state.holder.lives (s.phases j) (ready_at then j) (stays j) (k.ready j named);
         decided = λ t named. k.decided t named ∙ sym (alone_kept stamp (same_trans stamp.trans t) (s.fates t));
+        fit = h.fit;
+        fit_decided = λ t is. h.fit_decided t (ap (λ (o : Option DecisionKept). is_some o) (sym (alone_kept stamp (same_trans stamp.trans t) (s.fates t))) ∙ is);
         format = subst (λ (n : ℕ). AreServerNotes n s.servers then) (sym (same_server (s.holder.lives stamp.trans))) k.format;
       }
 
@@ -126,7 +129,7 @@ module _ (x : Event) (s : State) (t : TransId) (time : ℕ) (l : Life) (rest : L
 -- what was told says of notes what was done
 pub notes_told : (s m : State) (e : Entry) (epoch : ℕ) (notes : Notes) → stops e ≡ false → next s e ≡ m → AreNotesOf (did s e) epoch notes → AreNotesOf m epoch notes
 notes_told s m e epoch notes on leads h =
-    let so : AreNotesOf (told s e) epoch notes = record { clock = h.clock; ready = h.ready; decided = h.decided; format = h.format } in
+    let so : AreNotesOf (told s e) epoch notes = record { clock = h.clock; ready = h.ready; decided = h.decided; fit = h.fit; fit_decided = h.fit_decided; format = h.format } in
     subst (λ (z : State). AreNotesOf z epoch notes) (sym (ap (λ (b : Bool). cond {A = State} b (halted s e) (told s e)) on) ∙ leads) so
 
 -- grants leave the cells

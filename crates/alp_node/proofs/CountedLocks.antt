@@ -64,7 +64,7 @@ rest_held r rs m all once q = go (eq_by_cmp resource_cmp q r) refl ∙ ap is_som
     go false e = ap (λ (b : Bool). b || has_resource q rs) (sym e) ∙ all q ∙ sym (ap (λ (b : Bool). is_some (cond {A = Option Mode} b None (map.get m q))) e)
 
 -- as many are held as are named once
-as_many : (rs : List Resource) (m : Locks) → ((r : Resource) → has_resource r rs ≡ is_some (map.get m r)) → AreNamedOnce rs → sum_of (λ (e : Resource × Mode). 1) m ≡ length rs
+pub as_many : (rs : List Resource) (m : Locks) → ((r : Resource) → has_resource r rs ≡ is_some (map.get m r)) → AreNamedOnce rs → sum_of (λ (e : Resource × Mode). 1) m ≡ length rs
 as_many [] m all once = sum_of-nothing resources_total exact_resources (λ (e : Resource × Mode). 1) m (λ r v is. absurd (let wrong : false ≡ true = all r ∙ ap is_some is in cc))
 as_many (r ∷ rs) m all once = there (map.get m r) refl (sym (all r) ∙ ap (λ (b : Bool). b || has_resource r rs) (its_own r)) (as_many rs (map.remove m r) (rest_held r rs m all once.0) once.1)
   where

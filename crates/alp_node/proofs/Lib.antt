@@ -1,6 +1,7 @@
 pub mod BlockSets
 pub mod MapLemmas
 pub mod ClockLaws
+pub mod EarlyLemmas
 pub mod ReadyLemmas
 pub mod SeatLemmas
 pub mod GivenLemmas
@@ -95,6 +96,7 @@ pub mod StopLemmas
 pub mod PastLemmas
 pub mod DownLemmas
 pub mod RaiseLemmas
+mod RestartTold
 pub mod RestLemmas
 pub mod LeastOpens
 pub mod NoteLemmas
@@ -106,6 +108,16 @@ pub mod EndingLemmas
 pub mod OutcomeLemmas
 pub mod JoinLemmas
 pub mod LogLemmas
+pub mod FoundNotes
+pub mod FoundLives
+pub mod FoundStart
+pub mod FoundReady
+pub mod FinishedFates
+pub mod TickSays
+pub mod PastIds
+pub mod FoundAs
+pub mod FoundNew
+pub mod StartMade
 mod AbortReady
 mod LeftWrites
 mod LetGoWrites
@@ -117,9 +129,13 @@ mod ForgetSteps
 mod CountedLocks
 mod VoteForSteps
 mod VoteNotes
-pub mod FinishedFates
-pub mod TickSays
 pub mod OpenJoins
 pub mod LateTold
 pub mod LateReady
 pub mod LateSteps
+pub mod DecidedNotes
+pub mod TimelySteps
+pub mod FewJoins
+pub mod LastVotes
+pub mod LastSteps
+pub mod AgainstSteps

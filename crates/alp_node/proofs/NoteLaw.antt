@@ -1,6 +1,6 @@
 -- an entry that makes no commit leaves what the notes of a server say: its ready parts stay with their locks and what they intend, its
 -- decisions stay, and so does the clock that a restart finds
-use Rattle.std.specs.Prelude.{Bool, true, false, cond, not, ◌&&◌, ◌||◌, ◌==◌, ◌+◌, nat_lt, flat_map, is_none, Option, None, Some}
+use Rattle.std.specs.Prelude.{Bool, true, false, cond, not, ◌&&◌, ◌||◌, ◌==◌, ◌+◌, nat_lt, flat_map, is_none, is_some, Option, None, Some}
 use Rattle.std.specs.List.{list_any, AllByRecursion}
 use Rattle.std.proofs.Common.{◌≡◌, ℕ, List, [], ◌∷◌, ◌++◌, refl, sym, ap, subst, ◌∙◌, inl, inr, eq-eqb}
 use Rattle.std.proofs.lemmas.Bool.{and_parts}
@@ -8,6 +8,7 @@ use Rattle.alp_base.specs.Notes.{Notes}
 use Rattle.alp_base.specs.declared.ids.JoinNo.{JoinNo}
 use Rattle.alp_base.specs.declared.ids.Stamp.{Stamp}
 use Rattle.alp_base.specs.declared.ids.TransId.{TransId}
+use Rattle.alp_fields.specs.declared.decision_note.Decision.{Decision}
 use Rattle.alp_fields.specs.declared.ready_note.ReadyPart.{ReadyPart}
 use Rattle.alp_files.specs.declared.call.Call.{Call}
 use Rattle.alp_files.specs.declared.call.Call.TheVariants as call
@@ -42,6 +43,7 @@ use Rattle.alp_node.specs.Durable.{IsKeptIf, IsReadyNote, AreNotesOf}
 use Rattle.alp_ready.specs.NoteLooks.{ready_at}
 use Rattle.alp_node.specs.Noted.{decision_kept}
 use Rattle.alp_vault.specs.Volumes.{is_server_note}
+use Rattle.alp_node.proofs.NotedLemmas.{ready_before}
 
 -- ---- what the notes say
 
@@ -70,6 +72,8 @@ notes_along s m epoch notes h k = record {
   clock = k.clock ∙ (λ i. record { epoch = epoch; clock = sym h.kept i });
   ready = λ j fits. h.ready j (ready_at notes j) (k.ready j fits);
   decided = λ t fits. k.decided t fits ∙ sym (h.decided t);
+  fit = λ j is. k.fit j (ready_before s.holder.lives m.holder.lives (s.phases j) (m.phases j) (h.ready j) is);
+  fit_decided = λ t is. k.fit_decided t (ap (λ (o : Option Decision). is_some o) (sym (h.decided t)) ∙ is);
   format = λ name value is. subst (λ (n : ℕ). is_server_note n m.servers name value ≡ true) (sym h.server) (subst (λ (n : ℕ). is_server_note s.holder.server n name value ≡ true) (sym h.servers) (k.format name value is));
 }
 

@@ -8,13 +8,14 @@ use Rattle.std.proofs.Common.{◌≡◌, ℕ, List, [], ◌∷◌, ◌++◌, ref
 use Rattle.alp_base.specs.Notes.{Notes}
 use Rattle.alp_base.specs.declared.ids.JoinNo.{JoinNo}
 use Rattle.alp_base.specs.declared.ids.TransId.{TransId}
+use Rattle.alp_fields.specs.declared.decision_note.Decision.{Decision}
 use Rattle.alp_fields.specs.declared.ready_note.ReadyPart.{ReadyPart}
 use Rattle.alp_vault.specs.Volumes.{AreServerNotes}
 use Rattle.alp_journal.specs.Account.{Account, Stands, IsJoined}
 use Rattle.alp_journal.specs.Holder.{Life}
 use Rattle.alp_journal.specs.Ids.{same_trans, same_join}
 use Rattle.alp_journal.specs.Messages.{trans_ready}
-use Rattle.alp_journal.specs.Participant.{Phase, Unseen, Joining, Active, Ready, Applied, Over}
+use Rattle.alp_journal.specs.Participant.{Phase, Unseen, Joining, Active, Ready, Applied, Over, is_ready}
 use Rattle.alp_journal.specs.State.{State}
 use Rattle.alp_journal.proofs.IdLemmas.{same_trans-true, same_join-true}
 use Rattle.alp_journal.specs.Laws.{IsHolding}
@@ -151,6 +152,24 @@ noted_decided server servers epoch m joins before after notes same h = record { 
 
 -- ---- by what the journal says
 
+-- one that is ready has a note
+none_ready : {P : Type 0} (now : TransId → Option Life) (q : Phase) → IsReadyNote now q None → is_ready q ≡ true → P
+none_ready now (Ready t c ts) none is = absurd none
+none_ready now Unseen none is = absurd (let wrong : false ≡ true = is in cc)
+none_ready now (Joining t c who) none is = absurd (let wrong : false ≡ true = is in cc)
+none_ready now (Active t c who) none is = absurd (let wrong : false ≡ true = is in cc)
+none_ready now (Applied t stamp) none is = absurd (let wrong : false ≡ true = is in cc)
+none_ready now Over none is = absurd (let wrong : false ≡ true = is in cc)
+
+-- a join is ready where one was whose note would stand
+pub ready_before : (before now : TransId → Option Life) (p q : Phase) → ((x : Option ReadyPart) → IsReadyNote before p x → IsReadyNote now q x) → is_ready q ≡ true → is_ready p ≡ true
+ready_before before now (Ready t c ts) q on is = refl
+ready_before before now Unseen q on is = none_ready now q (on None refl) is
+ready_before before now (Joining t c who) q on is = none_ready now q (on None refl) is
+ready_before before now (Active t c who) q on is = none_ready now q (on None refl) is
+ready_before before now (Applied t stamp) q on is = none_ready now q (on None refl) is
+ready_before before now Over q on is = none_ready now q (on None refl) is
+
 -- what is kept of ready parts is as it was, and so are the clock that a restart finds and the decisions with joins
 pub notes_on : (s m : State) (epoch : ℕ) (notes : Notes) → m.holder.kept ≡ s.holder.kept → m.holder.server ≡ s.holder.server → m.servers ≡ s.servers → ((t : TransId) → decision_kept (m.fates t) ≡ decision_kept (s.fates t))
     → ((j : JoinNo) (x : Option ReadyPart) → IsReadyNote s.holder.lives (s.phases j) x → IsReadyNote m.holder.lives (m.phases j) x) → AreNotesOf s epoch notes → AreNotesOf m epoch notes
@@ -158,6 +177,8 @@ notes_on s m epoch notes kept server servers fates ready h = record {
   clock = h.clock ∙ ap (λ (n : ℕ). record { epoch = epoch; clock = n }) (sym kept);
   ready = λ j fits. ready j (ready_at notes j) (h.ready j fits);
   decided = λ t fits. h.decided t fits ∙ sym (fates t);
+  fit = λ j is. h.fit j (ready_before s.holder.lives m.holder.lives (s.phases j) (m.phases j) (ready j) is);
+  fit_decided = λ t is. h.fit_decided t (ap (λ (o : Option Decision). is_some o) (sym (fates t)) ∙ is);
   format = subst (λ (n : ℕ). AreServerNotes n m.servers notes) (sym server) (subst (λ (n : ℕ). AreServerNotes s.holder.server n notes) (sym servers) h.format);
 }
 

@@ -1,237 +1,418 @@
--- what stays of a server that fell, and what it keeps when it starts again
-use Rattle.std.specs.Prelude.{cond, Bool, true, false, ◌==◌, ◌&&◌, ◌||◌, nat_lt, nat_le, Option, None, Some, is_some}
-use Rattle.std.specs.List.{AllByRecursion}
+-- what stays of a server that fell, and what a restart finds made of what it went down in
+use Rattle.std.specs.Prelude.{cond, max, Bool, true, false, ◌==◌, ◌||◌, Option, None, Some}
+use Rattle.std.specs.List.{list_any}
 use Rattle.std.specs.FinMap as map
-use Rattle.std.proofs.Common.{◌≡◌, ℕ, zero, suc, ◌+◌, ◌<◌, ◌≤◌, List, [], ◌∷◌, refl, sym, ◌∙◌, ap, subst, arith, eq-eqb}
-use Rattle.std.proofs.lemmas.Bool.{lt-ltb, ltb-true, leb-true, eqb-true}
-use Rattle.alp_base.proofs.NameLemmas.{and_left, and_right}
+use Rattle.std.specs.FinMap.Entries.{put}
+use Rattle.std.proofs.Common.{◌≡◌, ◌⊎◌, inl, inr, ℕ, ◌+◌, ◌<◌, ◌≤◌, List, [], ◌∷◌, refl, sym, ◌∙◌, ap, subst, arith, eq-eqb}
+use Rattle.std.proofs.lemmas.Bool.{or_left, or_right, and_from}
 use Rattle.alp_base.specs.declared.faults.Sizes.{Sizes}
-use Rattle.alp_base.specs.declared.ids.FileId.{FileId}
+use Rattle.alp_base.specs.declared.ids.JoinNo.{JoinNo}
+use Rattle.alp_base.specs.declared.ids.Stamp.{Stamp}
 use Rattle.alp_base.specs.declared.ids.TransId.{TransId}
 use Rattle.alp_base.specs.declared.key.Key.TheVariants.{Leader}
 use Rattle.alp_base.specs.declared.key.Resource.{Resource}
-use Rattle.alp_fields.specs.declared.clock_note.ClockNote.{ClockNote}
-use Rattle.alp_files.specs.Apart.{AreSized}
 use Rattle.alp_files.specs.Cells.{Cells, View}
-use Rattle.alp_files.specs.Edits.{edits_at, edits_map}
+use Rattle.alp_files.specs.Edits.{Edit, edits_at, edits_map}
 use Rattle.alp_files.specs.History.{Decided}
+use Rattle.alp_files.proofs.FilesLemmas.{same-some}
 use Rattle.alp_files.proofs.HistoryLemmas.{get-edits_map}
-use Rattle.alp_locks.proofs.SoundLemmas.{each-more}
 use Rattle.alp_vault.specs.Contents.{Contents}
-use Rattle.alp_vault.specs.Volumes.{IsVolumeOf}
-use Rattle.alp_journal.specs.Ids.{is_drawn, same_trans}
-use Rattle.alp_journal.specs.Along.{Where}
-use Rattle.alp_journal.specs.Coordinator.{Fate, Undrawn, Running, Finishing, Committed, Forgotten, Ended}
+use Rattle.alp_journal.specs.Along.{state_after}
+use Rattle.alp_journal.specs.Ids.{same_trans, same_join, same_stamp, has_stamp, stamp_cmp}
+use Rattle.alp_journal.specs.Deeds.{Deed, Finishes, Hears, Decides, Readies, Applies, Aborts, Acknowledges, Forgets}
+use Rattle.alp_journal.specs.Coordinator.{Fate, Vote, Committed, Forgotten, with_vote}
 use Rattle.alp_journal.specs.Coordinator as fate
-use Rattle.alp_journal.specs.Holder.{Life, if_ready}
-use Rattle.alp_journal.specs.Counts.{kept_locks}
-use Rattle.alp_journal.specs.State.{is_other_server}
-use Rattle.alp_journal.specs.Account.{Account, state_of, IsFateOf as IsToldFate, IsQuiet, IsTriedCommit, AreEarlier}
-use Rattle.alp_journal.specs.Restarts.{restarted_at, with_decided}
-use Rattle.alp_journal.proofs.IdLemmas.{all-append}
-use Rattle.alp_journal.proofs.RestartLemmas.{IsNoted}
-use Rattle.alp_journal.proofs.StampLemmas.{put-last, AreEarlier-push}
-use Rattle.alp_coord.specs.Coordinators.{IsOf, fate_in}
-use Rattle.alp_coord.specs.Likeness.{IsLike, same, is_over, IsLikeOld, nothing, IsFateOf}
-use Rattle.alp_node.specs.Decisions.{IsPlain}
-use Rattle.alp_node.specs.Durable.{clock_notes}
-use Rattle.alp_node.specs.Downs.{IsPast}
-use Rattle.alp_node.specs.ServerState.{IsAs, IsReady, IsAlike, SeesNoneToCome, PutNoneBeyond, AreMade, ids_to}
-use Rattle.alp_node.specs.Totals.{totals_of, HaveRoom}
+use Rattle.alp_journal.specs.Participant.{Phase, Active, Ready}
+use Rattle.alp_journal.specs.Holder.{Holder, Life, commits, emptied, if_ready, in_history, lapsed, readies}
+use Rattle.alp_journal.specs.State.{State, Ids, state_deed}
+use Rattle.alp_journal.specs.Laws.{is_standing, latest_vote}
+use Rattle.alp_journal.specs.Answered.{is_all_done}
+use Rattle.alp_journal.specs.Account.{Account, state_of, HasLife, IsFateOf, Stands, IsQuiet, HasTried, IsTriedCommit, IsTriedDecision, IsTriedVote, IsTriedApplication, IsTriedEnd, IsTriedAbort, AreEarlier, Leads}
+use Rattle.alp_journal.specs.Restarts.{restart_entry, restarted_at, with_decided, with_vote_of, with_applied, with_forgotten, with_aborted}
+use Rattle.alp_journal.proofs.IdLemmas.{same_trans-true, same_trans-itself}
+use Rattle.alp_journal.proofs.RestartLemmas.{IsNoted, restart_leads}
+use Rattle.alp_journal.proofs.RestartMade.{commit_made_leads, decision_made_leads, vote_made_leads, application_made_leads, end_made_leads, abort_made_leads}
+use Rattle.alp_node.specs.Downs.{IsPartPast, IsPast, state_then}
+use Rattle.alp_node.specs.Noted.{decision_kept}
+use Rattle.alp_node.specs.ServerState.{IsAlike, IsAs, SeesNoneToCome, PutNoneBeyond, AreMade}
+use Rattle.alp_node.specs.declared.lives.Live.{Live}
 use Rattle.alp_node.specs.declared.server_state.ServerState.{ServerState}
-use Rattle.alp_node.proofs.DecisionLemmas.{restarted_plain}
 use Rattle.alp_node.proofs.KeptLemmas.{earlier_more}
-use Rattle.alp_node.proofs.OneServer.{none_live_in, live_one, noted_none}
-use Rattle.alp_node.proofs.StartLemmas.{IsNewCoordinator, new_kept, new_room, no_lives, alike_none, no_session, volume_sized}
-use Rattle.alp_node.proofs.ToComeLemmas.{comes_after}
+use Rattle.alp_node.proofs.MadeAs.{earlier_put}
 
 -- ---- what stays
 
-pub past_of : {V : Type 0} (n : ℕ) (serves : Bool) (a : Account) (held : Contents) (k : ServerState V) (sizes : Sizes) → IsAs a held k → IsReady n serves k → k.sizes ≡ sizes → IsPast a k.server k.epoch sizes
-past_of n serves a held k sizes h ready sizes_same = record {
+part_past : {V : Type 0} (a : Account) (held : Contents) (k : ServerState V) → IsAs a held k → (t : TransId) (l : Life) → a.holder.lives t ≡ Some l → IsPartPast l (a.locked t)
+part_past a held k h t l is = go (map.get k.lives t) (a.holder.lives t) is (h.lives t)
+  where
+    go : (o : Option Live) (x : Option Life) → x ≡ Some l → IsAlike a.holder.cells k.locks.held (a.locked t) t o x → IsPartPast l (a.locked t)
+    go None None e alike = let wrong : None ≡ Some l = e in cc
+    go None (Some y) e alike = absurd alike
+    go (Some z) None e alike = absurd alike
+    go (Some z) (Some y) e alike = subst (λ (x : Life). IsPartPast x (a.locked t)) (same-some y l e) (record { within = alike.within; intended = alike.intended; sized = alike.sized; known = alike.known })
+
+pub past_of : {V : Type 0} (a : Account) (held : Contents) (k : ServerState V) (sizes : Sizes) → IsAs a held k → k.sizes ≡ sizes → IsPast a k.server k.servers k.epoch sizes
+past_of a held k sizes h sizes_same = record {
   number = h.server;
-  lone = h.lone;
+  among = h.servers;
   volume = h.sizes ∙ sizes_same;
   now = h.epoch;
-  clock = omega (arith, h.clock, ready.clock);
+  parts = part_past a held k h;
   unborn = λ t l live. subst (λ (m : ℕ). PutNoneBeyond a.holder.server a.ids.epoch m l.edits) (sym h.files) (h.unborn t l live);
-  plain = h.plain;
   made = subst (λ (m : ℕ). AreMade a.holder.server a.ids.epoch m a.holder.made) (sym h.files) h.made;
   born = subst (λ (m : ℕ). SeesNoneToCome a.holder.server a.ids.epoch m (map.get a.holder.cells)) (sym h.files) h.born;
   earlier = h.earlier;
   quiet = h.quiet;
 }
 
--- ---- ids of older epochs
+-- ---- what a restart may find
 
-ids_drawn : (server epoch n : ℕ) → 0 < epoch → AllByRecursion (λ (f : FileId). is_drawn server (epoch + 1) 0 f.server f.epoch f.counter ≡ true) (ids_to server epoch n)
-ids_drawn server epoch zero some = tt
-ids_drawn server epoch (suc n) some = (
-  (λ i. eq-eqb server server refl i && lt-ltb 0 epoch some i && lt-ltb 0 (suc n) (omega arith) i && (lt-ltb epoch (epoch + 1) (omega arith) i || (epoch == epoch + 1 && nat_le (suc n) 0))),
-  ids_drawn server epoch n some,
-)
+-- The account of which the notes tell then, at this clock: of what stood, some was made of what was tried.
+pub record IsThen (a b : Account) (clock : ℕ) : Type 0 where
+  pub number : b.holder.server ≡ a.holder.server
+  pub among : b.servers ≡ a.servers
+  pub volume : b.sizes ≡ a.sizes
+  pub now : b.ids ≡ a.ids
+  pub made : b.holder.made ≡ a.holder.made
+  pub parts : (t : TransId) (l : Life) → b.holder.lives t ≡ Some l → IsPartPast l (b.locked t) × PutNoneBeyond a.holder.server a.ids.epoch a.ids.files l.edits
+  pub own : (t : TransId) (stamp : Stamp) (js ds : List JoinNo) → b.fates t ≡ Committed stamp js ds → stamp.trans ≡ t
+  pub born : SeesNoneToCome a.holder.server a.ids.epoch a.ids.files (map.get b.holder.cells)
+  pub earlier : AreEarlier clock b.holder.applied
+  pub leads : (ready : List JoinNo) (stamps : List Stamp) → IsNoted b ready stamps → Leads false a (restart_entry a clock ready stamps) (restarted_at b clock)
 
-older_drawn : (server epoch : ℕ) (f : FileId) → is_drawn server epoch 0 f.server f.epoch f.counter ≡ true → is_drawn server (epoch + 1) 0 f.server f.epoch f.counter ≡ true
-older_drawn server epoch f h =
-    let low : f.epoch < epoch + 1 = near (nat_lt f.epoch epoch) refl (and_right (f.server == server && nat_lt 0 f.epoch && nat_lt 0 f.counter) (nat_lt f.epoch epoch || (f.epoch == epoch && nat_le f.counter 0)) h) in
-    λ i. and_left (f.server == server && nat_lt 0 f.epoch && nat_lt 0 f.counter) (nat_lt f.epoch epoch || (f.epoch == epoch && nat_le f.counter 0)) h i && (lt-ltb f.epoch (epoch + 1) low i || (f.epoch == epoch + 1 && nat_le f.counter 0))
+-- the state says what the account says, but for parts that are gone and whose locks were not let go yet
+pub record IsLast (s : State) (b : Account) (clock : ℕ) : Type 0 where
+  pub number : s.holder.server ≡ b.holder.server
+  pub among : s.servers ≡ b.servers
+  pub phases : (j : JoinNo) → s.phases j ≡ b.phases j
+  pub fates : (t : TransId) → s.fates t ≡ b.fates t
+  pub lives : (t : TransId) → (s.holder.lives t ≡ b.holder.lives t) ⊎ (b.holder.lives t ≡ None)
+  pub cells : s.holder.cells ≡ b.holder.cells
+  pub kept : s.holder.kept ≡ clock
+
+pub record IsFoundAs (a : Account) (s : State) : Type 0 where
+  pub account : Account
+  pub clock : ℕ
+  pub so : IsThen a account clock
+  pub last : IsLast s account clock
+
+-- ---- bits
+
+forgotten_then : (t : TransId) (j : JoinNo) (stamp : Stamp) (joins done : List JoinNo) (fates : TransId → Fate) → fates t ≡ Committed stamp joins done → fate.forgotten (fate.acknowledged j (Committed stamp joins done)) ≡ Forgotten stamp joins
+    → (u : TransId) → cond {A = Fate} (same_trans t u) (fate.forgotten (cond {A = Fate} (same_trans t u) (fate.acknowledged j (fates u)) (fates u))) (cond {A = Fate} (same_trans t u) (fate.acknowledged j (fates u)) (fates u))
+    ≡ cond {A = Fate} (same_trans t u) (Forgotten stamp joins) (fates u)
+forgotten_then t j stamp joins done fates is ends u = go (same_trans t u) refl
   where
-    near : (b : Bool) → nat_lt f.epoch epoch ≡ b → (b || (f.epoch == epoch && nat_le f.counter 0)) ≡ true → f.epoch < epoch + 1
-    near true e h = (let less : f.epoch < epoch = ltb-true f.epoch epoch e in omega (arith, less))
-    near false e h = (let same : f.epoch ≡ epoch = eqb-true f.epoch epoch (and_left (f.epoch == epoch) (nat_le f.counter 0) h) in omega (arith, same))
+    go : (b : Bool) → same_trans t u ≡ b → cond {A = Fate} b (fate.forgotten (cond {A = Fate} b (fate.acknowledged j (fates u)) (fates u))) (cond {A = Fate} b (fate.acknowledged j (fates u)) (fates u)) ≡ cond {A = Fate} b (Forgotten stamp joins) (fates u)
+    go true e = ap (λ (v : TransId). fate.forgotten (fate.acknowledged j (fates v))) (sym (same_trans-true t u e)) ∙ ap (λ (f : Fate). fate.forgotten (fate.acknowledged j f)) is ∙ ends
+    go false e = refl
 
-pub made_again : (server epoch n : ℕ) (made : List FileId) → 0 < epoch → AreMade server epoch n made → AreMade server (epoch + 1) 0 made
-made_again server epoch n made some h = record {
-  early = made;
-  old = subst (AllByRecursion (λ (f : FileId). is_drawn server (epoch + 1) 0 f.server f.epoch f.counter ≡ true)) (sym h.all)
-      (all-append (λ (f : FileId). is_drawn server (epoch + 1) 0 f.server f.epoch f.counter ≡ true) (ids_to server epoch n) h.early (ids_drawn server epoch n some)
-      (each-more (λ (f : FileId). is_drawn server epoch 0 f.server f.epoch f.counter ≡ true) (λ (f : FileId). is_drawn server (epoch + 1) 0 f.server f.epoch f.counter ≡ true) (older_drawn server epoch) h.early h.old));
-  all = refl;
-}
-
--- in the epoch that begins none was drawn
-none_drawn : (server epoch : ℕ) (t : TransId) → t.epoch ≡ epoch → is_drawn server epoch 0 t.server t.epoch t.counter ≡ true → ⊥
-none_drawn server epoch t now e = go (nat_lt t.epoch epoch) refl (and_right (t.server == server && nat_lt 0 t.epoch && nat_lt 0 t.counter) (nat_lt t.epoch epoch || (t.epoch == epoch && nat_le t.counter 0)) e)
+decided_then : (stamp : Stamp) (joins : List JoinNo) (move : Fate → Fate) (fates : TransId → Fate) → fate.decided stamp joins (move (fates stamp.trans)) ≡ Committed stamp joins []
+    → (u : TransId) → cond {A = Fate} (same_trans stamp.trans u) (fate.decided stamp joins (cond {A = Fate} (same_trans stamp.trans u) (move (fates u)) (fates u))) (cond {A = Fate} (same_trans stamp.trans u) (move (fates u)) (fates u))
+    ≡ cond {A = Fate} (same_trans stamp.trans u) (Committed stamp joins []) (fates u)
+decided_then stamp joins move fates decides u = go (same_trans stamp.trans u) refl
   where
-    some : 0 < t.counter
-    some = ltb-true 0 t.counter (and_right (t.server == server && nat_lt 0 t.epoch) (nat_lt 0 t.counter) (and_left (t.server == server && nat_lt 0 t.epoch && nat_lt 0 t.counter) (nat_lt t.epoch epoch || (t.epoch == epoch && nat_le t.counter 0)) e))
+    go : (b : Bool) → same_trans stamp.trans u ≡ b → cond {A = Fate} b (fate.decided stamp joins (cond {A = Fate} b (move (fates u)) (fates u))) (cond {A = Fate} b (move (fates u)) (fates u)) ≡ cond {A = Fate} b (Committed stamp joins []) (fates u)
+    go true e = ap (λ (t : TransId). fate.decided stamp joins (move (fates t))) (sym (same_trans-true stamp.trans u e)) ∙ decides
+    go false e = refl
 
-    go : (b : Bool) → nat_lt t.epoch epoch ≡ b → (b || (t.epoch == epoch && nat_le t.counter 0)) ≡ true → ⊥
-    go true f h = (let less : t.epoch < epoch = ltb-true t.epoch epoch f in absurd (omega (arith, less, now)))
-    go false f h = (let low : t.counter ≤ 0 = leb-true t.counter 0 (and_right (t.epoch == epoch) (nat_le t.counter 0) h) in absurd (omega (arith, low, some)))
+-- a part that is emptied is gone
+emptied_gone : (b : Bool) (l : Life) (x : Option Life) → (cond {A = Option Life} b (Some (emptied l)) x ≡ cond {A = Option Life} b None x) ⊎ (cond {A = Option Life} b None x ≡ None)
+emptied_gone true l x = inr refl
+emptied_gone false l x = inl refl
 
-unsaid : (servers server epoch : ℕ) (begun : List TransId) (t : TransId) (f : Fate) → t.epoch ≡ epoch → IsToldFate servers server epoch 0 begun t f → f ≡ Undrawn
-unsaid servers server epoch begun t Undrawn now h = refl
-unsaid servers server epoch begun t (Running c js) now h = absurd (none_drawn server epoch t now h.0.0)
-unsaid servers server epoch begun t (Finishing c js vs) now h = absurd (none_drawn server epoch t now h.0.0)
-unsaid servers server epoch begun t (Committed stamp js ds) now h = absurd (none_drawn server epoch t now h.0.0)
-unsaid servers server epoch begun t (Forgotten stamp js) now h = absurd (none_drawn server epoch t now h.0.0)
-unsaid servers server epoch begun t (Ended c) now h = absurd (none_drawn server epoch t now h.0)
+lapsed_gone : (b : Bool) (j : JoinNo) (x : Option Life) → (cond {A = Option Life} b (lapsed j x) x ≡ cond {A = Option Life} b None x) ⊎ (cond {A = Option Life} b None x ≡ None)
+lapsed_gone true j x = inr refl
+lapsed_gone false j x = inl refl
 
--- behind a restart the others are over
-over_again : (epoch : ℕ) (f : Fate) → IsPlain f → is_over (fate.restarted epoch f) ≡ true
-over_again epoch Undrawn h = refl
-over_again epoch (Running c js) h = refl
-over_again epoch (Finishing c js vs) h = refl
-over_again epoch (Committed stamp [] ds) h = refl
-over_again epoch (Committed stamp (j ∷ js) ds) h = let wrong : j ∷ js ≡ [] = h in cc
-over_again epoch (Forgotten stamp js) h = absurd h
-over_again epoch (Ended c) h = refl
+-- each decision is stamped by its own transaction
+own_fate : (servers server epoch count : ℕ) (begun : List TransId) (t : TransId) (f : Fate) (stamp : Stamp) (js ds : List JoinNo) → f ≡ Committed stamp js ds → IsFateOf servers server epoch count begun t f → stamp.trans ≡ t
+own_fate servers server epoch count begun t f stamp js ds is h = (subst (IsFateOf servers server epoch count begun t) is h).1
 
--- so a coordinator that keeps nothing keeps what is said
-known_again : (epoch : ℕ) (t : TransId) (known told : Fate) → known ≡ Undrawn → (t.epoch ≡ epoch → told ≡ Undrawn) → is_over told ≡ true → IsFateOf epoch t known told
-known_again epoch t known told none now over = subst (λ (f : Fate). IsFateOf epoch t f told) (sym none) (go (t.epoch == epoch) refl)
-  where
-    go : (b : Bool) → (t.epoch == epoch) ≡ b → Where b (IsLike Undrawn told) (IsLikeOld Undrawn told)
-    go true e = subst (λ (f : Fate). IsLike Undrawn f) (sym (now (eqb-true t.epoch epoch e))) (same Undrawn)
-    go false e = nothing told over
+same_stamp-itself : (x : Stamp) → same_stamp x x ≡ true
+same_stamp-itself x = and_from (x.ts == x.ts) (same_trans x.trans x.trans) (eq-eqb x.ts x.ts refl) (same_trans-itself x.trans)
 
--- ---- a server that starts again
+-- none of them is of a transaction, where each that is among them is not
+not_named : (t : TransId) (xs : List Stamp) → ((x : Stamp) → has_stamp x xs ≡ true → same_trans x.trans t ≡ false) → list_any (λ (x : Stamp). same_trans x.trans t) xs ≡ false
+not_named t [] f = refl
+not_named t (x ∷ xs) f =
+    ap (λ (b : Bool). b || list_any (λ (y : Stamp). same_trans y.trans t) xs) (f x (or_left (same_stamp x x) (has_stamp x xs) (same_stamp-itself x)))
+    ∙ not_named t xs (λ y h. f y (or_right (same_stamp x y) (has_stamp y xs) h))
 
--- a part that did not vote is gone
-unvoted_gone : (x : Option Life) → ((l : Life) → x ≡ Some l → l.vote ≡ None) → if_ready x ≡ None
-unvoted_gone None h = refl
-unvoted_gone (Some l) h = ap (λ (v : Option ℕ). cond {A = Option Life} (is_some v) (Some l) None) (h l refl)
+module _ (a : Account) (server servers epoch : ℕ) (sizes : Sizes) (past : IsPast a server servers epoch sizes) where
+  abbrev stands : Stands a
+  stands = past.quiet.settled.stands
 
--- and nothing of it is kept
-alike_gone : (cells : Cells) (rs : List Resource) (t : TransId) (x : Option Life) → if_ready x ≡ None → IsAlike cells map.empty (kept_locks x rs) t (map.get no_lives t) (if_ready x)
-alike_gone cells rs t None e = alike_none cells t
-alike_gone cells rs t (Some l) e = go (is_some l.vote) e
-  where
-    go : (b : Bool) → cond {A = Option Life} b (Some l) None ≡ None → IsAlike cells map.empty (cond {A = List Resource} b rs []) t (map.get no_lives t) (cond {A = Option Life} b (Some l) None)
-    go true e = let wrong : Some l ≡ None = e in cc
-    go false e = alike_none cells t
+  own_before : (t : TransId) (stamp : Stamp) (js ds : List JoinNo) → a.fates t ≡ Committed stamp js ds → stamp.trans ≡ t
+  own_before t stamp js ds is = own_fate a.servers a.holder.server a.ids.epoch a.ids.transactions a.begun t (a.fates t) stamp js ds is (stands.fates t)
 
--- in the epoch after its last one, with this clock, on these cells
-pub again_as : {V : Type 0} (old : ServerState V) (sizes : Sizes) (b : Account) (c : ClockNote) (held : Contents)
-    → ((n : ℕ) → is_other_server (state_of b) n ≡ false) → 0 < b.ids.epoch → b.sizes ≡ sizes → b.ids.epoch + 1 ≡ c.epoch → held.cells ≡ b.holder.cells → held.notes ≡ clock_notes c → IsVolumeOf sizes held.cells
-    → IsNewCoordinator b.holder.server c.epoch old.coordinator → ((t : TransId) → IsPlain (b.fates t)) → ((t : TransId) → if_ready (b.holder.lives t) ≡ None) → AreMade b.holder.server b.ids.epoch b.ids.files b.holder.made → SeesNoneToCome b.holder.server b.ids.epoch b.ids.files (map.get b.holder.cells) → AreEarlier c.clock b.holder.applied
-    → IsQuiet (restarted_at b c.clock) → IsAs (restarted_at b c.clock) held (new_kept old b.holder.server sizes c)
-again_as old sizes b c held lone some sizes_same later cells notes volume fresh plain gone made born earlier quiet = record {
-  server = refl;
-  lone = lone;
-  sizes = sizes_same;
-  epoch = later;
-  clock = refl;
-  cells = λ _. cells;
-  sized = subst (λ (m : Cells). AreSized (map.get m)) cells (volume_sized sizes held.cells volume);
-  notes = λ _. notes ∙ (λ i. clock_notes (record { epoch = sym later i; clock = c.clock }));
-  places = refl;
-  sessions = λ client. sym (no_session client);
-  dead = λ client t. refl;
-  lives = λ t. alike_gone b.holder.cells (b.locked t) t (b.holder.lives t) (gone t);
-  room = subst (λ (m : Cells). HaveRoom sizes m (totals_of map.empty)) cells (new_room sizes held.cells volume);
-  unborn = λ t l is. (let wrong : None ≡ Some l = sym (gone t) ∙ is in cc);
-  coordinator = record {
-    run = subst (λ (n : ℕ). IsOf b.holder.server n 0 old.coordinator) (sym later) fresh.run;
-    fates = λ t. known_again (b.ids.epoch + 1) t (fate_in old.coordinator t) (fate.restarted (b.ids.epoch + 1) (b.fates t)) (fresh.none t)
-        (λ now. unsaid b.servers b.holder.server (b.ids.epoch + 1) b.begun t (fate.restarted (b.ids.epoch + 1) (b.fates t)) now (quiet.settled.stands.fates t)) (over_again (b.ids.epoch + 1) (b.fates t) (plain t));
-  };
-  plain = λ t. restarted_plain (b.ids.epoch + 1) (b.fates t) (plain t);
-  files = refl;
-  made = made_again b.holder.server b.ids.epoch b.ids.files b.holder.made some made;
-  born = λ f comes. born f (comes_after b.holder.server b.ids.epoch b.ids.files f comes);
-  earlier = earlier;
-  waits = refl;
-  queue = refl;
-  asked = tt;
-  quiet = quiet;
-  down = refl;
-}
+  parts_before : (t : TransId) (l : Life) → a.holder.lives t ≡ Some l → IsPartPast l (a.locked t) × PutNoneBeyond a.holder.server a.ids.epoch a.ids.files l.edits
+  parts_before t l is = (past.parts t l is, past.unborn t l is)
 
-module _ {V : Type 0} (old : ServerState V) (server epoch : ℕ) (sizes : Sizes) (a : Account) (past : IsPast a server epoch sizes) (some : 0 < epoch) where
-  some_epoch : 0 < a.ids.epoch
-  some_epoch = subst (λ (n : ℕ). 0 < n) (sym past.now) some
+  -- where one is gone
+  parts_without : (gone t : TransId) (l : Life) → cond {A = Option Life} (same_trans t gone) None (a.holder.lives t) ≡ Some l → IsPartPast l (a.locked t) × PutNoneBeyond a.holder.server a.ids.epoch a.ids.files l.edits
+  parts_without gone t l is = go (same_trans t gone) is
+    where
+      go : (b : Bool) → cond {A = Option Life} b None (a.holder.lives t) ≡ Some l → IsPartPast l (a.locked t) × PutNoneBeyond a.holder.server a.ids.epoch a.ids.files l.edits
+      go true e = let wrong : None ≡ Some l = e in cc
+      go false e = parts_before t l e
 
-  -- no part is ready
-  unready : (t : TransId) → if_ready (a.holder.lives t) ≡ None
-  unready t = unvoted_gone (a.holder.lives t) (λ l is. (live_one a past.lone past.quiet.settled.stands t l is).1)
+  -- with its changes no file stands that was not made
+  born_then : (t : TransId) (l : Life) → a.holder.lives t ≡ Some l → SeesNoneToCome a.holder.server a.ids.epoch a.ids.files (map.get (edits_map l.edits a.holder.cells))
+  born_then t l live f comes = ap (λ (view : View). view (Leader f)) (get-edits_map l.edits a.holder.cells) ∙ ap (edits_at l.edits (Leader f)) (past.born f comes) ∙ past.unborn t l live f comes
 
-  pub past_noted : IsNoted a [] []
-  past_noted = noted_none a (none_live_in a past.lone past.quiet.settled.stands) past.plain
+  earlier_then : (n : ℕ) → a.holder.clock ≤ n → AreEarlier n a.holder.applied
+  earlier_then n more = earlier_more a.holder.kept n a.holder.applied (let order : a.holder.kept ≤ a.holder.clock = stands.order in omega (arith, order, more)) past.earlier
 
-  -- nothing of what was tried last is found made
-  pub lost_as : (c : ClockNote) (held : Contents) → IsNewCoordinator a.holder.server c.epoch old.coordinator → a.ids.epoch + 1 ≡ c.epoch → c.clock ≡ a.holder.kept → held.cells ≡ a.holder.cells → held.notes ≡ clock_notes c → IsVolumeOf sizes held.cells
-      → IsQuiet (restarted_at a a.holder.kept) → IsAs (restarted_at a c.clock) held (new_kept old a.holder.server sizes c)
-  lost_as c held fresh later clock cells notes volume quiet =
-      again_as old sizes a c held past.lone some_epoch past.volume later cells notes volume fresh past.plain unready past.made past.born
-      (subst (λ (n : ℕ). AreEarlier n a.holder.applied) (sym clock) past.earlier) (subst (λ (n : ℕ). IsQuiet (restarted_at a n)) (sym clock) quiet)
+  -- ---- nothing is found made
 
-  -- the commit that was tried is found made
-  module _ (c : IsTriedCommit a) where
-    abbrev decided : Account
-    decided = with_decided a c.stamp c.life []
+  pub found_before : IsFoundAs a (state_of a)
+  found_before = record {
+    account = a;
+    clock = a.holder.kept;
+    so = record {
+      number = refl;
+      among = refl;
+      volume = refl;
+      now = refl;
+      made = refl;
+      parts = parts_before;
+      own = own_before;
+      born = past.born;
+      earlier = past.earlier;
+      leads = λ ready stamps notes. restart_leads a ready stamps past.quiet notes;
+    };
+    last = record { number = refl; among = refl; phases = λ j. refl; fates = λ t. refl; lives = λ t. inl refl; cells = refl; kept = refl };
+  }
 
-    decided_plain : (t : TransId) → IsPlain (decided.fates t)
-    decided_plain t = go (same_trans c.stamp.trans t)
-      where
-        go : (b : Bool) → IsPlain (cond {A = Fate} b (Committed c.stamp [] []) (a.fates t))
-        go true = refl
-        go false = past.plain t
+  -- ---- a decision
 
-    decided_gone : (t : TransId) → if_ready (decided.holder.lives t) ≡ None
-    decided_gone t = go (same_trans t c.stamp.trans)
-      where
-        go : (b : Bool) → if_ready (cond {A = Option Life} b None (a.holder.lives t)) ≡ None
-        go true = refl
-        go false = unready t
+  decision_found : (stamp : Stamp) (l : Life) (joins : List JoinNo) (d : Deed) (move : Fate → Fate) → a.holder.lives stamp.trans ≡ Some l → a.holder.clock < stamp.ts
+      → state_deed (state_of a) d ≡ record (state_of a) { fates = λ u. cond {A = Fate} (same_trans stamp.trans u) (move (a.fates u)) (a.fates u); begun = (state_deed (state_of a) d).begun; joined = (state_deed (state_of a) d).joined }
+      → fate.decided stamp joins (move (a.fates stamp.trans)) ≡ Committed stamp joins []
+      → ((ready : List JoinNo) (stamps : List Stamp) → IsNoted (with_decided a stamp l joins) ready stamps → Leads false a (restart_entry a stamp.ts ready stamps) (restarted_at (with_decided a stamp l joins) stamp.ts))
+      → IsFoundAs a (state_deed (state_deed (state_of a) d) (Decides stamp joins))
+  decision_found stamp l joins d move live late is decides leads = subst (λ (s : State). IsFoundAs a (state_deed s (Decides stamp joins))) (sym is) (record {
+    account = with_decided a stamp l joins;
+    clock = stamp.ts;
+    so = record {
+      number = refl;
+      among = refl;
+      volume = refl;
+      now = refl;
+      made = refl;
+      parts = parts_without stamp.trans;
+      own = λ t x js ds e. own_then t x js ds e;
+      born = born_then stamp.trans l live;
+      earlier = earlier_put stamp.ts stamp (record { stamp = stamp; who = l.who; calls = l.calls }) a.holder.applied (omega arith) (earlier_then stamp.ts (omega (arith, late)));
+      leads = leads;
+    };
+    last = record {
+      number = ap (λ (x : Option Life). (commits a.holder stamp x).server) live;
+      among = refl;
+      phases = λ j. refl;
+      fates = decided_then stamp joins move a.fates decides;
+      lives = λ t. subst (λ (x : Option Life). ((commits a.holder stamp x).lives t ≡ (with_decided a stamp l joins).holder.lives t) ⊎ ((with_decided a stamp l joins).holder.lives t ≡ None)) (sym live) (emptied_gone (same_trans t stamp.trans) l (a.holder.lives t));
+      cells = ap (λ (x : Option Life). (commits a.holder stamp x).cells) live;
+      kept = ap (λ (x : Option Life). (commits a.holder stamp x).kept) live ∙ later;
+    };
+  })
+    where
+      later : max a.holder.clock stamp.ts ≡ stamp.ts
+      later = omega (arith, late)
 
-    pub decided_noted : IsNoted decided [] []
-    decided_noted = noted_none decided (none_live_in a past.lone past.quiet.settled.stands) decided_plain
+      own_then : (t : TransId) (x : Stamp) (js ds : List JoinNo) → cond {A = Fate} (same_trans stamp.trans t) (Committed stamp joins []) (a.fates t) ≡ Committed x js ds → x.trans ≡ t
+      own_then t x js ds e = go (same_trans stamp.trans t) refl e
+        where
+          its : Committed stamp joins [] ≡ Committed x js ds → stamp ≡ x
+          its same = ap of same
+            where
+              of : Fate → Stamp
+              of (Committed y ks es) = y
+              of f = stamp
 
-    decided_born : SeesNoneToCome a.holder.server a.ids.epoch a.ids.files (map.get decided.holder.cells)
-    decided_born f comes =
-        ap (λ (view : View). view (Leader f)) (get-edits_map c.life.edits a.holder.cells) ∙ ap (edits_at c.life.edits (Leader f)) (past.born f comes) ∙ past.unborn c.stamp.trans c.life c.live f comes
+          go : (b : Bool) → same_trans stamp.trans t ≡ b → cond {A = Fate} b (Committed stamp joins []) (a.fates t) ≡ Committed x js ds → x.trans ≡ t
+          go true one same = ap (λ (y : Stamp). y.trans) (sym (its same)) ∙ same_trans-true stamp.trans t one
+          go false one same = own_before t x js ds same
 
-    decided_earlier : AreEarlier c.stamp.ts decided.holder.applied
-    decided_earlier =
-        let d : Decided = record { stamp = c.stamp; who = c.life.who; calls = c.life.calls } in
-        let before : AreEarlier a.holder.clock a.holder.applied = earlier_more a.holder.kept a.holder.clock a.holder.applied past.quiet.settled.stands.order past.earlier in
-        let late : a.holder.clock < c.stamp.ts = (let time : c.stamp.ts ≡ a.holder.clock + 1 = c.time in omega (arith, time)) in
-        subst (AreEarlier c.stamp.ts) (sym (put-last a.holder.applied c.stamp d a.holder.clock before late)) (AreEarlier-push a.holder.applied c.stamp d a.holder.clock before (omega (arith, late)))
+  -- ---- a part that votes
 
-    pub made_as : (n : ClockNote) (held : Contents) → IsNewCoordinator a.holder.server n.epoch old.coordinator → a.ids.epoch + 1 ≡ n.epoch → n.clock ≡ c.stamp.ts → held.cells ≡ edits_map c.life.edits a.holder.cells → held.notes ≡ clock_notes n → IsVolumeOf sizes held.cells
-        → IsQuiet (restarted_at decided c.stamp.ts) → IsAs (restarted_at decided n.clock) held (new_kept old a.holder.server sizes n)
-    made_as n held fresh later clock cells notes volume quiet =
-        again_as old sizes decided n held past.lone some_epoch past.volume later cells notes volume fresh decided_plain decided_gone past.made decided_born
-        (subst (λ (m : ℕ). AreEarlier m decided.holder.applied) (sym clock) decided_earlier) (subst (λ (m : ℕ). IsQuiet (restarted_at decided m)) (sym clock) quiet)
+  life_of_join : (j : JoinNo) (p : Phase) → a.phases j ≡ p → HasLife a.holder.lives j p
+  life_of_join j p is = subst (HasLife a.holder.lives j) is (stands.held j)
+
+  vote_found : (c : IsTriedVote a) → IsFoundAs a (state_deed (state_of a) (Readies c.join c.trans (a.holder.clock + 1)))
+  vote_found c =
+      let ts : ℕ = a.holder.clock + 1 in
+      let (l, live, mine) = life_of_join c.join (Active c.trans c.client c.who) c.active in
+      let b : Account = with_vote_of a c.join c.trans ts l in
+      record {
+        account = b;
+        clock = a.holder.kept;
+        so = record {
+          number = refl;
+          among = refl;
+          volume = refl;
+          now = refl;
+          made = refl;
+          parts = λ t x e. voted l live t x e;
+          own = own_before;
+          born = past.born;
+          earlier = past.earlier;
+          leads = λ ready stamps notes. vote_made_leads a ready stamps past.quiet c l live notes;
+        };
+        last = record {
+          number = ap (λ (x : Option Life). (readies a.holder c.trans ts x).server) live;
+          among = refl;
+          phases = λ j. refl;
+          fates = λ t. refl;
+          lives = λ t. inl (ap (λ (x : Option Life). (readies a.holder c.trans ts x).lives t) live);
+          cells = ap (λ (x : Option Life). (readies a.holder c.trans ts x).cells) live;
+          kept = ap (λ (x : Option Life). (readies a.holder c.trans ts x).kept) live;
+        };
+      }
+    where
+      voted : (l : Life) → a.holder.lives c.trans ≡ Some l → (t : TransId) (x : Life) → cond {A = Option Life} (same_trans t c.trans) (Some (record l { vote = Some (a.holder.clock + 1) })) (a.holder.lives t) ≡ Some x
+          → IsPartPast x (a.locked t) × PutNoneBeyond a.holder.server a.ids.epoch a.ids.files x.edits
+      voted l live t x e = go (same_trans t c.trans) refl e
+        where
+          go : (b : Bool) → same_trans t c.trans ≡ b → cond {A = Option Life} b (Some (record l { vote = Some (a.holder.clock + 1) })) (a.holder.lives t) ≡ Some x → IsPartPast x (a.locked t) × PutNoneBeyond a.holder.server a.ids.epoch a.ids.files x.edits
+          go false other is = parts_before t x is
+          go true same is =
+              let p = parts_before c.trans l live in
+              let q : IsPartPast (record l { vote = Some (a.holder.clock + 1) }) (a.locked c.trans) = record { within = p.0.within; intended = p.0.intended; sized = p.0.sized; known = p.0.known } in
+              subst (λ (y : Life). IsPartPast y (a.locked t) × PutNoneBeyond a.holder.server a.ids.epoch a.ids.files y.edits) (same-some (record l { vote = Some (a.holder.clock + 1) }) x is)
+              (subst (λ (u : TransId). IsPartPast (record l { vote = Some (a.holder.clock + 1) }) (a.locked u)) (sym (same_trans-true t c.trans same)) q, p.1)
+
+  -- ---- a part that is applied
+
+  application_found : (c : IsTriedApplication a) → IsFoundAs a (state_deed (state_of a) (Applies c.join c.stamp))
+  application_found c =
+      let (l, live, mine) = life_of_join c.join (Ready c.stamp.trans c.client c.ts) c.ready in
+      let b : Account = with_applied a c.join c.stamp l in
+      record {
+        account = b;
+        clock = max a.holder.clock c.stamp.ts;
+        so = record {
+          number = refl;
+          among = refl;
+          volume = refl;
+          now = refl;
+          made = refl;
+          parts = parts_without c.stamp.trans;
+          own = own_before;
+          born = born_then c.stamp.trans l live;
+          earlier = earlier l (l.is_early);
+          leads = λ ready stamps notes. application_made_leads a ready stamps past.quiet c l live notes;
+        };
+        last = record {
+          number = ap (λ (x : Option Life). (commits a.holder c.stamp x).server) live;
+          among = refl;
+          phases = λ j. refl;
+          fates = λ t. refl;
+          lives = λ t. subst (λ (x : Option Life). ((commits a.holder c.stamp x).lives t ≡ (with_applied a c.join c.stamp l).holder.lives t) ⊎ ((with_applied a c.join c.stamp l).holder.lives t ≡ None)) (sym live)
+              (emptied_gone (same_trans t c.stamp.trans) l (a.holder.lives t));
+          cells = ap (λ (x : Option Life). (commits a.holder c.stamp x).cells) live;
+          kept = ap (λ (x : Option Life). (commits a.holder c.stamp x).kept) live;
+        };
+      }
+    where
+      earlier : (l : Life) (early : Bool) → AreEarlier (max a.holder.clock c.stamp.ts) (cond {A = List (Stamp × Decided)} early a.holder.applied (put stamp_cmp c.stamp (record { stamp = c.stamp; who = l.who; calls = l.calls }) a.holder.applied))
+      earlier l true = earlier_then (max a.holder.clock c.stamp.ts) (omega arith)
+      earlier l false = earlier_put (max a.holder.clock c.stamp.ts) c.stamp (record { stamp = c.stamp; who = l.who; calls = l.calls }) a.holder.applied (omega arith) (earlier_then (max a.holder.clock c.stamp.ts) (omega arith))
+
+  -- ---- a decision that is forgotten
+
+  end_found : (c : IsTriedEnd a) → IsFoundAs a (state_deed (state_deed (state_of a) (Acknowledges c.trans c.join)) (Forgets c.trans))
+  end_found c = record {
+    account = with_forgotten a c.trans c.stamp c.joins;
+    clock = a.holder.kept;
+    so = record {
+      number = refl;
+      among = refl;
+      volume = refl;
+      now = refl;
+      made = refl;
+      parts = parts_before;
+      own = λ t x js ds e. own_then t x js ds e;
+      born = past.born;
+      earlier = past.earlier;
+      leads = λ ready stamps notes. end_made_leads a ready stamps past.quiet c notes (not_named c.trans stamps (λ x h. gone ready stamps notes x h));
+    };
+    last = record {
+      number = refl;
+      among = refl;
+      phases = λ j. refl;
+      fates = forgotten_then c.trans c.join c.stamp c.joins c.done a.fates c.committed (ap (λ (b : Bool). cond {A = Fate} b (Forgotten c.stamp c.joins) (Committed c.stamp c.joins (c.join ∷ c.done))) c.all);
+      lives = λ t. inl refl;
+      cells = refl;
+      kept = refl;
+    };
+  }
+    where
+      own_then : (t : TransId) (x : Stamp) (js ds : List JoinNo) → cond {A = Fate} (same_trans c.trans t) (Forgotten c.stamp c.joins) (a.fates t) ≡ Committed x js ds → x.trans ≡ t
+      own_then t x js ds e = go (same_trans c.trans t) e
+        where
+          go : (b : Bool) → cond {A = Fate} b (Forgotten c.stamp c.joins) (a.fates t) ≡ Committed x js ds → x.trans ≡ t
+          go true same = let wrong : Forgotten c.stamp c.joins ≡ Committed x js ds = same in cc
+          go false same = own_before t x js ds same
+
+      gone : (ready : List JoinNo) (stamps : List Stamp) → IsNoted (with_forgotten a c.trans c.stamp c.joins) ready stamps → (x : Stamp) → has_stamp x stamps ≡ true → same_trans x.trans c.trans ≡ false
+      gone ready stamps notes x h = go (same_trans x.trans c.trans) refl
+        where
+          go : (b : Bool) → same_trans x.trans c.trans ≡ b → b ≡ false
+          go false e = refl
+          go true e =
+              let wrong : true ≡ false = sym h ∙ notes.decided x ∙ ap (λ (u : TransId). is_standing x (cond {A = Fate} (same_trans c.trans u) (Forgotten c.stamp c.joins) (a.fates u))) (same_trans-true x.trans c.trans e)
+              ∙ ap (λ (b : Bool). is_standing x (cond {A = Fate} b (Forgotten c.stamp c.joins) (a.fates c.trans))) (same_trans-itself c.trans) in
+              cc
+
+  -- ---- a join that is over
+
+  abort_found : (c : IsTriedAbort a) → IsFoundAs a (state_deed (state_of a) (Aborts c.join c.trans c.client c.cause))
+  abort_found c =
+      let (l, live, mine) = life_of_join c.join (Ready c.trans c.client c.ts) c.ready in
+      record {
+        account = with_aborted a c.join c.trans;
+        clock = a.holder.kept;
+        so = record {
+          number = refl;
+          among = refl;
+          volume = refl;
+          now = refl;
+          made = refl;
+          parts = parts_without c.trans;
+          own = own_before;
+          born = past.born;
+          earlier = past.earlier;
+          leads = λ ready stamps notes. abort_made_leads a ready stamps past.quiet c l live mine notes;
+        };
+        last = record { number = refl; among = refl; phases = λ j. refl; fates = λ t. refl; lives = λ t. lapsed_gone (same_trans t c.trans) c.join (a.holder.lives t); cells = refl; kept = refl };
+      }
+
+  -- ---- whatever was tried
+
+  later_vote : (n : ℕ) (vs : List Vote) → n ≤ latest_vote n vs
+  later_vote n [] = omega arith
+  later_vote n (v ∷ vs) = (let more : max n v.1 ≤ latest_vote (max n v.1) vs = later_vote (max n v.1) vs in omega (arith, more))
+
+  pub found_then : IsFoundAs a (state_then (state_of a))
+  found_then = go past.quiet.tried
+    where
+      made : (ds : List Deed) → a.pending ≡ ds → IsFoundAs a (state_after state_deed (state_of a) ds) → IsFoundAs a (state_then (state_of a))
+      made ds is h = subst (λ (xs : List Deed). IsFoundAs a (state_after state_deed (state_of a) xs)) (sym is) h
+
+      go : HasTried a → IsFoundAs a (state_then (state_of a))
+      go (HasTried.nothing none) = made [] none found_before
+      go (HasTried.commit c) = made (Finishes c.stamp.trans ∷ Decides c.stamp [] ∷ []) c.tried
+          (decision_found c.stamp c.life [] (Finishes c.stamp.trans) fate.finishing c.live (let time : c.stamp.ts ≡ a.holder.clock + 1 = c.time in omega (arith, time)) refl
+          (ap (λ (f : Fate). fate.decided c.stamp [] (fate.finishing f)) c.runs) (λ ready stamps notes. commit_made_leads a ready stamps past.quiet c notes))
+      go (HasTried.decision c) =
+          let time : c.stamp.ts ≡ latest_vote (a.holder.clock + 1) (with_vote c.join c.ts c.votes) = c.time in
+          let more : a.holder.clock + 1 ≤ latest_vote (a.holder.clock + 1) (with_vote c.join c.ts c.votes) = later_vote (a.holder.clock + 1) (with_vote c.join c.ts c.votes) in
+          made (Hears c.stamp.trans c.join c.ts ∷ Decides c.stamp c.joins ∷ []) c.tried
+          (decision_found c.stamp c.life c.joins (Hears c.stamp.trans c.join c.ts) (fate.heard c.join c.ts) c.live (omega (arith, time, more)) refl
+          (ap (λ (f : Fate). fate.decided c.stamp c.joins (fate.heard c.join c.ts f)) c.finishing) (λ ready stamps notes. decision_made_leads a ready stamps past.quiet c notes))
+      go (HasTried.vote c) = made (Readies c.join c.trans (a.holder.clock + 1) ∷ []) c.tried (vote_found c)
+      go (HasTried.application c) = made (Applies c.join c.stamp ∷ []) c.tried (application_found c)
+      go (HasTried.end c) = made (Acknowledges c.trans c.join ∷ Forgets c.trans ∷ []) c.tried (end_found c)
+      go (HasTried.abort c) = made (Aborts c.join c.trans c.client c.cause ∷ []) c.tried (abort_found c)

@@ -39,7 +39,7 @@ module _ (f : Live → ℕ) (m : LiveMap) (t : TransId) where
   gone : (old : Live) → map.get m t ≡ Some old → total f (map.remove m t) ≡ total f m - f old
   gone old there = omega (arith, taken f m t old there)
 
-  added : (new : Live) → map.get m t ≡ None → total f (map.insert m t new) ≡ total f m + f new
+  pub added : (new : Live) → map.get m t ≡ None → total f (map.insert m t new) ≡ total f m + f new
   added new none =
       let put = sum-insert transactions_total exact_transactions (λ (e : TransId × Live). f e.1) m t new in
       let was : weight_at (λ (e : TransId × Live). f e.1) t (map.get m t) ≡ 0 = ap (weight_at (λ (e : TransId × Live). f e.1) t) none in
@@ -76,6 +76,10 @@ added_totals m t new none idle = λ i. record { places = more places (ap (λ (n 
   where
     more : (f : Live → ℕ) → f new ≡ 0 → total f (map.insert m t new) ≡ total f m
     more f zero_so = omega (arith, added f m t new none, zero_so)
+
+-- one that an earlier run left adds what it comes to
+pub restored_totals : (m : LiveMap) (t : TransId) (new : Live) → map.get m t ≡ None → totals_of (map.insert m t new) ≡ with_part (totals_of m) new.part.counts
+restored_totals m t new none = λ i. record { places = added places m t new none i; files = added files m t new none i; owners = added owners m t new none i }
 
 abbrev no_lives : LiveMap
 no_lives = map.empty

@@ -1,5 +1,5 @@
 -- What a server's vault holds by its journal, and what a crash leaves of it.
-use Rattle.std.specs.Prelude.{◌≡◌, ◌⊎◌, ℕ, false, IsTrue, List, Option, None, Some}
+use Rattle.std.specs.Prelude.{◌≡◌, ◌⊎◌, ℕ, true, false, IsTrue, List, Option, None, Some, is_some}
 use Rattle.alp_base.specs.Crashes.{Only, NoMore, Adds}
 use Rattle.alp_base.specs.Notes.{Notes, notes_after}
 use Rattle.alp_base.specs.declared.bytes.NoteChange.{NoteChange}
@@ -23,7 +23,7 @@ use Rattle.alp_journal.specs.Along.{state_after}
 use Rattle.alp_journal.specs.Deeds.{Deed}
 use Rattle.alp_journal.specs.Holder.{Life}
 use Rattle.alp_journal.specs.Moves.{tried}
-use Rattle.alp_journal.specs.Participant.{Phase, Ready}
+use Rattle.alp_journal.specs.Participant.{Phase, Ready, is_ready}
 use Rattle.alp_journal.specs.State.{State, state_deed}
 use Rattle.alp_ready.specs.NoteLooks.{ready_at, decision_at}
 use Rattle.alp_node.specs.Noted.{decision_kept}
@@ -46,11 +46,14 @@ IsReadyNote lives (Ready t client ts) (Some p) = (p.trans ≡ t) × (p.client �
 IsReadyNote lives phase x = x ≡ None
 
 -- What the notes of a server keep by its journal: that epoch and the clock that a restart finds; each part that voted and whose
--- outcome is not known; each decision that a part on another server has not applied. Nothing else stands.
+-- outcome is not known; each decision that a part on another server has not applied. Nothing else stands. Each of them has a name that
+-- can be spelled.
 pub record AreNotesOf (s : State) (epoch : ℕ) (notes : Notes) : Type 0 where
   pub clock : clock_kept notes ≡ record { epoch = epoch; clock = s.holder.kept }
   pub ready : (j : JoinNo) → ready_name.Fits j → IsReadyNote s.holder.lives (s.phases j) (ready_at notes j)
   pub decided : (t : TransId) → decision_name.Fits t → decision_at notes t ≡ decision_kept (s.fates t)
+  pub fit : (j : JoinNo) → is_ready (s.phases j) ≡ true → ready_name.Fits j
+  pub fit_decided : (t : TransId) → is_some (decision_kept (s.fates t)) ≡ true → decision_name.Fits t
   pub format : AreServerNotes s.holder.server s.servers notes
 
 -- the vault has the cells that the journal says, and its notes, of that epoch

@@ -6,10 +6,12 @@ pub mod Outcomes
 pub mod Durable
 pub mod Paired
 pub mod Transactions
+pub mod EarlyFates
 pub mod ServerState
 pub mod Asks
 pub mod Shapes
 pub mod Covers
+pub mod Found
 pub mod Totals
 pub mod Waits
 pub mod BlockSets

@@ -1,10 +1,8 @@
 -- A server and its journal.
-use Rattle.std.specs.Prelude.{◌≡◌, ℕ, ◌<◌, ◌≤◌, ◌||◌, Bool, true, false, IsTrue, List, [], ◌∷◌, ◌++◌, length, flat_map, Option, Some, is_some}
-use Rattle.std.specs.FinMap as map
-use Rattle.std.specs.List.{list_any, AllByRecursion}
+use Rattle.std.specs.Prelude.{◌≡◌, ℕ, ◌<◌, ◌≤◌, ◌||◌, nat_le, Bool, true, false, IsTrue, List, [], ◌∷◌, ◌++◌, length, flat_map, Option, Some, is_some}
+use Rattle.std.specs.List.{list_any, list_all, AllByRecursion}
 use Rattle.alp_base.specs.Causes.{Rose}
 use Rattle.alp_base.specs.declared.allowance.Allowance.{Allowance}
-use Rattle.alp_base.specs.declared.faults.Sizes.{Sizes}
 use Rattle.alp_files.specs.declared.reply.Reply.{Reply}
 use Rattle.alp_files.specs.declared.reply.Reply.TheVariants as reply
 use Rattle.alp_files.specs.declared.refusal.Refusal.TheVariants as refusal
@@ -17,18 +15,21 @@ use Rattle.alp_journal.specs.declared.event.Event.{Event}
 use Rattle.alp_journal.specs.declared.entry.Entry.{Entry}
 use Rattle.alp_journal.specs.Along.{state_after}
 use Rattle.alp_journal.specs.Holder.{lives_noted}
-use Rattle.alp_journal.specs.Opening.{Start, start_at}
+use Rattle.alp_journal.specs.Opening.{Start, DecisionNote, start_at}
 use Rattle.alp_journal.specs.State.{State, opened}
 use Rattle.alp_journal.specs.Moves.{next, is_stop}
-use Rattle.alp_journal.specs.Laws.{IsLawful}
+use Rattle.alp_journal.specs.Laws.{IsLawful, are_joins_apart}
 use Rattle.alp_journal.specs.Answered.{IsAnswered, IsAnsweredEntry, entries_limit, is_read_fault}
 use Rattle.alp_journal.specs.Account.{Account, state_of as account_state}
+use Rattle.alp_regain.specs.Named.{is_drawn_by}
+use Rattle.alp_regain.specs.Owners.{AreReadyHere, AreDecidedHere, joins_of}
+use Rattle.alp_regain.specs.Together.{IsPartNote, AreApart}
+use Rattle.alp_node.specs.Found.{KeepsFound}
 use Rattle.alp_node.specs.NodeStates.{NodeState}
 use Rattle.alp_node.specs.ServerState.{IsAs, IsReady}
 use Rattle.alp_node.specs.Durable.{IsDurable}
 use Rattle.alp_node.specs.Halts.{HaveCauses, MaySay, IsUncounted, says_shut}
 use Rattle.alp_node.specs.Orders.{is_answered, is_fault_now}
-use Rattle.alp_node.specs.Sessions.{no_sessions}
 use Rattle.alp_node.specs.SoundLives.{AreSoundLives}
 use Rattle.alp_node.specs.Steps.{IsNoted}
 use Rattle.alp_node.specs.declared.sessions.CallOrder.{CallOrder}
@@ -45,9 +46,19 @@ abbrev pub start_in : {V : Type 0} → Ghosts V → NodeState V → Start
 start_in G n = start_by G n.kept.server n.opening.vault.value
 
 -- A server opens on well-formed files whose owners' records hold their charges, and they are so with whichever of the ready parts
--- too, whose locks agree and cover what they change. Sizes are numbers of pages.
+-- too, whose locks agree and cover what they change. Sizes are numbers of pages. The parts that are ready, the decisions, their ids and
+-- those of the files that they name are as a server of the run leaves them that ran in earlier epochs alone.
 pub record IsSoundStart (o : Start) : Type 0 where
   pub parts : AreSoundLives o.cells (lives_noted o.ready)
+  pub before : ℕ
+  pub earlier : before < o.epoch
+  pub ready : AllByRecursion (IsPartNote o.server before) o.ready
+  pub here : AreReadyHere o.server o.servers o.ready
+  pub joins : are_joins_apart (joins_of o.ready) ≡ true
+  pub apart : AreApart o.ready
+  pub decisions : AreDecidedHere o.server o.servers o.decisions
+  pub drawn : list_all (λ (d : DecisionNote). is_drawn_by before d.stamp.trans.epoch d.stamp.trans.counter) o.decisions ≡ true
+  pub times : list_all (λ (d : DecisionNote). nat_le d.stamp.ts o.clock) o.decisions ≡ true
 
 -- The journal is lawful, each of its entries has its cause, and the server keeps what its state says, with this in its
 -- vault. The files were sound when it was started.
@@ -84,19 +95,15 @@ pub record IsConsistent {V : Type 0} (G : Ghosts V) (n : NodeState V) : Type 0 w
   pub right : IsTrue (G.tells n.kept.vault) → IsRight (start_in G n) (G.held n.kept.vault) n
   pub durable : IsTrue (G.tells n.kept.vault) → IsDurable (state_of (start_in G n) n.journal) (G.may_leave n.kept.vault)
 
--- A server that did nothing yet: its opening is its vault as it is, nobody has a session, a transaction or a lock, and it is
--- up.
-pub record IsNew {V : Type 0} (volume : V → Sizes) (server : ℕ) (n : NodeState V) : Type 0 where
-  pub number : n.kept.server ≡ server
-  pub sizes : n.kept.sizes ≡ volume n.kept.vault
+-- A server that did nothing yet: its opening is its vault as it is, and of what was there before it keeps what the notes keep, and nothing
+-- else of a client.
+pub record IsNew {V : Type 0} (G : Ghosts V) (before : V) (n : NodeState V) : Type 0 where
+  pub number : n.kept.server ≡ G.server before
+  pub all : n.kept.servers ≡ G.servers before
+  pub sizes : n.kept.sizes ≡ G.volume n.kept.vault
   pub opening : n.opening.vault.value ≡ n.kept.vault
   pub journal : n.journal ≡ []
-  pub sessions : n.kept.sessions ≡ no_sessions
-  pub lives : n.kept.lives ≡ map.empty
-  pub dead : n.kept.dead ≡ []
-  pub waits : n.kept.waits ≡ []
-  pub locks : n.kept.locks ≡ record { held = map.empty; waiting = []; woken = [] }
-  pub up : n.kept.is_down ≡ false
+  pub found : KeepsFound (G.tells before) (G.held before) n.kept
 
 -- it has its cause in that state, which names a read that failed only where the reply shows it and the count of faults rose
 abbrev pub HasCause : ℕ → ℕ → State → Entry → Type 0

@@ -2,30 +2,20 @@
 ghost use Rattle.std.specs.Prelude.{◌≡◌, ◌<◌, ◌≤◌, IsTrue, false, List, [], ◌∷◌, ◌++◌, IfOk, IfErr, OnOk, OnErr, MatchResult, vec_capacity};
 ghost use Rattle.alp_base.specs.declared.allowance.Allowance.TheVariants.{Free};
 ghost use Rattle.alp_vault.specs.Vault.{IsOneOf};
-ghost use Rattle.alp_locks.specs.Sound.{IsSound};
-ghost use Rattle.alp_coord.specs.Coordinators.{IsOf};
 ghost use Rattle.alp_journal.specs.declared.entry.Entry.{Entry as AnEntry};
 ghost use Rattle.alp_node.specs.declared.start.StartFault.TheVariants as start_fault;
-ghost use Rattle.alp_node.specs.Downs.{IsFallen, HasFallen, IsPoweredOff, IsNext, HasNextCause, HasBegunEpoch, HasNotBegun, HasRestarted, IsStillDown, KeepsNobody, entry_again};
+ghost use Rattle.alp_node.specs.Downs.{IsFallen, HasFallen, IsPoweredOff, IsNext, HasNextCause, HasBegunEpoch, HasNotBegun, HasEntered, HasRestarted, IsStillDown, entry_again};
 
-use crate::dead::Dead;
-use crate::lives::Lives;
+use crate::found::{Found, find_all};
 use crate::node::Node;
 use crate::opened::Opened;
 use crate::server_state::ServerState;
-use crate::sessions::Sessions;
-use crate::start::{StartFault, put_clock};
+use crate::start::{StartFault, begun, put_clock};
 use crate::stored::StoreFault;
-use crate::waits::Waits;
 use alp_base::{OutOfMemory, VaultFault};
-use alp_calls::are_server_notes;
-use alp_coord::Coordinator;
 use alp_fields::{ClockNote, clock_note_name, read_clock};
 use alp_journal::{Act, Acts, Entry, Event, Journal, Parts, Stamps};
-use alp_locks::LockTable;
-use alp_trans::Part;
 use alp_vault::Vault;
-use alp_worker::Joins;
 use std::alloc::Global;
 use std::marker::Model;
 
@@ -91,11 +81,8 @@ impl<V: Vault> Node<V> {
 fn next_clock<V: Vault>(alloc: Global, vault: &V, last: u32) -> Result<ClockNote, StartFault>
     requires serving { IsTrue (V.serves vault.now) }
     requires low { last < 4294967295 }
-    ensures { MatchResult result (IsNext V.Vault last vault.now) (HasNextCause V.Vault vault.now) }
+    ensures { MatchResult result (IsNext V.Vault last vault.now) (HasNextCause V.Vault last vault.now) }
 {
-    if !are_server_notes(vault) {
-        return Err(StartFault::BadNote);
-    }
     let Ok(name) = clock_note_name(alloc) else {
         return Err(StartFault::Vault(VaultFault::OutOfMemory));
     };
@@ -121,24 +108,30 @@ fn rested<V: Vault>(vault: V) -> V
     vault.power_off(0)
 }
 
-// A vault that serves gets the note of the next epoch. Where it does not, it comes back at rest.
+// What a vault that serves keeps in its notes is found, and the note of the next epoch put. Else it comes back at rest.
 fn raise<V: Vault>(
     alloc: Global,
     mut vault: V,
+    of: (u8, u8),
     last: u32,
-) -> Result<(V, ClockNote), (V, StartFault)>
+) -> Result<(V, ClockNote, Found), (V, StartFault)>
     requires serving { IsTrue (V.serves vault) }
     requires low { last < 4294967295 }
     requires free { V.allowance vault ≡ Free }
-    ensures { MatchResult result (λ r. HasBegunEpoch V.Vault last vault r.0 r.1) (λ e. HasNotBegun V.Vault last vault e.0 e.1) }
+    requires number { (V.server vault ≡ of.0) × (V.servers vault ≡ of.1) }
+    ensures { MatchResult result (λ r. HasBegunEpoch V.Vault of.0 of.1 last vault r.0 r.1 r.2) (λ e. HasNotBegun V.Vault of.0 of.1 last vault e.0 e.1) }
 {
     vault.knows();
     let clock = match next_clock(alloc, &vault, last) {
         Ok(clock) => clock,
         Err(fault) => return Err((rested(vault), fault)),
     };
+    let found = match find_all(alloc, &mut vault, of, clock.epoch) {
+        Ok(found) => found,
+        Err(fault) => return Err((rested(vault), fault)),
+    };
     match put_clock(alloc, &mut vault, clock) {
-        Ok(()) => Ok((vault, clock)),
+        Ok(()) => Ok((vault, clock, found)),
         Err(StoreFault::OutOfMemory) => {
             Err((rested(vault), StartFault::Vault(VaultFault::OutOfMemory)))
         }
@@ -159,16 +152,16 @@ fn make_room(alloc: Global, journal: &mut Journal) -> Result<Vec<Act>, OutOfMemo
 }
 
 // The entry of the restart fills the place.
-fn fill(alloc: Global, journal: &mut Journal, mut acts: Vec<Act>, clock: ClockNote)
+fn fill(journal: &mut Journal, mut acts: Vec<Act>, clock: ClockNote, ready: Parts, decided: Stamps)
     requires none { acts.items ≡ [] }
     requires room { 1 ≤ vec_capacity acts }
-    ensures { (before : List AnEntry) (last : AnEntry) → journal.old ≡ before ++ last ∷ [] → journal.new ≡ before ++ entry_again clock ∷ [] }
+    ensures { (before : List AnEntry) (last : AnEntry) → journal.old ≡ before ++ last ∷ [] → journal.new ≡ before ++ entry_again clock ready decided ∷ [] }
 {
     acts.push_reserved(Act::Regained {
         epoch: clock.epoch,
         clock: clock.clock,
-        ready: Parts::new(Vec::new(alloc)),
-        decided: Stamps::new(Vec::new(alloc)),
+        ready,
+        decided,
     });
     journal.fill_place(Entry {
         event: Event::Restart,
@@ -177,56 +170,21 @@ fn fill(alloc: Global, journal: &mut Journal, mut acts: Vec<Act>, clock: ClockNo
     });
 }
 
-// A server that keeps nothing of a client.
-fn with_nobody<V: Vault>(
-    alloc: Global,
-    server: u8,
-    servers: u8,
-    clock: ClockNote,
-    vault: V,
-) -> ServerState<V>
-    ensures nobody { KeepsNobody result }
-    ensures run { IsOf server clock.epoch 0 result.coordinator }
-    ensures sound { IsSound result.locks }
-    ensures server { result.server ≡ server }
-    ensures sizes { result.sizes ≡ V.volume vault }
-    ensures clock { (result.epoch ≡ clock.epoch) × (result.clock ≡ clock.clock) }
-    ensures vault { result.vault ≡ vault }
-{
-    let sizes = vault.sizes();
-    ServerState {
-        alloc,
-        server,
-        servers,
-        sizes,
-        epoch: clock.epoch,
-        clock: clock.clock,
-        given: 0,
-        coordinator: Coordinator::new(alloc, server, clock.epoch),
-        joins: Joins::new(alloc, server, clock.epoch),
-        sessions: Sessions::new(),
-        lives: Lives::new(alloc),
-        dead: Dead::new(alloc),
-        waits: Waits::new(alloc),
-        locks: LockTable::new(alloc),
-        vault,
-        is_down: false,
-    }
-}
-
-// The vault of a server that fell serves again, with the note of the next epoch.
+// The vault of a server that fell serves again, with the note of the next epoch, and with what was found in the others.
 fn begin_epoch<V: Vault>(
     alloc: Global,
     vault: V,
+    of: (u8, u8),
     last: u32,
-) -> Result<(V, ClockNote), (V, StartFault)>
+) -> Result<(V, ClockNote, Found), (V, StartFault)>
     requires rests { V.serves vault ≡ false }
     requires low { last < 4294967295 }
     requires free { V.allowance vault ≡ Free }
-    ensures { MatchResult result (λ r. HasBegunEpoch V.Vault last vault r.0 r.1) (λ e. HasNotBegun V.Vault last vault e.0 e.1) }
+    requires number { (V.server vault ≡ of.0) × (V.servers vault ≡ of.1) }
+    ensures { MatchResult result (λ r. HasBegunEpoch V.Vault of.0 of.1 last vault r.0 r.1 r.2) (λ e. HasNotBegun V.Vault of.0 of.1 last vault e.0 e.1) }
 {
     match vault.recover() {
-        Ok(vault) => raise(alloc, vault, last),
+        Ok(vault) => raise(alloc, vault, of, last),
         Err((vault, fault)) => Err((vault, StartFault::Vault(fault))),
     }
 }
@@ -236,14 +194,15 @@ fn enter_epoch<V: Vault>(
     alloc: Global,
     journal: &mut Journal,
     vault: V,
+    of: (u8, u8),
     last: u32,
-) -> Result<(V, ClockNote), (V, StartFault)>
+) -> Result<ServerState<V>, (V, StartFault)>
     requires rests { V.serves vault ≡ false }
     requires free { V.allowance vault ≡ Free }
-    ensures epoch { MatchResult result (λ r. HasBegunEpoch V.Vault last vault r.0 r.1) (λ e. HasNotBegun V.Vault last vault e.0 e.1) }
-    ensures low { IfOk result (λ _. last < 4294967295) }
+    requires number { (V.server vault ≡ of.0) × (V.servers vault ≡ of.1) }
+    ensures epoch { MatchResult result (HasEntered V.Vault of.0 of.1 last vault journal.old journal.new) (λ e. HasNotBegun V.Vault of.0 of.1 last vault e.0 e.1) }
     ensures end { IfErr result (λ e. last ≡ 4294967295 → e.1 ≡ start_fault.EpochEnd) }
-    ensures journal { MatchResult result (λ r. journal.new ≡ journal.old ++ entry_again r.1 ∷ []) (λ _. journal.new ≡ journal.old) }
+    ensures journal { OnErr result (journal.new ≡ journal.old) }
 {
     if last == u32::MAX {
         return Err((vault, StartFault::EpochEnd));
@@ -251,10 +210,11 @@ fn enter_epoch<V: Vault>(
     let Ok(acts) = make_room(alloc, journal) else {
         return Err((vault, StartFault::Vault(VaultFault::OutOfMemory)));
     };
-    match begin_epoch(alloc, vault, last) {
-        Ok((vault, clock)) => {
-            fill(alloc, journal, acts, clock);
-            Ok((vault, clock))
+    match begin_epoch(alloc, vault, of, last) {
+        Ok((vault, clock, found)) => {
+            let (state, ready, decided) = begun(alloc, of, clock, found, vault);
+            fill(journal, acts, clock, ready, decided);
+            Ok(state)
         }
         Err(refused) => {
             journal.take_back();
@@ -264,8 +224,10 @@ fn enter_epoch<V: Vault>(
 }
 
 impl<V: Vault> Down<V> {
-    /// The server starts again on what the crash left. It keeps nothing of a client, and its epoch is the one after its last one, which
-    /// the note has before anything is answered; a restart that was refused may have put it already. The clock is that of the note.
+    /// The server starts again on what the crash left. It keeps what its notes keep: the parts that were ready, with their locks and what
+    /// they intend, and the decisions that a part on another server has not applied; and nothing else of a client. Its epoch is the one
+    /// after its last one, which the note has before anything is answered; a restart that was refused may have put it already. The clock
+    /// is that of the note.
     ///
     /// Where it is refused, the server comes back with its journal as one that may be started again. Where its last epoch is the last
     /// there is, it is refused for just that. The count of faults of its vault rises only where that failed. A vault that was recovered
@@ -282,12 +244,13 @@ impl<V: Vault> Down<V> {
             servers,
             epoch,
         } = self;
-        match enter_epoch(alloc, &mut journal, vault, epoch) {
-            Ok((vault, clock)) => {
-                vault.knows();
+        vault.knows();
+        match enter_epoch(alloc, &mut journal, vault, (server, servers), epoch) {
+            Ok(kept) => {
+                kept.vault.knows();
                 Ok(Node {
                     opening,
-                    kept: with_nobody(alloc, server, servers, clock, vault),
+                    kept,
                     journal,
                 })
             }

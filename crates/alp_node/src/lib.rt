@@ -15,6 +15,7 @@ mod down;
 mod easing;
 mod endings;
 mod finish;
+mod found;
 mod joining;
 mod lives;
 mod lock_counts;

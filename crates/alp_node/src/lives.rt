@@ -94,6 +94,20 @@ impl Lives {
         Ok(())
     }
 
+    /// A part that an earlier run left ready is live from now on.
+    pub fn restore(&mut self, trans: TransId, live: Live) -> Result<(), OutOfMemory>
+        requires new { map.get self.old trans ≡ None }
+        requires few { AreFewTotals (totals_of self.old) }
+        requires part { (live.part.counts.places ≤ 32768) × (live.part.counts.files ≤ 32768) × (live.part.counts.owners ≤ 32768) }
+        ensures ok { OnOk result (self.new ≡ map.insert self.old trans live) }
+        ensures err { OnErr result (self.new ≡ self.old) }
+    {
+        let counts = live.part.counts;
+        self.lives.insert(trans, live)?;
+        self.totals = self.totals.with(counts);
+        Ok(())
+    }
+
     /// This stands for a transaction that is live, and what stood for it is given. Takes no memory.
     pub fn swap(&mut self, trans: TransId, live: Live) -> Live
         requires there { map.get self.old trans ≢ None }

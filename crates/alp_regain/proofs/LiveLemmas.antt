@@ -1,11 +1,11 @@
 -- one ready part after the other becomes live
-use Rattle.std.specs.Prelude.{All, cond, Bool, true, false, ◌&&◌, ◌||◌, Option, None, Some, unwrap_or, nat_le, IsTrue, map as list_map}
+use Rattle.std.specs.Prelude.{All, cond, Bool, true, false, ◌&&◌, ◌||◌, ◌==◌, Option, None, Some, is_some, unwrap_or, nat_le, IsTrue, map as list_map}
 use Rattle.std.specs.List.{list_all, list_any, AllByRecursion}
 use Rattle.std.specs.FinMap as map
 use Rattle.std.specs.FinMap.{get-empty, get-insert}
 use Rattle.std.specs.Ordering.{eq_by_cmp, is_eq}
 use Rattle.std.specs.Cmp.{eq_by_cmp_equiv, tied_itself}
-use Rattle.std.proofs.Common.{◌≡◌, ℕ, ◌≤◌, List, [], ◌∷◌, ◌++◌, append_assoc, append-nil, length, refl, sym, ◌∙◌, ap, subst, arith}
+use Rattle.std.proofs.Common.{◌≡◌, ℕ, ◌≤◌, List, [], ◌∷◌, ◌++◌, append_assoc, append-nil, length, length-append, refl, sym, ◌∙◌, ap, subst, arith, eq-eqb}
 use Rattle.std.proofs.lemmas.List.Elements.{recursion_from_All}
 use Rattle.std.proofs.lemmas.Map.Views.{tells_apart}
 use Rattle.std.proofs.lemmas.List.Folds.{list_any-append}
@@ -13,7 +13,12 @@ use Rattle.alp_base.specs.Orders.{trans_cmp, resource_cmp, transactions_total, e
 use Rattle.alp_base.specs.declared.cell.Cell.{Cell}
 use Rattle.alp_base.specs.declared.change.Change.{Change}
 use Rattle.alp_base.specs.declared.ids.FileId.{FileId}
+use Rattle.alp_base.specs.declared.ids.JoinNo.{JoinNo}
 use Rattle.alp_base.specs.declared.ids.TransId.{TransId}
+use Rattle.alp_fields.specs.declared.ready_note.ReadyPart.{ReadyPart}
+use Rattle.alp_vault.specs.Volumes.{changed_cells}
+use Rattle.std.proofs.lemmas.Bool.{eqb-true}
+use Rattle.std.proofs.lemmas.List.{length-map}
 use Rattle.alp_base.specs.declared.key.Key.{Key}
 use Rattle.alp_base.specs.declared.key.Resource.{Resource}
 use Rattle.alp_modes.specs.declared.Mode.{Mode}
@@ -22,11 +27,11 @@ use Rattle.alp_files.specs.Cells.{Cells}
 use Rattle.alp_files.specs.Locks.{Need}
 use Rattle.alp_files.specs.Apart.{IsSized}
 use Rattle.alp_files.specs.Changes.{edits_of}
-use Rattle.alp_files.specs.Edits.{Edit, Drop, Cut}
+use Rattle.alp_files.specs.Edits.{Edit, Drop, Cut, Put}
 use Rattle.alp_files.specs.Undo.{puts_of}
 use Rattle.alp_files.specs.Holdings.{Holding, agree_held, join_held, held_by, DoAgree}
 use Rattle.alp_files.proofs.HoldingLemmas.{agree-turned}
-use Rattle.alp_files.specs.Needs.{Intents, intents_of, changed_by}
+use Rattle.alp_files.specs.Needs.{Intents, intents_of, changed, changed_by}
 use Rattle.alp_trans.specs.Counting.{AreCountsOf}
 use Rattle.alp_trans.specs.Parts.{own_of}
 use Rattle.alp_trans.specs.declared.part.Part.{Part}
@@ -40,11 +45,12 @@ use Rattle.alp_journal.specs.Counts.{with_resources}
 use Rattle.alp_journal.specs.Opening.{ReadyNote}
 use Rattle.alp_regain.specs.Named.{is_beside_intention, is_covered}
 use Rattle.alp_regain.specs.Lives.{is_plain, IsSoFar}
-use Rattle.alp_regain.specs.Together.{IsPartNote, AreTwo, AreApart, AreGoodLocks}
-use Rattle.alp_regain.specs.Regained.{PutsAreSized, IsPartOf, ArePartsOf, has_note_of, HoldsNoted, AreLocksOf}
+use Rattle.alp_regain.specs.Notes.{part_note}
+use Rattle.alp_regain.specs.Together.{IsPartNote, IsNamedOnce, AreTwo, AreApart, AreGoodLocks}
+use Rattle.alp_regain.specs.Regained.{PutsAreSized, IsPartOf, ArePartsOf, has_note_of, HoldsNoted, IsKnownTo, AreLocksOf}
 use Rattle.alp_regain.specs.declared.part.RegainedPart.{RegainedPart}
 use Rattle.alp_regain.specs.declared.parts.Lives.{Lives}
-use Rattle.alp_regain.proofs.ListLemmas.{both, at_middle, pushed}
+use Rattle.alp_regain.proofs.ListLemmas.{both, neither, at_middle, pushed}
 use Rattle.alp_regain.proofs.LockLemmas.{counted, are_intended, are_within}
 
 -- ---- transactions by their ids
@@ -136,6 +142,24 @@ module _ (t : Table) (done : List ReadyNote) (n : ReadyNote) (locks : AreLocksOf
   others_hold (o ∷ os) new held =
       (λ r. other_holds o.trans r (turned o.trans n.trans ∙ (or_none new).0) ∙ held.0 r, others_hold os (or_none new).1 held.1)
 
+  -- whoever was known still is
+  known_still : (u : TransId) → is_some (map.get t.held u) ≡ true → is_some (map.get (with_regained t n.trans n.locks None).held u) ≡ true
+  known_still u known = ap (λ (o : Option Held). is_some o) (get-insert transactions_total t.held n.trans (joined (held_of t.held n.trans) n.locks) u) ∙ go (eq_by_cmp trans_cmp u n.trans)
+    where
+      go : (b : Bool) → is_some (cond b (Some (joined (held_of t.held n.trans) n.locks)) (map.get t.held u)) ≡ true
+      go true = refl
+      go false = known
+
+  others_known : (os : List ReadyNote) → AllByRecursion (IsKnownTo t) os → AllByRecursion (IsKnownTo (with_regained t n.trans n.locks None)) os
+  others_known [] known = tt
+  others_known (o ∷ os) known = (known_still o.trans known.0, others_known os known.1)
+
+  own_known : is_some (map.get (with_regained t n.trans n.locks None).held n.trans) ≡ true
+  own_known =
+      ap (λ (o : Option Held). is_some o)
+      (get-insert transactions_total t.held n.trans (joined (held_of t.held n.trans) n.locks) n.trans
+      ∙ ap (λ (b : Bool). cond b (Some (joined (held_of t.held n.trans) n.locks)) (map.get t.held n.trans)) (itself n.trans))
+
   module _ (new : has_note_of n.trans done ≡ false) where
     pub locks_pushed : IsSound (with_regained t n.trans n.locks None) → AreLocksOf (with_regained t n.trans n.locks None) (done ++ n ∷ [])
     locks_pushed sound = record {
@@ -143,6 +167,7 @@ module _ (t : Table) (done : List ReadyNote) (n : ReadyNote) (locks : AreLocksOf
       waiting = locks.waiting;
       woken = locks.woken;
       held = pushed (HoldsNoted (with_regained t n.trans n.locks None)) done n (others_hold done new locks.held) (own_holds t n.trans n.locks (locks.others n.trans new));
+      known = pushed (IsKnownTo (with_regained t n.trans n.locks None)) done n (others_known done locks.known) own_known;
       others = λ u none.
           let apart = or_none (sym (list_any-append (λ (o : ReadyNote). eq_by_cmp trans_cmp u o.trans) done (n ∷ [])) ∙ none) in
           get-insert transactions_total t.held n.trans (joined (held_of t.held n.trans) n.locks) u
@@ -213,8 +238,8 @@ le_is : (a b : ℕ) → nat_le a b ≡ true → a ≤ b
 le_is a b h = grind arith
 
 -- all that a note is to say of a part
-note_of : (server epoch : ℕ) (n : ReadyNote) (p : Part) → is_plain server epoch n ≡ true → AreGoodLocks n.locks n.edits → IsPart p → p.intents ≡ intents_of n.edits → IsPartNote server epoch n
-note_of server epoch n p plain good part same =
+note_of : (server epoch : ℕ) (n : ReadyNote) (p : Part) → is_plain server epoch n ≡ true → AreGoodLocks n.locks n.edits → IsPart p → p.intents ≡ intents_of n.edits → IsNamedOnce n → IsPartNote server epoch n
+note_of server epoch n p plain good part same once =
     let h1 = both plain in
     let h2 = both h1.1 in
     let h3 = both h2.1 in
@@ -228,13 +253,14 @@ note_of server epoch n p plain good part same =
       join = h4.0;
       client = (le_is 1 n.client h5.0, le_is n.client 16 h5.1);
       cells = omega (arith, part.most, part.cells, ap (λ (i : Intents). changed_by i) same);
+      once = once;
       fit = subst (λ (i : Intents). AllFit i.puts) same part.fit;
     }
 
 pub part_noted : (tells : Bool) (m : Cells) (server epoch : ℕ) (p : RegainedPart) (n : ReadyNote) → p.join ≡ n.join → p.trans ≡ n.trans → p.ts ≡ n.ts → p.client ≡ n.client
     → p.part.intents ≡ intents_of n.edits → own_of p.part ≡ no_opens → IsPart p.part → (IsTrue tells → AreCountsOf m n.edits p.part.counts) → p.locks ≡ length (with_resources n.locks [])
-    → is_plain server epoch n ≡ true → AreGoodLocks n.locks n.edits → PutsAreSized n.edits → IsPartOf tells m server epoch p n
-part_noted tells m server epoch p n join trans ts client intents own part counts locks plain good sized = record {
+    → is_plain server epoch n ≡ true → AreGoodLocks n.locks n.edits → PutsAreSized n.edits → IsNamedOnce n → IsPartOf tells m server epoch p n
+part_noted tells m server epoch p n join trans ts client intents own part counts locks plain good sized once = record {
   join = join;
   trans = trans;
   ts = ts;
@@ -244,11 +270,37 @@ part_noted tells m server epoch p n join trans ts client intents own part counts
   part = part;
   counts = counts;
   locks = locks;
-  note = note_of server epoch n p.part plain good part intents;
+  note = note_of server epoch n p.part plain good part intents once;
   within = are_within (held_by n.locks) n.edits good.covered;
   intended = are_intended n.locks good.intended;
   sized = sized;
 }
+
+-- ---- nothing is named twice
+
+edits_length : (c : Change) → length (edits_of c) ≡ changed_cells c
+edits_length c =
+    omega (
+      arith,
+      length-append (list_map Drop c.drops) (list_map (λ (x : FileId × ℕ). Cut x.0 x.1) c.cuts ++ puts_of c.puts),
+      length-append (list_map (λ (x : FileId × ℕ). Cut x.0 x.1) c.cuts) (puts_of c.puts),
+      length-map c.drops Drop,
+      length-map c.cuts (λ (x : FileId × ℕ). Cut x.0 x.1),
+      length-map c.puts (λ (x : Key × Cell). Put x.0 x.1),
+    )
+
+both_same : (a b x y : ℕ) → (a == b && x == y) ≡ true → (a ≡ b) × (x ≡ y)
+both_same a b x y h = (let parts = both h in (eqb-true a b parts.0, eqb-true x y parts.1))
+
+not_both : (a b x y : ℕ) → (a == b && x == y) ≡ false → a ≡ b → x ≡ y → ⊥
+not_both a b x y h one other = neither h (eq-eqb a b one) (eq-eqb x y other)
+
+module _ (j : JoinNo) (p : ReadyPart) (locks cells : ℕ) (named : locks ≡ length (with_resources p.locks [])) (changes : cells ≡ changed (edits_of p.change)) where
+  pub named_once : (length p.locks == locks && changed_cells p.change == cells) ≡ true → IsNamedOnce (part_note (j, p))
+  named_once is = (let same = both_same (length p.locks) locks (changed_cells p.change) cells is in record { locks = same.0 ∙ named; edits = edits_length p.change ∙ same.1 ∙ changes })
+
+  pub named_twice : (length p.locks == locks && changed_cells p.change == cells) ≡ false → IsNamedOnce (part_note (j, p)) → ⊥
+  named_twice is once = not_both (length p.locks) locks (changed_cells p.change) cells is (once.locks ∙ sym named) (sym (edits_length p.change) ∙ once.edits ∙ sym changes)
 
 -- ---- all notes one after the other
 

@@ -1,9 +1,13 @@
 -- what regained parts come to is what their notes say
 use Rattle.std.specs.Prelude.{max, Bool, true, false, nat_le, sum_by, map as list_map, IsTrue}
 use Rattle.std.specs.List.{list_all, AllByRecursion}
-use Rattle.std.proofs.Common.{◌≡◌, ℕ, ◌+◌, ◌≤◌, List, [], ◌∷◌, length, refl, sym, ap, ◌∙◌, arith}
+use Rattle.std.proofs.Common.{◌≡◌, ℕ, ◌+◌, ◌≤◌, List, [], ◌∷◌, length, refl, sym, ap, ◌∙◌, subst, arith}
 use Rattle.std.proofs.lemmas.List.Sums.{sum_by-cons}
 use Rattle.alp_base.specs.declared.faults.Sizes.{Sizes}
+use Rattle.alp_base.specs.declared.ids.JoinNo.{JoinNo}
+use Rattle.alp_fields.specs.declared.clock_note.ClockNote.{ClockNote}
+use Rattle.alp_fields.specs.declared.ready_note.ReadyPart.{ReadyPart}
+use Rattle.alp_vault.specs.Volumes.{IsVolumeOf}
 use Rattle.alp_files.specs.Cells.{Cells}
 use Rattle.alp_files.specs.Needs.{changed_by, need_of, made_of, is_leader, is_owner}
 use Rattle.alp_worker.specs.Rooms.{applying_of, sum_of}
@@ -12,9 +16,10 @@ use Rattle.alp_journal.specs.Counts.{log_need}
 use Rattle.alp_coord.specs.Coordinators.{noted}
 use Rattle.alp_coord.specs.declared.decision.Decision.{Decision}
 use Rattle.alp_journal.specs.Opening.{ReadyNote, DecisionNote}
-use Rattle.alp_regain.specs.Named.{is_drawn_by}
+use Rattle.alp_regain.specs.Named.{is_decided_by}
+use Rattle.alp_regain.specs.Notes.{part_note}
 use Rattle.alp_regain.specs.Rooms.{FitsLogAlone, part_size, places_in, files_in, owners_in, HaveRoomFor}
-use Rattle.alp_regain.specs.Together.{size_of, log_sum, IsPartNote, HaveRoomTogether}
+use Rattle.alp_regain.specs.Together.{size_of, log_sum, IsPartNote, HaveRoomTogether, AreSoundTogether}
 use Rattle.alp_regain.specs.Regained.{IsPartOf, ArePartsOf}
 use Rattle.alp_regain.specs.declared.part.RegainedPart.{RegainedPart}
 use Rattle.alp_regain.proofs.ListLemmas.{all_mapped}
@@ -98,8 +103,31 @@ module _ (tells : Bool) (m : Cells) (server epoch : ℕ) where
   each_note (p ∷ ps) [] are = absurd are
   each_note (p ∷ ps) (n ∷ ns) are = (are.0.note, each_note ps ns are.1)
 
-pub decided_by : (epoch : ℕ) (ds : List Decision) → list_all (λ (d : DecisionNote). is_drawn_by epoch d.stamp.trans.epoch d.stamp.trans.counter) (list_map noted ds) ≡ list_all (λ (d : Decision). is_drawn_by epoch d.stamp.trans.epoch d.stamp.trans.counter) ds
-decided_by epoch ds = all_mapped (λ (d : DecisionNote). is_drawn_by epoch d.stamp.trans.epoch d.stamp.trans.counter) noted ds
+pub decided_by : (clock : ClockNote) (ds : List Decision) → list_all (λ (d : DecisionNote). is_decided_by clock d.stamp) (list_map noted ds) ≡ list_all (λ (d : Decision). is_decided_by clock d.stamp) ds
+decided_by clock ds = all_mapped (λ (d : DecisionNote). is_decided_by clock d.stamp) noted ds
+
+-- ---- no part
+
+none_of : {A : Type 0} (xs : List A) → length xs ≡ 0 → xs ≡ []
+none_of [] is = refl
+none_of (x ∷ xs) is = absurd (omega (arith, is))
+
+pub no_notes : (xs : List (JoinNo × ReadyPart)) → length xs ≡ 0 → list_map part_note xs ≡ []
+no_notes xs is = ap (λ (ys : List (JoinNo × ReadyPart)). list_map part_note ys) (none_of xs is)
+
+pub some_notes : (xs : List (JoinNo × ReadyPart)) → list_map part_note xs ≡ [] → length xs ≡ 0
+some_notes [] is = refl
+some_notes (x ∷ xs) is = let wrong : part_note x ∷ list_map part_note xs ≡ [] = is in cc
+
+pub none_room : (s : Sizes) (m : Cells) (ns : List ReadyNote) → ns ≡ [] → IsVolumeOf s m → HaveRoomTogether s m ns
+none_room s m ns none volume = subst (HaveRoomTogether s m) (sym none) (record {
+  places = omega (arith, volume.fits.places);
+  files = omega (arith, volume.fits.files);
+  owners = omega (arith, volume.fits.owners);
+})
+
+pub none_sound : (s : Sizes) (m : Cells) (ns : List ReadyNote) → ns ≡ [] → IsVolumeOf s m → AreSoundTogether m ns
+none_sound s m ns none volume = subst (AreSoundTogether m) (sym none) (record { each = tt; all = volume.sound })
 
 -- ---- room in the log for each part
 

@@ -1,10 +1,12 @@
 -- What notes name: files that the server made, and locks.
 use Rattle.std.specs.Prelude.{ℕ, Bool, true, false, ◌&&◌, ◌==◌, nat_le, Option, None, Some}
 use Rattle.alp_base.specs.declared.ids.FileId.{FileId}
+use Rattle.alp_base.specs.declared.ids.Stamp.{Stamp}
 use Rattle.alp_base.specs.declared.key.Key.{Key}
 use Rattle.alp_base.specs.declared.key.Key.TheVariants.{Leader, PageOf, OwnerOf}
 use Rattle.alp_base.specs.declared.key.Resource.{Resource}
 use Rattle.alp_base.specs.declared.key.Resource.TheVariants.{Whole, Leaf}
+use Rattle.alp_fields.specs.declared.clock_note.ClockNote.{ClockNote}
 use Rattle.alp_modes.specs.declared.Mode.{Mode}
 use Rattle.alp_modes.specs.declared.Mode.TheVariants.{IntendRead, IntendWrite, Read, Update, ReadIntendWrite, Write}
 use Rattle.alp_files.specs.Edits.{Edit, Drop, Cut, Put}
@@ -15,6 +17,10 @@ use Rattle.alp_files.specs.Holdings.{Holding, covers_held, file_of, mode_on, int
 -- a part or a transaction with these numbers was drawn in an epoch up to that one: epochs and counters begin at 1
 abbrev pub is_drawn_by : (now : ℕ) → (epoch counter : ℕ) → Bool
 is_drawn_by now epoch counter = nat_le 1 epoch && (nat_le 1 counter && nat_le epoch now)
+
+-- a decision with this stamp is of a transaction that was drawn in an epoch up to that of the clock, and no later than it
+abbrev pub is_decided_by : ClockNote → Stamp → Bool
+is_decided_by clock stamp = is_drawn_by clock.epoch stamp.trans.epoch stamp.trans.counter && nat_le stamp.ts clock.clock
 
 -- the file was made by this server in an epoch up to that one
 abbrev pub is_own : (server epoch : ℕ) → FileId → Bool

@@ -1,5 +1,5 @@
 -- What a server regains from the notes of an earlier run.
-use Rattle.std.specs.Prelude.{◌≡◌, ℕ, Bool, false, IsTrue, List, [], ◌∷◌, length, None, map as list_map}
+use Rattle.std.specs.Prelude.{◌≡◌, ℕ, Bool, true, false, IsTrue, List, [], ◌∷◌, length, None, is_some, map as list_map}
 use Rattle.std.specs.List.{list_any, AllByRecursion}
 use Rattle.std.specs.FinMap as map
 use Rattle.std.specs.Ordering.{eq_by_cmp}
@@ -8,7 +8,7 @@ use Rattle.alp_base.specs.Orders.{trans_cmp}
 use Rattle.alp_base.specs.declared.ids.TransId.{TransId}
 use Rattle.alp_base.specs.declared.key.Resource.{Resource}
 use Rattle.alp_coord.specs.Coordinators.{noted}
-use Rattle.alp_fields.specs.ClockNote.{clock_kept}
+use Rattle.alp_regain.specs.Together.{clock_before}
 use Rattle.alp_files.specs.Act.{no_opens}
 use Rattle.alp_files.specs.Apart.{IsSized, IsWithin}
 use Rattle.alp_files.specs.Cells.{Cells}
@@ -69,18 +69,23 @@ has_note_of t ns = list_any (λ (n : ReadyNote). eq_by_cmp trans_cmp t n.trans) 
 abbrev pub HoldsNoted : Table → ReadyNote → Type 0
 HoldsNoted t n = (r : Resource) → holding t.held n.trans r ≡ held_by n.locks r
 
--- The table has just the locks of the notes, which agree. Nobody waits.
+-- it knows the transaction, whatever that holds
+abbrev pub IsKnownTo : Table → ReadyNote → Type 0
+IsKnownTo t n = is_some (map.get t.held n.trans) ≡ true
+
+-- The table has just the locks of the notes, which agree, and knows their transactions. Nobody waits.
 pub record AreLocksOf (t : Table) (ns : List ReadyNote) : Type 0 where
   pub sound : IsSound t
   pub waiting : t.waiting ≡ []
   pub woken : t.woken ≡ []
   pub held : AllByRecursion (HoldsNoted t) ns
+  pub known : AllByRecursion (IsKnownTo t) ns
   pub others : (u : TransId) → has_note_of u ns ≡ false → map.get t.held u ≡ None
 
 -- ---- all of it
 
 -- The parts of all ready notes and all decisions are there, each in the order of the notes' names, with just the parts' locks.
-pub record IsRegained (tells : Bool) (m : Cells) (server : ℕ) (r : Regained) (notes : Notes) : Type 0 where
-  pub parts : ArePartsOf tells m server (clock_kept notes).epoch r.parts.items (ready_kept notes)
+pub record IsRegained (tells : Bool) (m : Cells) (server epoch : ℕ) (r : Regained) (notes : Notes) : Type 0 where
+  pub parts : ArePartsOf tells m server (clock_before epoch notes).epoch r.parts.items (ready_kept notes)
   pub decisions : list_map noted r.decisions.items ≡ decisions_kept notes
   pub locks : AreLocksOf r.locks (ready_kept notes)

@@ -105,7 +105,8 @@ fn fit_keys(puts: &[(Key, Cell)]) -> bool
     puts.iter().all(|put| fits_key(&put.0, &put.1))
 }
 
-fn changed_cells(change: &Change) -> u128
+/// How many cells and files the change names.
+pub(super) fn changed_cells(change: &Change) -> u128
     ensures { result ≡ changed_cells_said change.now }
 {
     let puts = change.puts.as_slice().len() as u128;

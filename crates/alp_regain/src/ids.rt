@@ -2,9 +2,10 @@
 ghost use Rattle.std.specs.Prelude.{◌≡◌, ◌&&◌};
 ghost use Rattle.std.specs.List.{list_all};
 ghost use Rattle.alp_files.specs.Changes.{edits_of};
-ghost use Rattle.alp_regain.specs.Named.{is_drawn_by as is_drawn_by_said, is_own as is_own_said, is_own_key as is_own_key_said, is_own_resource as is_own_resource_said, is_own_edit};
+ghost use Rattle.alp_regain.specs.Named.{is_drawn_by as is_drawn_by_said, is_decided_by as is_decided_by_said, is_own as is_own_said, is_own_key as is_own_key_said, is_own_resource as is_own_resource_said, is_own_edit};
 
-use alp_base::{Cell, Change, FileId, Key, Resource};
+use alp_base::{Cell, Change, FileId, Key, Resource, Stamp};
+use alp_fields::ClockNote;
 use alp_modes::Mode;
 
 /// Whether all three are so.
@@ -19,6 +20,14 @@ pub(super) fn is_drawn_by(now: u32, epoch: u32, counter: u32) -> bool
     ensures { result ≡ is_drawn_by_said now epoch counter }
 {
     1 <= epoch && (1 <= counter && epoch <= now)
+}
+
+/// Whether a decision with this stamp is of a transaction that was drawn in an epoch up to that of the clock, and no later than it.
+pub(super) fn is_decided_by(clock: ClockNote, stamp: Stamp) -> bool
+    ensures { result ≡ is_decided_by_said clock stamp }
+{
+    let trans = stamp.trans;
+    is_drawn_by(clock.epoch, trans.epoch, trans.counter) && stamp.ts <= clock.clock
 }
 
 // Whether the server made the file in an epoch up to that one.

@@ -1,5 +1,5 @@
 //! Parts that are ready, with their locks.
-ghost use Rattle.std.specs.Prelude.{◌≡◌, ◌++◌, ◌∷◌, [], ◌<◌, ◌≤◌, ◌&&◌, ℕ, Bool as ABool, false, None, IsTrue, IfOk, IfErr, OnOk, Err, List, length, map as list_map};
+ghost use Rattle.std.specs.Prelude.{◌≡◌, ◌++◌, ◌∷◌, [], ◌<◌, ◌≤◌, ◌&&◌, ◌==◌, ℕ, Bool as ABool, false, None, IsTrue, IfOk, IfErr, OnOk, Err, List, length, map as list_map};
 ghost use Rattle.std.specs.List.{list_all, list_any, AllByRecursion};
 ghost use Rattle.std.specs.FinMap as map;
 ghost use Rattle.std.specs.Ordering.{eq_by_cmp};
@@ -13,6 +13,7 @@ ghost use Rattle.alp_locks.specs.Asks.{with_regained};
 ghost use Rattle.alp_locks.specs.Sound.{IsSound};
 ghost use Rattle.alp_locks.specs.Tables.{holding, held_of};
 ghost use Rattle.alp_calls.specs.Looks.{Looks};
+ghost use Rattle.alp_vault.specs.Volumes.{changed_cells as changed_cells_said};
 ghost use Rattle.alp_journal.specs.Counts.{with_resources};
 ghost use Rattle.alp_journal.specs.Opening.{ReadyNote};
 ghost use Rattle.alp_regain.specs.Notes.{part_note};
@@ -22,7 +23,7 @@ ghost use Rattle.alp_regain.specs.Faults.{fault_from, IsOfNoDevice};
 ghost use Rattle.alp_regain.specs.Lives.{IsSoFar, is_plain};
 ghost use Rattle.alp_regain.specs.declared.fault.RegainFault.TheVariants.{BadNote};
 
-use crate::changes::part_of;
+use crate::changes::{changed_cells, part_of};
 use crate::ids::{are_own_locks, is_drawn_by, is_own_change};
 use crate::locks::{are_intended, have_modes, is_change_covered};
 use crate::sizes::size_puts;
@@ -109,6 +110,14 @@ fn are_good_locks(table: &LockTable, kept: &ReadyPart) -> bool
         && is_change_covered(table, kept.trans, &kept.change)
 }
 
+// Whether the note names as many locks and cells as are counted, and so none twice.
+fn is_once(kept: &ReadyPart, locks: u32, cells: u32) -> bool
+    ensures { result ≡ (length kept.now.locks == locks && changed_cells_said kept.now.change == cells) }
+{
+    let count = kept.locks.as_slice().len();
+    count == locks as usize && changed_cells(&kept.change) == u128::from(cells)
+}
+
 // The transaction holds the locks of its note, where they are good and agree with those of the others. The count is that of the
 // resources.
 fn locks_of(table: &mut LockTable, alloc: Global, kept: &ReadyPart) -> Result<u32, RegainFault>
@@ -164,6 +173,9 @@ impl Lives {
         size_puts(kept.change.puts.as_slice());
         let locks = locks_of(&mut self.locks, alloc, kept)?;
         let part = part_of(alloc, vault, &kept.change)?;
+        if !is_once(kept, locks, part.counts.cells) {
+            return Err(RegainFault::BadNote);
+        }
         self.parts.push(RegainedPart {
             join,
             trans: kept.trans,

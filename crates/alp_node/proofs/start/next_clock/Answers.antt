@@ -12,5 +12,4 @@ returns-in-Some-clause-cause g c =
     let vault = c.args.vault.now in
     let there : map.get (g.V.Vault.held c.args.vault.now).notes clock_name ≡ Some c.in-Some.value.now = search rules in
     let is : c.next_epoch.result ≡ after_clock (whole clock_form c.in-Some.value.now) = search rules in
-    start_cause (g.V.Vault.server vault) (g.V.Vault.servers vault) (g.V.Vault.held vault) (g.V.Vault.faults vault) (g.V.Vault.allowance vault) c.in-Some.value.now c.next_epoch.result
-    (c.are_server_notes.ensures.good c.if-not-are_server_notes.false) there is
+    start_cause (g.V.Vault.tells vault) (g.V.Vault.server vault) (g.V.Vault.servers vault) (g.V.Vault.volume vault) (g.V.Vault.held vault) (g.V.Vault.faults vault) (g.V.Vault.allowance vault) c.in-Some.value.now c.next_epoch.result there is

@@ -15,6 +15,7 @@ returns c = λ tells m server epoch. record {
     waiting = ap (λ (t : Table). t.waiting) c.new-2.ensures.empty;
     woken = ap (λ (t : Table). t.woken) c.new-2.ensures.empty;
     held = tt;
+    known = tt;
     others = λ u none. ap (λ (t : Table). map.get t.held u) c.new-2.ensures.empty ∙ get-empty trans_cmp u;
   };
   apart = tt;

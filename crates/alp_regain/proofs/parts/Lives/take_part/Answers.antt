@@ -7,6 +7,7 @@ use Rattle.alp_base.specs.declared.cell.Cell.{Cell}
 use Rattle.alp_base.specs.declared.key.Key.{Key}
 use Rattle.alp_files.specs.Apart.{IsSized}
 use Rattle.alp_files.specs.Cells.{Cells}
+use Rattle.alp_files.specs.Needs.{changed_by}
 use Rattle.alp_calls.specs.Looks.{Looks}
 use Rattle.alp_locks.specs.Sound.{IsSound}
 use Rattle.alp_locks.specs.Tables.{Table}
@@ -17,7 +18,7 @@ use Rattle.alp_regain.specs.Regained.{has_note_of, IsPartOf, ArePartsOf, AreLock
 use Rattle.alp_regain.specs.declared.part.RegainedPart.{RegainedPart}
 use Rattle.alp_regain.specs.declared.fault.RegainFault.{RegainFault}
 use Rattle.alp_regain.specs.declared.fault.RegainFault.TheVariants.{BadNote}
-use Rattle.alp_regain.proofs.LiveLemmas.{same_has, not_twice, agree_known, agree_each, parts_pushed, part_noted, change_sized, locks_pushed, apart_pushed}
+use Rattle.alp_regain.proofs.LiveLemmas.{same_has, not_twice, agree_known, agree_each, parts_pushed, part_noted, change_sized, locks_pushed, apart_pushed, named_once, named_twice}
 use Rattle.alp_regain.proofs.QuietLemmas.{quiet_looks}
 use Rattle.alp_regain.proofs.parts.Lives.take_part.Goals as goal
 
@@ -54,6 +55,11 @@ returns-in_err-locks-clause-looked g c =
     subst (λ (r : Result (Unit {0}) RegainFault). Looks g.V.Vault c.args.vault.now c.args.vault.now (fault_from r)) (sym is)
     (quiet_looks g.V.Vault c.args.vault.now c.requires.serving c.in_err-locks.field-0.0 c.in_err-locks.ensures.quiet)
 
+pub returns-then-not-is_once-clause-bad : goal.returns-then-not-is_once-clause-bad
+returns-then-not-is_once-clause-bad g c = λ bad done live two note.
+    named_twice c.args.join c.args.kept.now c.in_ok-locks.locks c.in_ok-part.part.counts.cells c.in_ok-locks.ensures.count (c.in_ok-part.ensures.part.cells ∙ ap changed_by c.in_ok-part.ensures.intents)
+    (sym c.is_once.ensures ∙ c.if-not-is_once.true) note.once
+
 pub returns-clause-taken : goal.returns-clause-taken
 returns-clause-taken g c = λ done live.
     let tells : Bool = g.V.Vault.tells c.args.vault.now in
@@ -70,7 +76,8 @@ returns-clause-taken g c = λ done live.
     let is : IsPartOf tells held server epoch part n =
     part_noted tells held server epoch part n refl refl refl refl c.in_ok-part.ensures.intents c.in_ok-part.ensures.own c.in_ok-part.ensures.part c.in_ok-part.ensures.counts
     c.in_ok-locks.ensures.count (sym c.is_plain_part.ensures ∙ c.if-not-is_plain_part.false) c.in_ok-locks.ensures.good
-    (change_sized c.args.kept.now.change (subst (λ (ps : List (Key × Cell)). All (λ (e : Key × Cell). IsSized e.1) ps) c.as_slice-2.ensures c.size_puts.ensures)) in
+    (change_sized c.args.kept.now.change (subst (λ (ps : List (Key × Cell)). All (λ (e : Key × Cell). IsSized e.1) ps) c.as_slice-2.ensures c.size_puts.ensures))
+    (named_once c.args.join c.args.kept.now c.in_ok-locks.locks c.in_ok-part.part.counts.cells c.in_ok-locks.ensures.count (c.in_ok-part.ensures.part.cells ∙ ap changed_by c.in_ok-part.ensures.intents) (sym c.is_once.ensures ∙ c.if-not-is_once.false)) in
     record {
       parts =
           subst (λ (ps : List RegainedPart). ArePartsOf tells held server epoch ps (done ++ n ∷ [])) (sym c.in_ok-push.ensures.items)
