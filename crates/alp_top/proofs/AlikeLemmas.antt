@@ -39,6 +39,7 @@ module _ {A B : Type 0} (g : Ghosts A) (h : Ghosts B) (a : A) (b : B) (alike : S
     telling = x.telling ∙ sym alike.telling;
     sized = alike.size ∙ x.sized;
     faults = x.faults ∙ sym alike.faults;
+    bare = λ told. x.bare (subst IsTrue alike.telling told);
     new = λ told is. x.new (subst IsTrue alike.telling told) (at_first (IsNew sizes) is);
     found = λ told old. at_alike (λ m i. IsOpenedOn server servers m i (start_in G n) (notes_in G n)) (x.found (subst IsTrue alike.telling told) (λ is. old (at_alike (IsNew sizes) is)));
   }

@@ -1,9 +1,10 @@
 -- a server that is started on its disk, or is not
-use Rattle.std.specs.Prelude.{◌==◌, true, false, Bool, Option, None, Some, IsTrue, Result, Ok, Err}
+use Rattle.std.specs.List.{list_all, AllByRecursion}
+use Rattle.std.specs.Prelude.{◌==◌, map as list_map, true, false, Bool, Option, None, Some, IsTrue, Result, Ok, Err}
 use Rattle.std.specs.FinMap as map
 use Rattle.std.specs.FinMap.{get-empty}
 use Rattle.std.proofs.lemmas.Bool.Decides.{eqb_tells}
-use Rattle.std.proofs.Common.{inl, inr, ◌⊎◌, ◌≡◌, ◌≢◌, ℕ, ◌+◌, ◌*◌, ◌≤◌, List, [], refl, sym, ◌∙◌, ap, subst}
+use Rattle.std.proofs.Common.{inl, inr, ◌⊎◌, ◌≡◌, ◌≢◌, ℕ, ◌+◌, ◌*◌, ◌≤◌, List, [], length, refl, sym, ◌∙◌, ap, subst, arith}
 use Rattle.alp_base.specs.Causes.{Rose}
 use Rattle.alp_base.specs.Crashes.{NoMore}
 use Rattle.alp_base.specs.Faults.{HasFaultCause, IsCountKept, IsOfVolume}
@@ -28,27 +29,32 @@ use Rattle.alp_fields.specs.declared.clock_note.ClockNote.{ClockNote}
 use Rattle.alp_journal.specs.declared.entry.Entry.{Entry}
 use Rattle.alp_journal.specs.Along.{Along}
 use Rattle.alp_journal.specs.Moves.{next}
-use Rattle.alp_journal.specs.Opening.{Start}
+use Rattle.alp_journal.specs.Opening.{Start, ReadyNote, DecisionNote, ready_kept, decisions_kept}
 use Rattle.alp_journal.specs.State.{opened}
 use Rattle.alp_node.specs.Nodes as node
 use Rattle.alp_node.specs.Nodes.{IsConsistent, start_in}
 use Rattle.alp_node.specs.NodeStates.{NodeState}
 use Rattle.alp_node.specs.Sessions.{no_sessions, session_at}
-use Rattle.alp_node.specs.Starts.{AreOfServer, HasRaised, after_note, raised, HasStartCause, IsNoteFault}
+use Rattle.alp_node.specs.Starts.{AreOfServer, HasRaised, epoch_after, after_note, raised, HasStartCause, IsNoteFault}
 use Rattle.alp_node.specs.declared.sessions.Sessions.{Sessions}
 use Rattle.alp_node.specs.declared.start.StartFault.{StartFault}
 use Rattle.alp_node.specs.declared.start.StartFault.TheVariants as start_fault
+use Rattle.alp_journal.proofs.NoteLemmas.{none_ready, none_decided}
+use Rattle.alp_node.proofs.FoundNotes.{clock_beside}
 use Rattle.alp_node.proofs.StartLemmas.{no_session}
+use Rattle.alp_regain.specs.Named.{is_decided_by}
+use Rattle.alp_regain.specs.Together.{IsPartNote, AreApart, AreNotesTogether, clock_before, log_sum, size_of}
 use Rattle.alp_store.specs.Holding.{Holds}
 use Rattle.alp_store.specs.Starts.{AreOfServer as StartedOnOwn, IsNew, WhyNotStarted}
 use Rattle.alp_vault.specs.Contents.{Contents}
 use Rattle.alp_vault.specs.Volumes.{AreNotesSoFar}
 use Rattle.alp_vault.specs.declared.vault.Vault.{Ghosts as VaultGhosts}
+use Rattle.alp_vault.proofs.VolumeLemmas.{noted_so_far}
 use Rattle.alp_cluster.specs.Servers.{AreKept, IsOn, IsDone}
 use Rattle.alp_cluster.proofs.StepLemmas.{kept_epoch, kept_clock}
 use Rattle.alp_top.specs.Disks.{IsCountedStart, notes_in}
 use Rattle.alp_top.specs.Faults.{of_vault, of_start}
-use Rattle.alp_top.specs.Volumes.{IsLeftAlone, IsOpenedNew, IsOpenedOn, WhyNotBegun}
+use Rattle.alp_top.specs.Volumes.{IsBare, IsLeftAlone, IsOpenedNew, IsOpenedOn, WhyNotBegun}
 use Rattle.alp_top.specs.declared.fault.NoReport.{NoReport}
 
 abbrev nothing : Contents
@@ -115,7 +121,7 @@ new_on G n kept sessions journal all = record {
 }
 
 module _ {V D : Type 0} (G : VaultGhosts V) (g : Ghosts D) (sizes : Sizes) (server servers : ℕ) (n : NodeState V) (before : Contents) (vol : Sizes) (d : D) (kept : IsConsistent G n) (idle : n.journal ≡ []) (at_once : n.opening.vault.value ≡ n.kept.vault)
-    (volume : G.volume n.kept.vault ≡ vol) (told : IsTrue (G.tells n.kept.vault)) (rose : HasRaised (G.tells n.kept.vault) server servers before (G.held n.kept.vault) (record { epoch = n.kept.epoch; clock = n.kept.clock })) where
+    (volume : G.volume n.kept.vault ≡ vol) (told : IsTrue (G.tells n.kept.vault)) (rose : HasRaised (G.tells n.kept.vault) server servers vol before (G.held n.kept.vault) (record { epoch = n.kept.epoch; clock = n.kept.clock })) where
   abbrev o : Start
   o = start_in G n
 
@@ -136,6 +142,12 @@ module _ {V D : Type 0} (G : VaultGhosts V) (g : Ghosts D) (sizes : Sizes) (serv
 
   noted : notes_in G n ≡ map.insert before.notes clock_name (clock_form.spell (record { epoch = o.epoch; clock = o.clock }))
   noted = ap (λ (v : V). (G.held v).notes) at_once ∙ rose.notes ∙ ap (λ (c : ClockNote). map.insert before.notes clock_name (clock_form.spell c)) (sym note_is)
+
+  -- it finds nothing
+  pub opened_bare : AreNotesSoFar server servers before.notes → IsBare o
+  opened_bare clock =
+      let beside = clock_beside before.notes (clock_form.spell (record { epoch = o.epoch; clock = o.clock })) in
+      record { ready = ap ready_kept noted ∙ beside.0 ∙ none_ready before.notes clock; decisions = ap decisions_kept noted ∙ beside.1 ∙ none_decided before.notes clock }
 
   pub opened_new : before ≡ nothing → vol ≡ sizes → IsOpenedNew sizes o (notes_in G n)
   opened_new none same =
@@ -162,6 +174,24 @@ module _ {V D : Type 0} (G : VaultGhosts V) (g : Ghosts D) (sizes : Sizes) (serv
     next = rose.next ∙ ap Ok (sym note_is);
     noted = noted;
   }
+
+-- ---- the notes of a server that finds nothing
+
+pub together_so_far : (server servers epoch area : ℕ) (notes : Notes) → 24 ≤ area → AreNotesSoFar server servers notes → AreNotesTogether server servers epoch area notes
+together_so_far server servers epoch area notes room clock =
+    let ready : ready_kept notes ≡ [] = none_ready notes clock in
+    let decided : decisions_kept notes ≡ [] = none_decided notes clock in
+    let no_ready : length (ready_kept notes) ≡ 0 = ap (λ (rs : List ReadyNote). length rs) ready in
+    let no_decided : length (decisions_kept notes) ≡ 0 = ap (λ (ds : List DecisionNote). length ds) decided in
+    let least : 24 + 0 + 0 ≤ area = omega (arith, room) in
+    record {
+      format = noted_so_far server servers notes clock;
+      parts = subst (AllByRecursion (IsPartNote server (clock_before epoch notes).epoch)) (sym ready) tt;
+      decided = ap (list_all (λ (d : DecisionNote). is_decided_by (clock_before epoch notes) d.stamp)) decided;
+      apart = subst AreApart (sym ready) tt;
+      few = omega (arith, no_ready, no_decided);
+      log = subst (λ (rs : List ReadyNote). log_sum (list_map size_of rs) ≤ area) (sym ready) least;
+    }
 
 -- ---- why a server does not start
 
@@ -190,21 +220,22 @@ module _ {D : Type 0} (g : Ghosts D) (sizes : Sizes) (server servers : ℕ) (d e
   not_opened (vault_fault.Damaged place) cause kept free new why on = (refl, left_alone on new kept, why new)
 
   -- the store did, and the server on it did not
-  pub not_started : (held : Contents) (f : StartFault) (between : ℕ) (allowance : Allowance) (home : ℕ) → HasStartCause server servers held between (g.faults e) allowance f → allowance ≡ Free → between ≡ g.faults d → AreNotesSoFar server servers held.notes
+  pub not_started : (tells : Bool) (vol : Sizes) (held : Contents) (f : StartFault) (between : ℕ) (allowance : Allowance) (home : ℕ) → HasStartCause tells server servers vol held between (g.faults e) allowance f → allowance ≡ Free → between ≡ g.faults d → 24 ≤ vol.area → AreNotesSoFar server servers held.notes
       → (f ≡ start_fault.Vault vault_fault.OutOfMemory → g.faults e ≡ between) → (f ≡ start_fault.EpochEnd → g.faults e ≡ between)
       → (IsNewDisk → held ≡ nothing) → ((IsNewDisk → ⊥) → Holds server servers (g.size d) home (g.seen d) held) → ((IsNewDisk → ⊥) → StartedOnOwn server servers held) → (f ≡ start_fault.EpochEnd → ReadsOn) → WhyNotBegun g sizes server servers (of_start server f) d e
-  not_started held (start_fault.Vault f) between allowance home cause free kept notes memory last_epoch new holds own on = go f cause memory
+  not_started tells vol held (start_fault.Vault f) between allowance home cause free kept room notes memory last_epoch new holds own on = go f cause memory
     where
-      go : (f : VaultFault) → HasStartCause server servers held between (g.faults e) allowance (start_fault.Vault f) → (start_fault.Vault f ≡ start_fault.Vault vault_fault.OutOfMemory → g.faults e ≡ between) → WhyNotBegun g sizes server servers (of_vault server f) d e
+      go : (f : VaultFault) → HasStartCause tells server servers vol held between (g.faults e) allowance (start_fault.Vault f) → (start_fault.Vault f ≡ start_fault.Vault vault_fault.OutOfMemory → g.faults e ≡ between) → WhyNotBegun g sizes server servers (of_vault server f) d e
       go vault_fault.Failed h memory = (refl, subst (λ (n : ℕ). Rose n (g.faults e)) kept (h.0.failed refl))
       go vault_fault.Stopped h memory = absurd (spent_free (sym free ∙ h.0.stopped refl))
       go vault_fault.OutOfMemory h memory = memory refl ∙ kept
       go (vault_fault.NotAVolume found) h memory = absurd h.1
       go (vault_fault.Damaged place) h memory = absurd h.1
-  not_started held start_fault.BadNote between allowance home cause free kept notes memory last_epoch new holds own on = absurd (cause notes)
-  not_started held start_fault.EpochEnd between allowance home cause free kept notes memory last_epoch new holds own on =
-      let old : IsNewDisk → ⊥ = (λ is. not_last held (new is) cause.1) in
-      (refl, left_alone (on refl) old (last_epoch refl ∙ kept), record { home = home; held = held; holds = holds old; own = own old; last = cause.1 })
+  not_started tells vol held start_fault.BadNote between allowance home cause free kept room notes memory last_epoch new holds own on =
+      absurd (cause.alone (none_ready held.notes notes) (together_so_far server servers (epoch_after held) vol.area held.notes room notes))
+  not_started tells vol held start_fault.EpochEnd between allowance home cause free kept room notes memory last_epoch new holds own on =
+      let old : IsNewDisk → ⊥ = (λ is. not_last held (new is) cause) in
+      (refl, left_alone (on refl) old (last_epoch refl ∙ kept), record { home = home; held = held; holds = holds old; own = own old; last = cause })
 
 -- ---- the count of faults of any disk
 
@@ -215,14 +246,14 @@ opened_counted server before now allowance vault_fault.OutOfMemory cause free = 
 opened_counted server before now allowance (vault_fault.NotAVolume found) cause free = refl
 opened_counted server before now allowance (vault_fault.Damaged place) cause free = refl
 
-pub started_counted : (server servers a b before between now : ℕ) (held : Contents) (allowance : Allowance) (f : StartFault) → HasStartCause a b held between now allowance f → allowance ≡ Free → between ≡ before → IsCountedStart server (of_start server f) before now
-started_counted server servers a b before between now held allowance (start_fault.Vault f) cause free kept = go f cause
+pub started_counted : (tells : Bool) (vol : Sizes) (server servers a b before between now : ℕ) (held : Contents) (allowance : Allowance) (f : StartFault) → HasStartCause tells a b vol held between now allowance f → allowance ≡ Free → between ≡ before → IsCountedStart server (of_start server f) before now
+started_counted tells vol server servers a b before between now held allowance (start_fault.Vault f) cause free kept = go f cause
   where
-    go : (f : VaultFault) → HasStartCause a b held between now allowance (start_fault.Vault f) → IsCountedStart server (of_vault server f) before now
+    go : (f : VaultFault) → HasStartCause tells a b vol held between now allowance (start_fault.Vault f) → IsCountedStart server (of_vault server f) before now
     go vault_fault.Failed h = (refl, subst (λ (n : ℕ). Rose n now) kept (h.0.failed refl))
     go vault_fault.Stopped h = let wrong : Free ≡ Spent = sym free ∙ h.0.stopped refl in cc
     go vault_fault.OutOfMemory h = tt
     go (vault_fault.NotAVolume found) h = refl
     go (vault_fault.Damaged place) h = refl
-started_counted server servers a b before between now held allowance start_fault.BadNote cause free kept = refl
-started_counted server servers a b before between now held allowance start_fault.EpochEnd cause free kept = refl
+started_counted tells vol server servers a b before between now held allowance start_fault.BadNote cause free kept = refl
+started_counted tells vol server servers a b before between now held allowance start_fault.EpochEnd cause free kept = refl

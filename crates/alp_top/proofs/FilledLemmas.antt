@@ -75,7 +75,7 @@ set_elsewhere (x ∷ xs) (suc i) (suc j) y away = set_elsewhere xs i j y (λ e. 
 -- ---- the servers as they were left
 
 -- each has the vault of the server that stood there
-module _ {V D T : Type 0} (G : VaultGhosts V) (g : Ghosts D) (tells : Bool) (told : IsTrue tells) (lines : List NumberedLine) (before after : ℕ → Option D) (first left : Stations V) (f : RunFault) (early : HasEndedEarly G (servers_said lines) lines f left)
+module _ {V D T : Type 0} (G : VaultGhosts V) (g : Ghosts D) (tells : Bool) (told : IsTrue tells) (lines : List NumberedLine) (before after : ℕ → Option D) (first left : Stations V) (f : RunFault) (few : servers_said lines ≤ 8) (early : HasEndedEarly G (servers_said lines) lines f left)
     (at : (n : ℕ) → IsOneOf (servers_said lines) n → IsLeftSo {T = T} G g tells lines before after first left (Err f) n) (opens : openings_of left ≡ openings_of first) where
   abbrev last : Stations V
   last = early.last
@@ -92,6 +92,9 @@ module _ {V D T : Type 0} (G : VaultGhosts V) (g : Ghosts D) (tells : Bool) (tol
   pub seat_here : (n : ℕ) → IsOneOf (servers_said lines) n → IsSeat r n
   seat_here n here = record { first = here.first; last = (let high : n ≤ servers_said lines = here.last in let count : length last.all.items ≡ servers_said lines = early.count in let all : length r.seats ≡ length last.all.items = many G last early.on in omega (arith, high, count, all)) }
 
+  pub one_seat : (n : ℕ) → IsSeat r n → IsOneOf (servers_said lines) n
+  one_seat n here = record { first = here.first; last = (let high : n ≤ length r.seats = here.last in let count : length last.all.items ≡ servers_said lines = early.count in let all : length r.seats ≡ length last.all.items = many G last early.on in omega (arith, high, count, all)) }
+
   -- a server that stands as it stood
   module _ (n : ℕ) (here : IsOneOf (servers_said lines) n) (s : Station V) (there : slice_get last.all.items (n - 1) ≡ Some s) (m : IsManned G (length last.all.items) n s) (sits : seat_at r n ≡ seat_for G s.is_fused s.ranks.items (standing m.node)) where
     abbrev x : IsGoneAt {T = T} G g tells lines before after first left (Err f) n
@@ -107,18 +110,15 @@ module _ {V D T : Type 0} (G : VaultGhosts V) (g : Ghosts D) (tells : Bool) (tol
       opening : m.node.opening ≡ x.node.opening
       opening = opening_same first left (n - 1) x.station x.left x.node m.node opens x.stood x.was x.stands still
 
-      -- where it is the only one, it opened with nothing
-      bare_here : servers_said lines ≡ 1 → IsBare (seat_at r 1).opening
-      bare_here one =
-          let low : 1 ≤ n = here.first in
-          let high : n ≤ servers_said lines = here.last in
-          let first_is : n ≡ 1 = omega (arith, low, high, one) in
-          subst (λ (k : ℕ). IsBare (seat_at r k).opening) first_is (subst (λ (z : Seat). IsBare z.opening) (sym sits)
-          (bare_as G g (sizes_said lines n) n (servers_said lines) x.node m.node x.vault x.taken x.given x.begun.started (x.begun.told told) m.keeps.on m.number_is opening still_tells low high one))
+      -- it opened with nothing
+      pub still_bare : IsBare (seat_at r n).opening
+      still_bare =
+          subst (λ (z : Seat). IsBare z.opening) (sym sits)
+          (bare_as G g (sizes_said lines n) n (servers_said lines) x.node m.node x.vault x.taken x.given x.begun.started (x.begun.told told) m.keeps.on m.number_is opening still_tells)
 
       -- its journal was full
-      pub still_filled : TellAll r → entries_limit ≤ (seat_at r n).stand.place → (seat_at r n).stand.is_down ≡ false → f ≡ run_fault.JournalFull → HasFilled g lines n x.taken x.given
-      still_filled all full up is =
+      pub still_filled : TellAll r → ((k : ℕ) → IsSeat r k → IsBare (seat_at r k).opening) → entries_limit ≤ (seat_at r n).stand.place → (seat_at r n).stand.is_down ≡ false → f ≡ run_fault.JournalFull → HasFilled g lines n x.taken x.given
+      still_filled all bare full up is =
           let node_up : m.node.kept.is_down ≡ false = ap (λ (z : Seat). z.stand.is_down) (sym sits) ∙ up in
           let serves : IsTrue (G.serves x.vault) = subst (λ v. IsTrue (G.serves v)) (sym vault_is) (m.keeps.on.kept.ready.serving node_up) in
           record {
@@ -133,7 +133,7 @@ module _ {V D T : Type 0} (G : VaultGhosts V) (g : Ghosts D) (tells : Bool) (tol
                 subst (λ (z : Seat). IsStored g (StopNone lines) n (servers_said lines) (sizes_said lines n) z.opening (notes_in G m.node) (state_after next (opened z.opening) z.journal) x.taken x.given) (sym sits)
                 (stored G g (sizes_said lines n) n (servers_said lines) x.node m.node x.vault x.taken x.given x.begun.started (x.begun.told told) m.keeps.on m.number_is opening still_tells node_up x.gone.same (ap G.held vault_is) serves x.back (StopNone lines) here.first here.last
                 (λ none. subst (λ (q : RunFault). AreCountedIn {T = T} (G.server x.node.kept.vault) (Err q) (G.faults x.node.kept.vault) (G.faults x.vault)) is (x.gone.counted none x.begun.started.idle.free)));
-            short = subst (λ (q : RunFault). IsCutShort lines q r) is (cut_short G lines f left early all (λ one. bare_here one));
+            short = subst (λ (q : RunFault). IsCutShort lines q r) is (cut_short G lines f left early all few bare);
           }
 
   -- ---- at a full journal
@@ -159,6 +159,12 @@ module _ {V D T : Type 0} (G : VaultGhosts V) (g : Ghosts D) (tells : Bool) (tol
         let stays = all_still (i + 1 - 1) y (at (i + 1) here).at.left m.node now m.keeps.stands (at (i + 1) here).at.stands in
         subst (λ (z : Station V). IsTrue (seat_of G z).tells) one (subst (λ o. IsTrue (seat_for G y.is_fused y.ranks.items o).tells) (sym m.keeps.stands) (still_tells (i + 1) here y now m sits stays)))
 
+    all_bare : (k : ℕ) → IsSeat r k → IsBare (seat_at r k).opening
+    all_bare k seat =
+        let here : IsOneOf (servers_said lines) k = one_seat k seat in
+        let (y, now, m, sits) = seat_on G last early.on k seat in
+        still_bare k here y now m sits (all_still (k - 1) y (at k here).at.left m.node now m.keeps.stands (at k here).at.stands)
+
     pub filled : (s : ℕ) × IsOneOf (servers_said lines) s × ((here : IsOneOf (servers_said lines) s) → HasFilled g lines s (at s here).at.taken (at s here).at.given)
     filled =
         let due : ℕ = server_due early.due in
@@ -177,7 +183,7 @@ module _ {V D T : Type 0} (G : VaultGhosts V) (g : Ghosts D) (tells : Bool) (tol
           (λ here.
           let (y, now, m, sits) = seat_on G last early.on (i + 1) (seat_here (i + 1) here) in
           let stays = all_still (i + 1 - 1) y (at (i + 1) here).at.left m.node now m.keeps.stands (at (i + 1) here).at.stands in
-          still_filled (i + 1) here y now m sits stays all_told (subst (λ (j : ℕ). entries_limit ≤ (get_or r.seats j no_seat).stand.place) (sym same) full) (subst (λ (j : ℕ). (get_or r.seats j no_seat).stand.is_down ≡ false) (sym same) up) is),
+          still_filled (i + 1) here y now m sits stays all_told all_bare (subst (λ (j : ℕ). entries_limit ≤ (get_or r.seats j no_seat).stand.place) (sym same) full) (subst (λ (j : ℕ). (get_or r.seats j no_seat).stand.is_down ≡ false) (sym same) up) is),
         )
 
   -- ---- at the last epoch
@@ -231,6 +237,33 @@ module _ {V D T : Type 0} (G : VaultGhosts V) (g : Ghosts D) (tells : Bool) (tol
               subst (λ (z : Station V). IsTrue (seat_of G z).tells) one (subst (λ o. IsTrue (seat_for G y.is_fused y.ranks.items o).tells) (sym m.keeps.stands) (still_tells (i + 1) here y now m sits still))
         ])
 
+    -- each opened with nothing
+    bare_then : (n : ℕ) → IsSeat r n → IsBare (seat_at r n).opening
+    unfolding down e
+    bare_then n seat =
+        let here : IsOneOf (servers_said lines) n = one_seat n seat in
+        let (y, now, m, sits) = seat_on G last early.on n seat in
+        elim (cases_eq (n - 1) k) [
+          | inl same ↦
+              let x = (at n here).at in
+              let one : y ≡ e.station = same_there (slice_get last.all.items (n - 1)) y e.station now (ap (slice_get last.all.items) same ∙ e.there) in
+              let node_is : m.node ≡ e.node = one_node y.server m.node e.node m.keeps.stands (ap (λ (z : Station V). z.server) one ∙ e.stood) in
+              let left_is : x.left ≡ e.left = same_there (slice_get left.all.items (n - 1)) x.left e.left x.stands (ap (slice_get left.all.items) same ∙ there_now) in
+              let opened_so : down.opening ≡ x.node.opening = some_same down.opening x.node.opening
+              (some_same (Some down.opening) (Some x.node.opening)
+              (sym (map_at (λ (z : Station _). opening_in z.server) left.all.items (n - 1) x.left x.stands ∙ ap (λ o. Some (opening_in o)) (ap (λ (z : Station V). z.server) left_is ∙ e.ends.1))
+              ∙ ap (λ os. slice_get os (n - 1)) opens ∙ map_at (λ (z : Station _). opening_in z.server) first.all.items (n - 1) x.station x.stood ∙ ap (λ o. Some (opening_in o)) x.was)) in
+              let opening : m.node.opening ≡ x.node.opening = ap (λ (q : NodeState V). q.opening) node_is ∙ sym stays.falls.opening ∙ sym stays.stays.opening ∙ opened_so in
+              let vault_is : x.vault ≡ down.vault = subst (λ o. HasVault o x.vault) (ap (λ (z : Station V). z.server) left_is ∙ e.ends.1) (at n here).its in
+              let tells_node : IsTrue (G.tells m.node.kept.vault) = subst (λ (q : NodeState V). IsTrue (G.tells q.kept.vault)) (sym node_is) (subst IsTrue (ap G.tells vault_is ∙ stays.stays.same.telling ∙ stays.falls.same.telling) (vault_tells n here)) in
+              subst (λ (z : Seat). IsBare z.opening) (sym sits)
+              (bare_as G g (sizes_said lines n) n (servers_said lines) x.node m.node x.vault x.taken x.given x.begun.started (x.begun.told told) m.keeps.on m.number_is opening tells_node)
+          | inr away ↦
+              let x = (at n here).at in
+              let left_is : x.left ≡ y = same_there (slice_get left.all.items (n - 1)) x.left y x.stands (elsewhere_now (n - 1) away ∙ now) in
+              still_bare n here y now m sits (ap (λ (z : Station V). z.server) left_is ∙ m.keeps.stands)
+        ]
+
     over_at : (here : IsOneOf (servers_said lines) (k + 1)) → server ≡ k + 1 → HasUsedUp g lines (k + 1) (at (k + 1) here).at.taken (at (k + 1) here).at.given
     unfolding down e
     over_at here server_is =
@@ -252,12 +285,6 @@ module _ {V D T : Type 0} (G : VaultGhosts V) (g : Ghosts D) (tells : Bool) (tol
         let opening : e.node.opening ≡ x.node.opening = sym stays.falls.opening ∙ sym stays.stays.opening ∙ opened_so in
         let sits_node : seat_at r (k + 1) ≡ seat_for G y.is_fused y.ranks.items (standing e.node) = sits ∙ ap (λ (n : NodeState V). seat_for G y.is_fused y.ranks.items (standing n)) node_is in
         let same : IsSameVault G.tells G.volume G.server G.servers x.node.kept.vault x.vault = x.gone.same in
-        let bare_then : servers_said lines ≡ 1 → IsBare (seat_at r 1).opening = (λ alone.
-        let low : 1 ≤ k + 1 = here.first in
-        let high : k + 1 ≤ servers_said lines = here.last in
-        let first_is : k + 1 ≡ 1 = omega (arith, low, high, alone) in
-        subst (λ (j : ℕ). IsBare (seat_at r j).opening) first_is (subst (λ (z : Seat). IsBare z.opening) (sym sits_node)
-        (bare_as G g (sizes_said lines (k + 1)) (k + 1) (servers_said lines) x.node e.node x.vault x.taken x.given x.begun.started (x.begun.told told) on number opening tells_node low high alone))) in
         let server_of : G.server x.vault ≡ k + 1 = same.number ∙ x.begun.started.on.kept.number ∙ x.begun.started.number in
         let servers_are : G.servers x.vault ≡ servers_said lines = same.of_all ∙ x.begun.started.on.kept.all ∙ x.begun.started.count in
         let volume : G.volume x.vault ≡ (start_in G e.node).sizes = same.sizes ∙ ap G.volume (sym x.begun.started.idle.opening) ∙ ap (λ o. G.volume o.vault.value) (sym opening) in
@@ -272,7 +299,7 @@ module _ {V D T : Type 0} (G : VaultGhosts V) (g : Ghosts D) (tells : Bool) (tol
               (opened_new G g (sizes_said lines (k + 1)) (k + 1) (servers_said lines) x.node e.node x.vault x.taken x.given x.begun.started (x.begun.told told) on number opening tells_node new);
           found = λ old. subst (λ (z : Seat). IsOpenedOn (k + 1) (servers_said lines) (g.size x.taken) (g.seen x.taken) z.opening (notes_in G e.node)) (sym sits_node)
               (opened_on G g (sizes_said lines (k + 1)) (k + 1) (servers_said lines) x.node e.node x.vault x.taken x.given x.begun.started (x.begun.told told) on number opening tells_node old);
-          short = subst (λ (q : RunFault). IsCutShort lines q r) (is ∙ ap (λ (n : ℕ). run_fault.Start n start_fault.EpochEnd) server_is) (cut_short G lines f left early all_told_then bare_then);
+          short = subst (λ (q : RunFault). IsCutShort lines q r) (is ∙ ap (λ (n : ℕ). run_fault.Start n start_fault.EpochEnd) server_is) (cut_short G lines f left early all_told_then few bare_then);
           left = λ image may.
               let (c, holds, may_be) = x.back.whole tells_vault image may in (
                 c,

@@ -8,6 +8,14 @@ use Rattle.alp_bay.specs.declared.bay.BayFault.{BayFault}
 use Rattle.alp_bay.specs.declared.bay.BayFault.TheVariants as bay_fault
 use Rattle.alp_course.specs.Courses.{IsOneOf}
 use Rattle.alp_disk.specs.declared.disk.Disk.{Ghosts}
+use Rattle.alp_base.specs.Crashes.{NoMore}
+use Rattle.alp_base.specs.declared.faults.Sizes.{Sizes}
+use Rattle.alp_journal.specs.Along.{state_after}
+use Rattle.alp_journal.specs.Moves.{next}
+use Rattle.alp_journal.specs.State.{opened}
+use Rattle.alp_journal.specs.declared.entry.Entry.{Entry}
+use Rattle.alp_node.specs.Durable.{IsSaid}
+use Rattle.alp_node.specs.Nodes.{start_in}
 use Rattle.alp_node.specs.DownStates.{DownState}
 use Rattle.alp_node.specs.NodeStates.{NodeState}
 use Rattle.alp_script.specs.Accepted.{servers_said}
@@ -26,12 +34,13 @@ use Rattle.alp_cluster.specs.declared.server.Server.{Server}
 use Rattle.alp_cluster.specs.declared.server.Server.TheVariants.{Up, Fallen}
 use Rattle.alp_cluster.specs.declared.station.Station.{Station}
 use Rattle.alp_cluster.specs.declared.stations.Stations.{Stations}
-use Rattle.alp_top.specs.Disks.{IsStarted, IsBegunAt, AreBegun, AreOthersSame, IsUntaken, IsOfServer, IsRefused, HaveBegunSome, IsGiven, IsLeftAt, AreLeftBy}
+use Rattle.alp_top.specs.Disks.{IsStarted, IsBegunAt, AreBegun, AreOthersSame, IsUntaken, IsOfServer, IsRefused, notes_in, HaveBegunSome, IsGiven, IsLeftAt, AreLeftBy}
 use Rattle.alp_top.specs.Faults.{of_bay}
 use Rattle.alp_top.specs.Pairs.{ArePaired}
-use Rattle.alp_top.specs.Volumes.{pages_of, IsReturned, AreReturned, WhyNotBegun, HasDiskCause, AreLeft, HasRunCause}
+use Rattle.alp_top.specs.Volumes.{pages_of, IsUnplayed, IsReturned, AreReturned, WhyNotBegun, StopsAt, AreLeft, IsAtItsEnd, IsNoVolume, IsDamaged, HasRunCause}
 use Rattle.alp_top.specs.declared.fault.NoReport.{NoReport}
 use Rattle.alp_top.specs.declared.fault.NoReport.TheVariants as fault
+use Rattle.alp_top.proofs.BeginLemmas.{holds_by}
 use Rattle.alp_top.proofs.PairLemmas.{HasPair, paired_at, paired_many, same_there}
 
 -- ---- which server
@@ -82,8 +91,8 @@ module _ {D : Type 0} (g : Ghosts D) (lines : List NumberedLine) (before after :
   none_returned P same = record { each = λ n h. absurd (none_of_none n h); others = λ n out. same n }
 
   pub bay_ended : (f : BayFault) (bay_before bay_after : ℕ) → 1 ≤ servers_said lines → ((n : ℕ) → after n ≡ before n) → IsUntaken (of_bay f) bay_before bay_after → HasRunCause g lines before after bay_before bay_after (of_bay f)
-  bay_ended bay_fault.Failed bay_before bay_after some same rose = (0, some, none_returned (λ n taken given. Unit {0}) same, rose)
-  bay_ended bay_fault.OutOfMemory bay_before bay_after some same rose = (0, omega arith, none_returned (HasDiskCause g lines fault.OutOfMemory) same)
+  bay_ended bay_fault.Failed bay_before bay_after some same rose = (0, some, none_returned (IsUnplayed g lines) same, rose)
+  bay_ended bay_fault.OutOfMemory bay_before bay_after some same rose = (0, omega arith, none_returned (λ n taken given. StopNone lines → g.faults given ≡ g.faults taken) same)
 
 -- ---- a server was not started
 
@@ -105,7 +114,30 @@ module _ {V D : Type 0} (G : VaultGhosts V) (g : Ghosts D) (tells : Bool) (told 
     given : D
     there : after n ≡ Some given
     size : g.size given ≡ g.size taken
-    unfailed : g.faults given ≡ g.faults taken
+    unplayed : IsUnplayed g lines n taken given
+
+  unplayed_at : (n : ℕ) (m : NodeState V) (d e : D) (v : V) → IsBegunAt G g tells lines before n m d → v ≡ m.kept.vault → IsGiven G g v e → IsUnplayed g lines n d e
+  unplayed_at n m d e v b is back =
+      let here : IsTrue (G.tells m.kept.vault) = subst IsTrue (sym b.started.telling) (b.told told) in
+      let tells_v : IsTrue (G.tells v) = subst (λ (w : V). IsTrue (G.tells w)) (sym is) here in
+      let number : G.server v ≡ n = ap G.server is ∙ b.started.on.kept.number ∙ b.started.number in
+      let all : G.servers v ≡ servers_said lines = ap G.servers is ∙ b.started.on.kept.all ∙ b.started.count in
+      let volume : G.volume v ≡ (start_in G m).sizes = ap G.volume is ∙ ap G.volume (sym b.started.idle.opening) in
+      record {
+        opening = start_in G m;
+        notes = notes_in G m;
+        new = b.started.new (b.told told);
+        found = b.started.found (b.told told);
+        left = λ image may.
+            let (c, holds, may_be) = back.whole tells_v image may in (
+              c,
+              holds_by _ _ _ _ _ _ _ _ image c number all refl (ap (λ (z : Sizes). z.home) volume) holds,
+              subst (λ (js : List Entry). NoMore (IsSaid (state_after next (opened (start_in G m)) js)) (G.may_leave m.kept.vault)) b.started.idle.journal
+              ((b.started.on.kept.durable here).up (ap (λ (js : List Entry). (state_after next (opened (start_in G m)) js).is_down) b.started.idle.journal)) c (subst (λ (w : V). G.may_leave w c) is may_be),
+            );
+        read = back.read tells_v;
+        unfailed = back.faults ∙ ap G.faults is ∙ b.started.faults;
+      }
 
   back_at : (n : ℕ) → IsOneOf k n → IsBackAt n
   back_at n here =
@@ -125,13 +157,13 @@ module _ {V D : Type 0} (G : VaultGhosts V) (g : Ghosts D) (tells : Bool) (told 
         given = q.two;
         there = l.there told;
         size = l.back.sized ∙ ap (λ (w : V). pages_of (G.volume w)) v ∙ sym b.started.sized;
-        unfailed = l.back.faults ∙ ap G.faults v ∙ b.started.faults;
+        unplayed = unplayed_at n p.one p.two q.two l.vault b v l.back;
       }
 
-  returned_at : (P : ℕ → D → D → Type 0) → ((n : ℕ) → IsOneOf k n → (d e : D) → g.faults e ≡ g.faults d → P n d e) → (n : ℕ) → IsOneOf k n → IsReturned g (sizes_said lines n) (before n) (after n) (P n)
+  returned_at : (P : ℕ → D → D → Type 0) → ((n : ℕ) → IsOneOf k n → (d e : D) → IsUnplayed g lines n d e → P n d e) → (n : ℕ) → IsOneOf k n → IsReturned g (sizes_said lines n) (before n) (after n) (P n)
   returned_at P make n here =
       let b : IsBackAt n = back_at n here in
-      record { taken = b.taken; from_there = b.from_there; given = b.given; there = b.there; size = b.size; later = (let same : g.faults b.given ≡ g.faults b.taken = b.unfailed in omega (arith, same)); left = make n here b.taken b.given b.unfailed }
+      record { taken = b.taken; from_there = b.from_there; given = b.given; there = b.there; size = b.size; later = (let same : g.faults b.given ≡ g.faults b.taken = b.unplayed.unfailed in omega (arith, same)); left = make n here b.taken b.given b.unplayed }
 
   -- the other places
   out_same : (n : ℕ) → (IsOneOf k n → ⊥) → (n ≡ k + 1 → ⊥) → after n ≡ before n
@@ -146,7 +178,7 @@ module _ {V D : Type 0} (G : VaultGhosts V) (g : Ghosts D) (tells : Bool) (told 
   next_before : h.mid (k + 1) ≡ before (k + 1)
   next_before = h.same told (k + 1) next_out
 
-  all_back : (P : ℕ → D → D → Type 0) → ((n : ℕ) → IsOneOf k n → (d e : D) → g.faults e ≡ g.faults d → P n d e) → now (k + 1) ≡ h.mid (k + 1) → AreReturned g lines k before after P
+  all_back : (P : ℕ → D → D → Type 0) → ((n : ℕ) → IsOneOf k n → (d e : D) → IsUnplayed g lines n d e → P n d e) → now (k + 1) ≡ h.mid (k + 1) → AreReturned g lines k before after P
   all_back P make same = record {
     each = returned_at P make;
     others = λ n out. elim (cases_eq n (k + 1)) [
@@ -155,7 +187,7 @@ module _ {V D : Type 0} (G : VaultGhosts V) (g : Ghosts D) (tells : Bool) (told 
     ];
   }
 
-  all_with : (P : ℕ → D → D → Type 0) → ((n : ℕ) → IsOneOf k n → (d e : D) → g.faults e ≡ g.faults d → P n d e) → IsReturned g (sizes_said lines (k + 1)) (h.mid (k + 1)) (now (k + 1)) (P (k + 1)) → AreReturned g lines (k + 1) before after P
+  all_with : (P : ℕ → D → D → Type 0) → ((n : ℕ) → IsOneOf k n → (d e : D) → IsUnplayed g lines n d e → P n d e) → IsReturned g (sizes_said lines (k + 1)) (h.mid (k + 1)) (now (k + 1)) (P (k + 1)) → AreReturned g lines (k + 1) before after P
   all_with P make next_one = record {
     each = λ n here. elim (cases_eq n (k + 1)) [
       | inl is ↦
@@ -167,7 +199,7 @@ module _ {V D : Type 0} (G : VaultGhosts V) (g : Ghosts D) (tells : Bool) (told 
     others = λ n out. out_same n (λ h1. out (record { first = h1.first; last = (let high : n ≤ k = h1.last in omega (arith, high)) })) (λ is. out (record { first = omega (arith, is); last = omega (arith, is) }));
   }
 
-  next_left : (P : ℕ → D → D → Type 0) (s : ℕ) → s ≡ k + 1 → ((n : ℕ) → IsOneOf k n → (d e : D) → g.faults e ≡ g.faults d → P n d e) → IsReturned g (sizes_said lines (k + 1)) (h.mid (k + 1)) (now (k + 1)) (P (k + 1)) → AreLeft g lines s before after P
+  next_left : (P : ℕ → D → D → Type 0) (s : ℕ) → s ≡ k + 1 → ((n : ℕ) → IsOneOf k n → (d e : D) → IsUnplayed g lines n d e → P n d e) → IsReturned g (sizes_said lines (k + 1)) (h.mid (k + 1)) (now (k + 1)) (P (k + 1)) → AreLeft g lines s before after P
   next_left P s is make next_one = record {
     count = k + 1;
     few = (let low : k < servers_said lines = h.few in omega (arith, low));
@@ -175,13 +207,22 @@ module _ {V D : Type 0} (G : VaultGhosts V) (g : Ghosts D) (tells : Bool) (told 
     returned = all_with P make next_one;
   }
 
+  below : (n s : ℕ) → IsOneOf k n → s ≡ k + 1 → n ≡ s → ⊥
+  below n s here is same = (let high : n ≤ k = here.last in omega (arith, high, is, same))
+
+  stops : (P : ℕ → D → D → Type 0) (s : ℕ) → s ≡ k + 1 → IsReturned g (sizes_said lines (k + 1)) (h.mid (k + 1)) (now (k + 1)) (P (k + 1)) → StopsAt g lines s before after (P s)
+  stops P s is x =
+      subst (λ (m : ℕ). StopsAt g lines m before after (P m)) (sym is) (record {
+        among = (let low : k < servers_said lines = h.few in record { first = omega arith; last = omega (arith, low) });
+        returned =
+            all_with (λ n d e. (n ≡ k + 1 → P (k + 1) d e) × ((n ≡ k + 1 → ⊥) → IsUnplayed g lines n d e)) (λ n here d e u. ((λ same. absurd (below n (k + 1) here refl same)), (λ other. u)))
+            (record { taken = x.taken; from_there = x.from_there; given = x.given; there = x.there; size = x.size; later = x.later; left = ((λ same. x.left), (λ other. absurd (other refl))) });
+      })
+
   -- why it was not
   next_with : (P : ℕ → D → D → Type 0) → IsReturned g (sizes_said lines (k + 1)) (h.mid (k + 1)) (now (k + 1)) (WhyNotBegun g (sizes_said lines (k + 1)) (k + 1) (servers_said lines) f)
       → ((d e : D) → WhyNotBegun g (sizes_said lines (k + 1)) (k + 1) (servers_said lines) f d e → P (k + 1) d e) → IsReturned g (sizes_said lines (k + 1)) (h.mid (k + 1)) (now (k + 1)) (P (k + 1))
   next_with P x make = record { taken = x.taken; from_there = x.from_there; given = x.given; there = x.there; size = x.size; later = x.later; left = make x.taken x.given x.left }
-
-  below : (n s : ℕ) → IsOneOf k n → s ≡ k + 1 → n ≡ s → ⊥
-  below n s here is same = (let high : n ≤ k = here.last in omega (arith, high, is, same))
 
   pub start_ended : HasRunCause g lines before after bay_before bay_after f
   start_ended = go f (h.next_one.refused told) h.next_one.of_server next_with
@@ -194,16 +235,21 @@ module _ {V D : Type 0} (G : VaultGhosts V) (g : Ghosts D) (tells : Bool) (told 
           → ((d e : D) → WhyNotBegun g (sizes_said lines (k + 1)) (k + 1) (servers_said lines) q d e → P (k + 1) d e) → IsReturned g (sizes_said lines (k + 1)) (h.mid (k + 1)) (now (k + 1)) (P (k + 1))
 
       go : (q : NoReport) → Refusal q → IsOfServer g (k + 1) q → Next q → HasRunCause g lines before after bay_before bay_after q
-      go fault.Bay (inl x) of make = (k, h.few, all_back (λ n taken given. Unit {0}) (λ n here d e same. tt) x.0, x.1)
+      go fault.Bay (inl x) of make = (k, h.few, all_back (IsUnplayed g lines) (λ n here d e u. u) x.0, x.1)
       go fault.Bay (inr x) of make = absurd x.left
-      go fault.OutOfMemory (inl x) of make = (k, (let low : k < servers_said lines = h.few in omega (arith, low)), all_back (HasDiskCause g lines fault.OutOfMemory) (λ n here d e same none. same) x.0)
-      go fault.OutOfMemory (inr x) of make = (k + 1, (let low : k < servers_said lines = h.few in omega (arith, low)), all_with (HasDiskCause g lines fault.OutOfMemory) (λ n here d e same none. same) (make (HasDiskCause g lines fault.OutOfMemory) x (λ d e why none. why)))
+      go fault.OutOfMemory (inl x) of make = (k, (let low : k < servers_said lines = h.few in omega (arith, low)), all_back (λ n d e. StopNone lines → g.faults e ≡ g.faults d) (λ n here d e u none. u.unfailed) x.0)
+      go fault.OutOfMemory (inr x) of make = (
+        k + 1,
+        (let low : k < servers_said lines = h.few in omega (arith, low)),
+        all_with (λ n d e. StopNone lines → g.faults e ≡ g.faults d) (λ n here d e u none. u.unfailed) (make (λ n d e. StopNone lines → g.faults e ≡ g.faults d) x (λ d e why none. why)),
+      )
       go fault.JournalFull x of make = absurd of
       go (fault.Disk s) (inl x) of make = absurd x.1
-      go (fault.Disk s) (inr x) of make = next_left (HasDiskCause g lines (fault.Disk s)) s of.0 (λ n here d e same is. absurd (below n s here of.0 is)) (make (HasDiskCause g lines (fault.Disk s)) x (λ d e why is. why.1))
+      go (fault.Disk s) (inr x) of make =
+          next_left (λ n d e. n ≡ s → Rose (g.faults d) (g.faults e)) s of.0 (λ n here d e u is. absurd (below n s here of.0 is)) (make (λ n d e. n ≡ s → Rose (g.faults d) (g.faults e)) x (λ d e why is. why.1))
       go (fault.EpochEnd s) (inl x) of make = absurd x.1
-      go (fault.EpochEnd s) (inr x) of make = next_left (HasDiskCause g lines (fault.EpochEnd s)) s of (λ n here d e same is. absurd (below n s here of is)) (make (HasDiskCause g lines (fault.EpochEnd s)) x (λ d e why is. inl (why.1, why.2)))
+      go (fault.EpochEnd s) (inr x) of make = inl (stops (IsAtItsEnd g lines) s of (make (IsAtItsEnd g lines) x (λ d e why. (why.1, why.2))))
       go (fault.NotAVolume s found) (inl x) of make = absurd x.1
-      go (fault.NotAVolume s found) (inr x) of make = next_left (HasDiskCause g lines (fault.NotAVolume s found)) s of (λ n here d e same is. absurd (below n s here of is)) (make (HasDiskCause g lines (fault.NotAVolume s found)) x (λ d e why is. (why.1, why.2)))
+      go (fault.NotAVolume s found) (inr x) of make = stops (λ n. IsNoVolume g lines n found) s of (make (λ n. IsNoVolume g lines n found) x (λ d e why. (why.1, why.2)))
       go (fault.Damaged s place) (inl x) of make = absurd x.1
-      go (fault.Damaged s place) (inr x) of make = next_left (HasDiskCause g lines (fault.Damaged s place)) s of (λ n here d e same is. absurd (below n s here of is)) (make (HasDiskCause g lines (fault.Damaged s place)) x (λ d e why is. (why.1, why.2)))
+      go (fault.Damaged s place) (inr x) of make = stops (λ n. IsDamaged g lines n place) s of (make (λ n. IsDamaged g lines n place) x (λ d e why. (why.1, why.2)))

@@ -27,7 +27,7 @@ use Rattle.alp_cluster.specs.declared.stations.Stations.{Stations}
 use Rattle.alp_cluster.proofs.GoneLemmas.{gone_then}
 use Rattle.alp_top.specs.Disks.{IsBegunAt, AreBegun, AreOthersSame, IsGiven, IsLeftAt, AreLeftBy, IsClosedAt, AreClosed}
 use Rattle.alp_top.specs.Faults.{of_vault, of_start, played}
-use Rattle.alp_top.specs.Volumes.{pages_of, IsReturned, AreReturned, HasDiskCause, AreLeft, HasRunCause, HasFilled, HasUsedUp, IsOfServers}
+use Rattle.alp_top.specs.Volumes.{pages_of, IsReturned, AreReturned, AreLeft, HasRunCause, HasFilled, HasUsedUp, IsOfServers}
 use Rattle.alp_top.specs.declared.fault.NoReport.{NoReport}
 use Rattle.alp_top.specs.declared.fault.NoReport.TheVariants as fault
 use Rattle.alp_top.proofs.GivenLemmas.{one_vault, up_vault, station_at, stations_many}
@@ -238,25 +238,29 @@ module _ {V D : Type 0} (G : VaultGhosts V) (g : Ghosts D) (tells : Bool) (lines
         → ((s : ℕ) → f ≡ run_fault.Start s start_fault.EpochEnd → (here : IsOneOf (servers_said lines) s) → HasUsedUp g lines s (at s here).taken (at s here).given) → HasRunCause g lines before after bay_before bay_after (played f)
     play_ended bay_before bay_after filled over = go f (record { failed_so = failed; told_so = fault_told; counted_so = counted; filled = filled; over = over })
       where
+        failing : (s : ℕ) → IsOfRun (servers_said lines) s → ((n : ℕ) (here : IsOneOf (servers_said lines) n) → n ≡ s → Rose (G.faults (at n here).node.kept.vault) (G.faults (at n here).vault)) → HasRunCause g lines before after bay_before bay_after (fault.Disk s)
+        failing s among rose = one_left s among (λ n d e. n ≡ s → Rose (g.faults d) (g.faults e)) (λ n here is. rose_for n here (rose n here is))
+
         go : (q : RunFault) → Facts q → HasRunCause g lines before after bay_before bay_after (played q)
-        go (run_fault.DiskFault s) x = one_left s (x.failed_so 1 first_here).0 (HasDiskCause g lines (fault.Disk s)) (λ n here is. rose_for n here ((x.failed_so n here).1 (sym is)))
-        go run_fault.OutOfMemory x = (servers_said lines, omega arith, returned (HasDiskCause g lines fault.OutOfMemory) (λ n here none. same_for n here (x.counted_so none n here)))
+        go (run_fault.DiskFault s) x = failing s (x.failed_so 1 first_here).0 (λ n here is. (x.failed_so n here).1 (sym is))
+        go run_fault.OutOfMemory x = (servers_said lines, omega arith, returned (λ n d e. StopNone lines → g.faults e ≡ g.faults d) (λ n here none. same_for n here (x.counted_so none n here)))
         go run_fault.JournalFull x =
             let (s, among, h) = x.filled refl in (
               s,
-              one_left s (among.first, among.last) (λ n taken given. n ≡ s → HasFilled g lines n taken given)
-                  (λ n here is. subst (λ (m : ℕ). (here : IsOneOf (servers_said lines) m) → HasFilled g lines m (at m here).taken (at m here).given) (sym is) h here),
+              among,
+              returned (λ n d e. n ≡ s → HasFilled g lines n d e) (λ n here is. subst (λ (m : ℕ). (here : IsOneOf (servers_said lines) m) → HasFilled g lines m (at m here).taken (at m here).given) (sym is) h here),
             )
-        go (run_fault.Start s (start_fault.Vault vault_fault.Failed)) x = one_left s (x.failed_so 1 first_here).0 (HasDiskCause g lines (fault.Disk s)) (λ n here is. rose_for n here ((x.failed_so n here).1 (sym is)))
-        go (run_fault.Start s (start_fault.Vault vault_fault.Stopped)) x = one_left s (x.failed_so 1 first_here).0 (HasDiskCause g lines (fault.Disk s)) (λ n here is. absurd ((x.failed_so n here).1 (sym is)))
+        go (run_fault.Start s (start_fault.Vault vault_fault.Failed)) x = failing s (x.failed_so 1 first_here).0 (λ n here is. (x.failed_so n here).1 (sym is))
+        go (run_fault.Start s (start_fault.Vault vault_fault.Stopped)) x = failing s (x.failed_so 1 first_here).0 (λ n here is. absurd ((x.failed_so n here).1 (sym is)))
         go (run_fault.Start s (start_fault.Vault vault_fault.OutOfMemory)) x = (
           servers_said lines,
           omega arith,
-          returned (HasDiskCause g lines fault.OutOfMemory) (λ n here none. same_for n here (elim (cases_eq s n) [ inl is ↦ (x.counted_so none n here).0 is | inr away ↦ (x.counted_so none n here).1 away ])),
+          returned (λ n d e. StopNone lines → g.faults e ≡ g.faults d) (λ n here none. same_for n here (elim (cases_eq s n) [ inl is ↦ (x.counted_so none n here).0 is | inr away ↦ (x.counted_so none n here).1 away ])),
         )
-        go (run_fault.Start s (start_fault.Vault (vault_fault.NotAVolume found))) x = one_left s (x.failed_so 1 first_here).0 (HasDiskCause g lines (fault.NotAVolume s found)) (λ n here is. absurd (x.told_so n here (sym is)))
-        go (run_fault.Start s (start_fault.Vault (vault_fault.Damaged place))) x = one_left s (x.failed_so 1 first_here).0 (HasDiskCause g lines (fault.Damaged s place)) (λ n here is. absurd (x.told_so n here (sym is)))
-        go (run_fault.Start s start_fault.BadNote) x = one_left s (x.failed_so 1 first_here).0 (HasDiskCause g lines (fault.Damaged s 0)) (λ n here is. absurd (x.told_so n here (sym is)))
-        go (run_fault.Start s start_fault.EpochEnd) x =
-            one_left s (x.failed_so 1 first_here).0 (HasDiskCause g lines (fault.EpochEnd s))
-            (λ n here is. inr (subst (λ (m : ℕ). (here : IsOneOf (servers_said lines) m) → HasUsedUp g lines m (at m here).taken (at m here).given) (sym is) (x.over s refl) here))
+        go (run_fault.Start s (start_fault.Vault (vault_fault.NotAVolume found))) x = absurd (x.told_so s (one_of s (x.failed_so 1 first_here).0) refl)
+        go (run_fault.Start s (start_fault.Vault (vault_fault.Damaged place))) x = absurd (x.told_so s (one_of s (x.failed_so 1 first_here).0) refl)
+        go (run_fault.Start s start_fault.BadNote) x = absurd (x.told_so s (one_of s (x.failed_so 1 first_here).0) refl)
+        go (run_fault.Start s start_fault.EpochEnd) x = inr (
+          one_of s (x.failed_so 1 first_here).0,
+          returned (λ n d e. n ≡ s → HasUsedUp g lines n d e) (λ n here is. subst (λ (m : ℕ). (here : IsOneOf (servers_said lines) m) → HasUsedUp g lines m (at m here).taken (at m here).given) (sym is) (x.over s refl) here),
+        )

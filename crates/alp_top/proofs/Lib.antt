@@ -13,6 +13,7 @@ pub mod CutLemmas
 pub mod PlayedOutLemmas
 pub mod GivenLemmas
 pub mod GoneAtLemmas
+pub mod OpeningLemmas
 pub mod OwnerLemmas
 pub mod PairLemmas
 pub mod PlayedLemmas

@@ -24,7 +24,7 @@ use Rattle.alp_top.specs.Anywhere.{IsPlayedThrough, HasReported, IsDeclared}
 use Rattle.alp_top.specs.Headline.{IsRunOf, IsPromised, IsPlayed, IsCutOff}
 use Rattle.alp_top.specs.Logs.{Log}
 use Rattle.alp_top.specs.Statuses.{IsLimit, OnTooLong, OnBadDisk, OnUntaken, OnFlaw, Kept, OnDone, OnWriteFault, OnCutShort, ended_by, folder_in, IsFolderTold, IsBayFaultTold, OnDiskFault, IsHandedOver, IsPlayedOrMemory, IsReadFaultTold, IsWriteFaultTold}
-use Rattle.alp_top.specs.Volumes.{pages_of, AreLeft, HasDiskCause, HasRunCause, IsBayFault, IsFolderLeft, IsOfServers, IsStartable, StartsOn}
+use Rattle.alp_top.specs.Volumes.{pages_of, HasRunCause, IsBayFault, IsFolderLeft, IsOfServers, IsStartable, StartsOn}
 use Rattle.alp_top.specs.declared.fault.NoReport.{NoReport}
 use Rattle.alp_top.specs.declared.fault.NoReport.TheVariants as fault
 use Rattle.alp_top.specs.declared.status.Status.{Status}
@@ -317,19 +317,21 @@ module _ {D : Type 0} {g : Ghosts D} (lines : List NumberedLine) (before after :
   pub plays_on : (s : Status D g) (f : NoReport) (bay_before bay_after : ℕ) → s ≡ ended_by f → HasRunCause g lines before after bay_before bay_after f → (Rose bay_before bay_after → ⊥) → IsPlayedOrMemory s
   plays_on s f bay_before bay_after is cause still = subst (λ (q : Status D g). IsPlayedOrMemory q) (sym is) (go f cause)
     where
-      among : (P : ℕ → D → D → Type 0) (n : ℕ) (x : AreLeft g lines n before after P) → IsOneOf (servers_said lines) n
-      among P n x = record { first = x.cause.first; last = (let low : n ≤ x.count = x.cause.last in let few : x.count ≤ servers_said lines = x.few in omega (arith, low, few)) }
+      on : (n : ℕ) → IsOneOf (servers_said lines) n → (d : D) → IsTaken g (before n) (pages_of (sizes_said lines n)) d → IsStartable (sizes_said lines n) n (servers_said lines) (g.size d) (g.seen d)
+      on n here d was = startable n here d (before n) refl was
 
-      on : (P : ℕ → D → D → Type 0) (n : ℕ) (x : AreLeft g lines n before after P) (d : D) → IsTaken g (before n) (pages_of (sizes_said lines n)) d → IsStartable (sizes_said lines n) n (servers_said lines) (g.size d) (g.seen d)
-      on P n x d was = startable n (among P n x) d (before n) refl was
+      its : (n : ℕ) → IsOneOf (servers_said lines) n → IsOneOf n n
+      its n here = record { first = here.first; last = omega arith }
 
       go : (f : NoReport) → HasRunCause g lines before after bay_before bay_after f → IsPlayedOrMemory (ended_by {D = D} {g = g} f)
       go fault.Bay x = absurd (still x.3)
-      go (fault.Disk n) x = (let e = x.returned.each n x.cause in absurd ((starts n (among (HasDiskCause g lines (fault.Disk n)) n x)).unfailed e.taken e.given e.from_there e.there (e.left refl)))
+      go (fault.Disk n) x =
+          let e = x.returned.each n x.cause in
+          let here : IsOneOf (servers_said lines) n = record { first = x.cause.first; last = (let low : n ≤ x.count = x.cause.last in let few : x.count ≤ servers_said lines = x.few in omega (arith, low, few)) } in
+          absurd ((starts n here).unfailed e.taken e.given e.from_there e.there (e.left refl))
       go fault.OutOfMemory x = tt
       go fault.JournalFull x = inl refl
-      go (fault.EpochEnd n) x =
-          let e = x.returned.each n x.cause in
-          elim (e.left refl) [ inl none ↦ absurd (none.0.old ((on (HasDiskCause g lines (fault.EpochEnd n)) n x e.taken e.from_there).epoch none.1)) | inr over ↦ inr refl ]
-      go (fault.NotAVolume n found) x = (let e = x.returned.each n x.cause in let why = e.left refl in absurd (why.0.old ((on (HasDiskCause g lines (fault.NotAVolume n found)) n x e.taken e.from_there).volume found why.1)))
-      go (fault.Damaged n place) x = (let e = x.returned.each n x.cause in let why = e.left refl in absurd (why.0.old ((on (HasDiskCause g lines (fault.Damaged n place)) n x e.taken e.from_there).whole place why.1)))
+      go (fault.EpochEnd n) (inl x) = (let e = x.returned.each n (its n x.among) in let why = e.left.0 refl in absurd (why.0.old ((on n x.among e.taken e.from_there).epoch why.1)))
+      go (fault.EpochEnd n) (inr x) = inr refl
+      go (fault.NotAVolume n found) x = (let e = x.returned.each n (its n x.among) in let why = e.left.0 refl in absurd (why.0.old ((on n x.among e.taken e.from_there).volume found why.1)))
+      go (fault.Damaged n place) x = (let e = x.returned.each n (its n x.among) in let why = e.left.0 refl in absurd (why.0.old ((on n x.among e.taken e.from_there).whole place why.1)))

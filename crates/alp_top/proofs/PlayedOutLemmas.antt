@@ -78,7 +78,7 @@ tell_all G s f = all_map (λ (z : Seat). IsTrue z.tells) (seat_of G) s.all.items
 -- ---- the run
 
 module _ {V D U : Type 0} (G : VaultGhosts V) (g : Ghosts D) (tells : Bool) (told : IsTrue tells) (lines : List NumberedLine) (before mid after : ℕ → Option D) (ns : List (NodeState V)) (ds : List D) (first last : Stations V) (stand : AreStationsOf ns first.all.items)
-    (many_is : length ns ≡ servers_said lines) (begun : AreBegun G g tells lines before 1 ns ds) (same : IsTrue tells → AreOthersSame (servers_said lines) before mid) (gone : HaveGone {T = Unit {0}} G (StopNone lines) first last (Ok tt)) (u : U)
+    (many_is : length ns ≡ servers_said lines) (few : servers_said lines ≤ 8) (begun : AreBegun G g tells lines before 1 ns ds) (same : IsTrue tells → AreOthersSame (servers_said lines) before mid) (gone : HaveGone {T = Unit {0}} G (StopNone lines) first last (Ok tt)) (u : U)
     (closed : AreClosed {T = U} G g tells (length last.all.items) last.all.items mid after (Ok u)) (opens : openings_of last ≡ openings_of first) (vs : List (Vec Item Global)) (text printed : List ℕ) (log : Log V) (rests : Rests V) (rises : RisesFrom 1 lines)
     (out : HasPlayedOut G (servers_said lines) lines last vs text) (kept : AreRestsOf G last.all.items rests) (is : IsReportOf rests vs text log printed) where
   abbrev at_end : (n : ℕ) → IsOneOf (servers_said lines) n → IsDoneAt {T = U} G g tells lines before after first last (Ok u) n
@@ -96,19 +96,18 @@ module _ {V D U : Type 0} (G : VaultGhosts V) (g : Ghosts D) (tells : Bool) (tol
       let one : x.at.left ≡ s = same_there (slice_get last.all.items i) x.at.left s (ap (slice_get last.all.items) (sym minus) ∙ x.at.stands) at in
       subst (λ (z : Station V). IsTrue (seat_of G z).tells) one (subst (λ o. IsTrue (seat_for G x.at.left.is_fused x.at.left.ranks.items o).tells) (sym x.rests) (rest_told (i + 1) here)))
 
-  -- where it is the only one, it opened with nothing
-  bare_at : servers_said lines ≡ 1 → IsBare (seat_at (course_of G last) 1).opening
-  bare_at one_is =
-      let here : IsOneOf (servers_said lines) 1 = record { first = omega arith; last = omega (arith, one_is) } in
-      let x = at_end 1 here in
-      let seat : IsSeat (course_of G last) 1 = record { first = omega arith; last = (let count : length last.all.items ≡ servers_said lines = out.count in let all : length (course_of G last).seats ≡ length last.all.items = many G last out.on in omega (arith, one_is, count, all)) } in
-      let (s, at, m, sits) = seat_on G last out.on 1 seat in
-      let one : s ≡ x.at.left = same_there (slice_get last.all.items 0) s x.at.left at x.at.stands in
+  -- it opened with nothing
+  bare_at : (n : ℕ) → IsSeat (course_of G last) n → IsBare (seat_at (course_of G last) n).opening
+  bare_at n seat =
+      let here : IsOneOf (servers_said lines) n = record { first = seat.first; last = (let high : n ≤ length (course_of G last).seats = seat.last in let count : length last.all.items ≡ servers_said lines = out.count in let all : length (course_of G last).seats ≡ length last.all.items = many G last out.on in omega (arith, high, count, all)) } in
+      let x = at_end n here in
+      let (s, at, m, sits) = seat_on G last out.on n seat in
+      let one : s ≡ x.at.left = same_there (slice_get last.all.items (n - 1)) s x.at.left at x.at.stands in
       let node_is : m.node ≡ x.rest = one_node s.server m.node x.rest m.keeps.stands (ap (λ (z : Station V). z.server) one ∙ x.rests) in
-      let opening : x.rest.opening ≡ x.at.node.opening = opening_same first last 0 x.at.station x.at.left x.at.node x.rest opens x.at.stood x.at.was x.at.stands x.rests in
-      let number : x.rest.kept.server ≡ 1 = ap (λ (k : NodeState V). k.kept.server) (sym node_is) ∙ m.number_is in
+      let opening : x.rest.opening ≡ x.at.node.opening = opening_same first last (n - 1) x.at.station x.at.left x.at.node x.rest opens x.at.stood x.at.was x.at.stands x.rests in
+      let number : x.rest.kept.server ≡ n = ap (λ (k : NodeState V). k.kept.server) (sym node_is) ∙ m.number_is in
       subst (λ (z : Seat). IsBare z.opening) (sym sits) (subst (λ (k : NodeState V). IsBare (start_in G k)) (sym node_is)
-      (bare_as G g (sizes_said lines 1) 1 (servers_said lines) x.at.node x.rest x.at.vault x.at.taken x.at.given x.at.begun.started (x.at.begun.told told) (subst (λ (k : NodeState V). IsOn G k) node_is m.keeps.on) number opening (rest_told 1 here) (omega arith) (omega (arith, one_is)) one_is))
+      (bare_as G g (sizes_said lines n) n (servers_said lines) x.at.node x.rest x.at.vault x.at.taken x.at.given x.at.begun.started (x.at.begun.told told) (subst (λ (k : NodeState V). IsOn G k) node_is m.keeps.on) number opening (rest_told n here)))
 
   -- what it holds is what its journal says
   stored_at : (n : ℕ) (here : IsOneOf (servers_said lines) n) → IsStoredBy G g lines log n (at_end n here).at.taken (at_end n here).at.given
@@ -162,9 +161,10 @@ module _ {V D U : Type 0} (G : VaultGhosts V) (g : Ghosts D) (tells : Bool) (tol
   pub run_over : IsRunOf G g lines log printed before after
   run_over = record {
     count = log_many G lines last vs text printed log rests rises out kept is;
-    report = tallied G lines last vs text printed log rests rises out kept is all_told;
-    faithful = faithful G lines last vs text printed log rests rises out kept is all_told;
+    report = tallied G lines last vs text printed log rests rises out kept is all_told few bare_at;
+    faithful = faithful G lines last vs text printed log rests rises out kept is all_told few bare_at;
     stored = returned_all;
-    whole = decided_whole G lines last vs text printed log rests rises out kept is all_told;
-    alone = λ one. is_alone G lines last vs text printed log rests rises out kept is all_told one (bare_at one);
+    whole = decided_whole G lines last vs text printed log rests rises out kept is all_told few bare_at;
+    alone = λ one. is_alone G lines last vs text printed log rests rises out kept is all_told one
+        (bare_at 1 (record { first = omega arith; last = (let count : length last.all.items ≡ servers_said lines = out.count in let all : length (course_of G last).seats ≡ length last.all.items = many G last out.on in omega (arith, one, count, all)) }));
   }

@@ -180,8 +180,8 @@ module _ {V D : Type 0} (G : VaultGhosts V) (g : Ghosts D) (tells : Bool) (lines
       fell_ended told bay_before bay_after ended opens =
           play_ended G g tells lines before after first now (Unit {0}) f some (λ n here. (fell_at n here).at) told
           (others_same G g tells lines before mid after h.nodes h.disks first now h.gathered.stations h.many h.begun h.others (Err f) gone told (left.others told)) bay_before bay_after
-          (λ is. filled G g tells told lines before after first now f (end_full f (λ e. HasEndedEarly G (servers_said lines) lines e now) ended is) fell_at (end_full f (λ e. openings_of now ≡ openings_of first) opens is) is)
-          (λ s is. over G g tells told lines before after first now f (end_over f s (λ e. HasEndedEarly G (servers_said lines) lines e now) ended is) fell_at (end_over f s (λ e. openings_of now ≡ openings_of first) opens is) s is)
+          (λ is. filled G g tells told lines before after first now f few (end_full f (λ e. HasEndedEarly G (servers_said lines) lines e now) ended is) fell_at (end_full f (λ e. openings_of now ≡ openings_of first) opens is) is)
+          (λ s is. over G g tells told lines before after first now f few (end_over f s (λ e. HasEndedEarly G (servers_said lines) lines e now) ended is) fell_at (end_over f s (λ e. openings_of now ≡ openings_of first) opens is) s is)
 
   -- ---- when it was played
 
@@ -245,7 +245,7 @@ module _ {V D : Type 0} (G : VaultGhosts V) (g : Ghosts D) (tells : Bool) (lines
       module _ (vs : List (Vec Item Global)) (text printed : List ℕ) (log : Log V) (rests : Rests V) (rises : RisesFrom 1 lines) (out : HasPlayedOut G (servers_said lines) lines now vs text) (kept : AreRestsOf G now.all.items rests) (is : IsReportOf rests vs text log printed) where
         pub went_well : IsTrue tells → openings_of now ≡ openings_of first → IsRunOf G g lines log printed before after
         went_well told opens =
-            run_over G g tells told lines before mid after h.nodes h.disks first now h.gathered.stations h.many h.begun h.others gone u closed opens vs text printed log rests rises out kept is
+            run_over G g tells told lines before mid after h.nodes h.disks first now h.gathered.stations h.many few h.begun h.others gone u closed opens vs text printed log rests rises out kept is
 
         pub went_through : IsPlayedThrough G lines log printed
         went_through = played_through G lines now vs text printed log rests rises out kept is

@@ -9,7 +9,7 @@ use Rattle.alp_files.specs.Apart.{AreSized}
 use Rattle.alp_files.specs.Cells.{Cells}
 use Rattle.alp_fields.specs.ClockNote.{AreClockNotes}
 use Rattle.alp_journal.specs.Account.{Account, state_of as account_state}
-use Rattle.alp_journal.specs.Opening.{Start, start_at, ready_kept, decisions_kept}
+use Rattle.alp_journal.specs.Opening.{Start, start_at}
 use Rattle.alp_journal.specs.State.{State}
 use Rattle.alp_journal.proofs.NoteLemmas.{none_ready, none_decided}
 use Rattle.alp_node.specs.Durable.{IsSaid}
@@ -27,20 +27,6 @@ use Rattle.alp_top.specs.Disks.{IsStarted, IsGiven, notes_in}
 use Rattle.alp_top.specs.Volumes.{IsOpenedNew, IsOpenedOn, IsBare, IsSoundAlone, IsStored}
 use Rattle.alp_top.proofs.BeginLemmas.{holds_by}
 
--- what a server finds that is the only one of its run
-module _ {V D : Type 0} (G : VaultGhosts V) (g : Ghosts D) (sizes : Sizes) (number servers : ℕ) (n : NodeState V) (d : D) (begun : IsStarted G g sizes number servers d n) (told : IsTrue (g.tells d)) where
-  pub bare_start : number ≡ 1 → servers ≡ 1 → IsBare (start_in G n)
-  bare_start first one =
-      let right : node.IsRight (start_in G n) (G.held n.kept.vault) n = begun.on.kept.right (subst IsTrue (sym begun.telling) told) in
-      let as_server : (account_state right.state).holder.server ≡ 1 = right.kept.server ∙ begun.number ∙ first in
-      let as_servers : (account_state right.state).servers ≡ 1 = right.kept.servers ∙ begun.count ∙ one in
-      let notes : Notes = (G.held n.kept.vault).notes in
-      let format : AreServerNotes 1 1 notes =
-      subst (λ (k : ℕ). AreServerNotes 1 k notes) as_servers (subst (λ (k : ℕ). AreServerNotes k (account_state right.state).servers notes) as_server (right.kept.notes begun.idle.up).format) in
-      let clock : AreClockNotes notes = alone_so_far notes format in
-      let same : (G.held n.opening.vault.value).notes ≡ notes = ap (λ (v : V). (G.held v).notes) begun.idle.opening in
-      record { ready = ap ready_kept same ∙ none_ready notes clock; decisions = ap decisions_kept same ∙ none_decided notes clock }
-
 module _ {V D : Type 0} (G : VaultGhosts V) (g : Ghosts D) (sizes : Sizes) (number servers : ℕ) (n m : NodeState V) (v : V) (d e : D) (begun : IsStarted G g sizes number servers d n) (told : IsTrue (g.tells d)) (on : IsOn G m) (here : m.kept.server ≡ number)
     (opening : m.opening ≡ n.opening) (telling : IsTrue (G.tells m.kept.vault)) where
   pub same_start : start_in G m ≡ start_in G n
@@ -53,8 +39,8 @@ module _ {V D : Type 0} (G : VaultGhosts V) (g : Ghosts D) (sizes : Sizes) (numb
   right = on.kept.right telling
 
   -- it opened with nothing
-  pub bare_as : 1 ≤ number → number ≤ servers → servers ≡ 1 → IsBare (start_in G m)
-  bare_as first last one = (let first_is : number ≡ 1 = omega (arith, first, last, one) in subst IsBare (sym same_start) (bare_start G g sizes number servers n d begun told first_is one))
+  pub bare_as : IsBare (start_in G m)
+  bare_as = subst IsBare (sym same_start) (begun.bare told)
 
   -- its opening
   pub opened_new : IsNew sizes (g.size d) (g.seen d) → IsOpenedNew sizes (start_in G m) (notes_in G m)
@@ -95,11 +81,8 @@ module _ {V D : Type 0} (G : VaultGhosts V) (g : Ghosts D) (sizes : Sizes) (numb
         let as_servers : (state_of G m).servers ≡ 1 = ap (λ (s : State). s.servers) right.says ∙ right.kept.servers ∙ sym on.all ∙ ap (λ o. G.servers o.vault.value) opening ∙ begun.on.all ∙ begun.count ∙ one in
         let format : AreServerNotes 1 1 (G.held v).notes = subst (λ (k : ℕ). AreServerNotes 1 k (G.held v).notes) as_servers (subst (λ (k : ℕ). AreServerNotes k (state_of G m).servers (G.held v).notes) as_server said.notes.format) in
         let clock : AreClockNotes (G.held v).notes = alone_so_far (G.held v).notes format in
-        let cells : (G.held v).cells ≡ (account_state right.state).holder.cells = ap (λ c. c.cells) held ∙ right.kept.cells up in
         record {
           clock = clock;
-          files = (back.files tells serves).sound;
-          sizes = subst (λ (c : Cells). AreSized (map.get c)) (sym cells) right.kept.sized;
           bare = record { ready = none_ready (G.held v).notes clock; decisions = none_decided (G.held v).notes clock };
         }
 
@@ -111,6 +94,7 @@ module _ {V D : Type 0} (G : VaultGhosts V) (g : Ghosts D) (sizes : Sizes) (numb
       finish = holds_by _ _ _ _ _ _ _ _ (g.seen e) (G.held v) its_server its_servers refl (ap (λ (z : Sizes). z.home) its_volume) (back.holds tells serves);
       said = said;
       files = (back.files tells serves).sound;
+      sized = subst (λ (c : Cells). AreSized (map.get c)) (sym (ap (λ c. c.cells) held ∙ right.kept.cells up)) right.kept.sized;
       durable = back.only tells serves;
       alone = sound_alone first last;
       unfailed = λ p. back.faults ∙ unfailed p ∙ begun.faults;

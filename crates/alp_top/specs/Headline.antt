@@ -10,7 +10,7 @@ use Rattle.alp_journal.specs.Moves.{next}
 use Rattle.alp_journal.specs.State.{opened}
 use Rattle.alp_history.specs.Handed.{ArePromisesKept}
 use Rattle.alp_history.specs.Log as logs
-use Rattle.alp_history.specs.Theorems.{IsOneThread, AreWhole}
+use Rattle.alp_history.specs.Theorems.{AreWhole, AreListed, DoAgreeOnEnds}
 use Rattle.alp_script.specs.Accepted.{servers_said}
 use Rattle.alp_script.specs.Reading.{GaveScript}
 use Rattle.alp_script.specs.Volumes.{sizes_said}
@@ -55,11 +55,13 @@ pub record IsOfScript {V : Type 0} (G : Ghosts V) (lines : List NumberedLine) (l
   pub taken : AreTaken last
 
 -- Each journal is lawful. Each reply has its cause, and comes just where that stands, with what comes about by it; no device failed. The
--- journals are linked: ranks rise along each, and each message that arrives was sent before.
+-- journals are linked: ranks rise along each, and each message that arrives was sent before. A server opens with no part that is ready, and no
+-- decision.
 pub record IsFaithful {V : Type 0} (G : Ghosts V) (lines : List NumberedLine) (log : Log V) : Type 0 where
   pub script : IsOfScript G lines log
   pub tells : TellAll script.last
   pub linked : logs.IsLinked (log_of G log)
+  pub bare : (n : ℕ) → IsBare (logs.opening_of (log_of G log) n)
   pub lawful : logs.AreLawful (log_of G log)
   pub caused : (n : ℕ) → Along next IsDone (opened (logs.opening_of (log_of G log) n)) (logs.journal_of (log_of G log) n)
 
@@ -89,10 +91,12 @@ pub record IsCharged (log : logs.Log) : Type 0 where
   pub each : logs.IsChargedAfterEach log (logs.starting_all log) (logs.decided log)
   pub last : (n : ℕ) → AreSound (logs.finish_of log n)
 
--- The decided transactions are just those that the servers committed, each with all of its parts, everywhere or nowhere; and they are one
--- thread's history, with charges.
+-- The decided transactions are just those that an entry decided with effect, at the server that began each, and that the servers committed with
+-- all of its parts: no part of one is aborted, and none is applied of another one. They are one thread's history, with charges.
 pub record AreDecidedWhole (log : logs.Log) : Type 0 where
   pub whole : AreWhole log
+  pub listed : AreListed log
+  pub agree : DoAgreeOnEnds log
   pub serial : IsSerial log
   pub charged : IsCharged log
 
@@ -137,19 +141,18 @@ pub record IsRunOf {V D : Type 0} (G : Ghosts V) (g : DiskGhosts D) (lines : Lis
   pub report : text ≡ tallied_report G lines log
   pub faithful : IsFaithful G lines log
   pub stored : AreReturned g lines (servers_said lines) before after (IsStoredBy G g lines log)
-  pub whole : logs.AreSoundOpenings (log_of G log) → AreDecidedWhole (log_of G log)
+  pub whole : AreDecidedWhole (log_of G log)
   pub alone : servers_said lines ≡ 1 → IsAlone G lines log
 
 -- ---- the headline
 
--- where there is one server, it is promised of it without a premise, in six points: what was written is of the report of its journal
+-- where there is one server, it is promised of it in six points: what was written is of the report of its journal
 pub record IsPromisedAlone {V : Type 0} (G : Ghosts V) (lines : List NumberedLine) (Written : List ℕ → Type 0) (log : Log V) : Type 0 where
   pub is : IsAlone G lines log
   pub output : Written (report_of G lines log)
 
 -- What holds of a run of a script that the source gave, which left this log, and of what was written of its report. A run of one server
--- has six points (`alone`). Of several servers these stand: output; faithful; stored; and that each decided transaction is whole, where
--- what the servers opened on is sound.
+-- has six points (`alone`). Of several servers these stand: output; faithful; stored; and that each decided transaction is whole.
 pub record IsPromised {V D : Type 0} (G : Ghosts V) (g : DiskGhosts D) (old new : Option (List ℕ)) (Written : List ℕ → Type 0) (before after : ℕ → Option D) (log : Log V) : Type 0 where
   pub lines : List NumberedLine
   pub script : GaveScript old new lines
@@ -161,7 +164,7 @@ pub record IsPromised {V D : Type 0} (G : Ghosts V) (g : DiskGhosts D) (old new 
   -- the disks were taken from the bay and are given back with what the servers hold in the end
   pub stored : AreReturned g lines (servers_said lines) before after (IsStoredBy G g lines log)
   -- each decided transaction is whole
-  pub whole : logs.AreSoundOpenings (log_of G log) → AreDecidedWhole (log_of G log)
+  pub whole : AreDecidedWhole (log_of G log)
   -- and of one server all six
   pub alone : servers_said lines ≡ 1 → IsPromisedAlone G lines Written log
 

@@ -81,12 +81,9 @@ pub record IsBare (o : Start) : Type 0 where
   pub ready : o.ready ≡ []
   pub decisions : o.decisions ≡ []
 
--- Of a server that runs alone there is no note but that of the epoch and the clock. What it holds is sound to start on, and nothing is
--- found then.
+-- Of a server that runs alone there is no note but that of the epoch and the clock, and nothing is found then.
 pub record IsSoundAlone (o : Start) (held : Contents) : Type 0 where
   pub clock : AreClockNotes held.notes
-  pub files : AreSound held.cells
-  pub sizes : AreSized (map.get held.cells)
   pub bare : IsBare (start_at 1 1 o.sizes held.cells held.notes)
 
 -- What the server holds in the end by its journal is what the disk that was given back holds, and what a crash leaves of it. Where this
@@ -98,6 +95,7 @@ pub record IsStored {D : Type 0} (g : Ghosts D) (P : Type 0) (server servers : �
   pub finish : Holds server servers (g.size given) o.sizes.home (g.seen given) held
   pub said : IsSaid m held
   pub files : AreSound held.cells
+  pub sized : AreSized (map.get held.cells)
   pub durable : Only (g.seen given) (g.may_leave given)
   pub alone : servers ≡ 1 → IsSoundAlone o held
   pub unfailed : P → g.faults given ≡ g.faults taken
@@ -143,9 +141,9 @@ pub record IsRightAt (last : Course) (n : ℕ) : Type 0 where
   pub caused : Along next IsDone (opened (seat_at last n).opening) (seat_at last n).journal
 
 -- The run of these lines ended for that fault where its servers stood so: a line had more to send or to bring about, or the settling behind
--- the lines had (`stopped`). The journals are those of what occurred by then, each reply is the one that was handed, and they are lawful. Where
--- the openings are sound the decided transactions are one thread's history, each with all of its parts. Of a server that runs alone all
--- this holds of itself, and what the clients are promised too.
+-- the lines had (`stopped`). The journals are those of what occurred by then, each reply is the one that was handed, and they are lawful. The
+-- decided transactions are one thread's history, each with all of its parts. Of a server that runs alone what the clients are promised is kept
+-- too.
 pub record IsCutShort (lines : List NumberedLine) (f : RunFault) (last : Course) : Type 0 where
   pub first : Course
   pub begins : IsFirst first
@@ -158,7 +156,7 @@ pub record IsCutShort (lines : List NumberedLine) (f : RunFault) (last : Course)
   pub stopped : StopsInLine (servers_said lines) lines turns happened due ⊎ StopsBehindLines (servers_said lines) lines turns happened due
   pub ends : IsEndFor f last due
   pub right : (n : ℕ) → IsSeat last n → IsRightAt last n
-  pub several : logs.AreSoundOpenings (log_of last (handed_of (λ k. own_in k turns))) → IsOneThread (log_of last (handed_of (λ k. own_in k turns))) × AreWhole (log_of last (handed_of (λ k. own_in k turns)))
+  pub several : IsOneThread (log_of last (handed_of (λ k. own_in k turns))) × AreWhole (log_of last (handed_of (λ k. own_in k turns)))
   pub alone : servers_said lines ≡ 1
       → IsOneThread (log_of last (handed_of (λ k. own_in k turns))) × AreWhole (log_of last (handed_of (λ k. own_in k turns))) × ArePromisesKept (log_of last (handed_of (λ k. own_in k turns)))
 
@@ -200,18 +198,21 @@ WhyNotBegun g sizes server servers fault.OutOfMemory taken given = g.faults give
 WhyNotBegun g sizes server servers fault.JournalFull taken given = ⊥
 WhyNotBegun g sizes server servers fault.Bay taken given = ⊥
 
--- Why a run ended at the disk of this server, of those that name it: the disk failed, or it was none to start on, or the server's epochs
--- are used up. Where memory was wanting and no line stops a disk, none failed.
-abbrev pub HasDiskCause : {D : Type 0} → Ghosts D → List NumberedLine → NoReport → ℕ → D → D → Type 0
-HasDiskCause g lines (fault.Disk s) server taken given = server ≡ s → Rose (g.faults taken) (g.faults given)
-HasDiskCause g lines (fault.NotAVolume s found) server taken given =
-    server ≡ s → IsLeftAlone g (sizes_said lines server) taken given × WhyNotStarted server (servers_said lines) (g.size taken) (g.seen taken) (vault_fault.NotAVolume found)
-HasDiskCause g lines (fault.Damaged s place) server taken given =
-    server ≡ s → IsLeftAlone g (sizes_said lines server) taken given × WhyNotStarted server (servers_said lines) (g.size taken) (g.seen taken) (vault_fault.Damaged place)
-HasDiskCause g lines (fault.EpochEnd s) server taken given =
-    server ≡ s → (IsLeftAlone g (sizes_said lines server) taken given × HasNoEpoch server (servers_said lines) (g.size taken) (g.seen taken)) ⊎ HasUsedUp g lines server taken given
-HasDiskCause g lines fault.OutOfMemory server taken given = StopNone lines → g.faults given ≡ g.faults taken
-HasDiskCause g lines f server taken given = Unit {0}
+-- A server was started on this disk, and then nothing was played. The disk that is given back holds what it holds then, after a crash too,
+-- and did not fail.
+pub record IsUnplayed {D : Type 0} (g : Ghosts D) (lines : List NumberedLine) (server : ℕ) (taken given : D) : Type 0 where
+  pub opening : Start
+  pub notes : Notes
+  pub new : IsNew (sizes_said lines server) (g.size taken) (g.seen taken) → IsOpenedNew (sizes_said lines server) opening notes
+  pub found : (IsNew (sizes_said lines server) (g.size taken) (g.seen taken) → ⊥) → IsOpenedOn server (servers_said lines) (g.size taken) (g.seen taken) opening notes
+  pub left : (image : Image) → g.may_leave given image → (c : Contents) × Holds server (servers_said lines) (g.size given) opening.sizes.home image c × IsSaid (opened opening) c
+  pub read : g.may_leave given (g.seen given)
+  pub unfailed : g.faults given ≡ g.faults taken
+
+-- The servers before this one were started, in order, and this one was not: that holds of its disk. No other disk was taken.
+pub record StopsAt {D : Type 0} (g : Ghosts D) (lines : List NumberedLine) (server : ℕ) (before after : ℕ → Option D) (P : D → D → Type 0) : Type 0 where
+  pub among : IsOneOf (servers_said lines) server
+  pub returned : AreReturned g lines server before after (λ n taken given. (n ≡ server → P taken given) × ((n ≡ server → ⊥) → IsUnplayed g lines n taken given))
 
 -- the disks of so many servers were taken, and each is given back; this one's is the cause
 pub record AreLeft {D : Type 0} (g : Ghosts D) (lines : List NumberedLine) (server : ℕ) (before after : ℕ → Option D) (P : ℕ → D → D → Type 0) : Type 0 where
@@ -220,17 +221,32 @@ pub record AreLeft {D : Type 0} (g : Ghosts D) (lines : List NumberedLine) (serv
   pub cause : IsOneOf count server
   pub returned : AreReturned g lines count before after P
 
--- How the bay stands then: where the bay failed, the disks that were taken before are given back. Where memory was wanting, all that were
--- taken are.
+-- why a disk is none to start on, of those that name it
+abbrev pub IsNoVolume : {D : Type 0} → Ghosts D → List NumberedLine → (server : ℕ) → List ℕ → D → D → Type 0
+IsNoVolume g lines server found taken given = IsLeftAlone g (sizes_said lines server) taken given × WhyNotStarted server (servers_said lines) (g.size taken) (g.seen taken) (vault_fault.NotAVolume found)
+
+abbrev pub IsDamaged : {D : Type 0} → Ghosts D → List NumberedLine → (server place : ℕ) → D → D → Type 0
+IsDamaged g lines server place taken given = IsLeftAlone g (sizes_said lines server) taken given × WhyNotStarted server (servers_said lines) (g.size taken) (g.seen taken) (vault_fault.Damaged place)
+
+abbrev pub IsAtItsEnd : {D : Type 0} → Ghosts D → List NumberedLine → (server : ℕ) → D → D → Type 0
+IsAtItsEnd g lines server taken given = IsLeftAlone g (sizes_said lines server) taken given × HasNoEpoch server (servers_said lines) (g.size taken) (g.seen taken)
+
+-- Why a run ended before its report, and how the bay stands then. Where the bay failed, so many servers were started, and the next disk was not
+-- taken. A disk that is none to start on is the first one that is not. Where a disk failed it is one that was taken, and where memory was
+-- wanting all that were taken are given back; without a line that stops a disk none failed then. A full journal, and an epoch that is the
+-- last one of a server in the run, come when all were started.
 abbrev pub HasRunCause : {D : Type 0} → Ghosts D → List NumberedLine → (before after : ℕ → Option D) → (bay_before bay_after : ℕ) → NoReport → Type 0
-HasRunCause g lines before after bay_before bay_after fault.Bay =
-    (count : ℕ) × (count < servers_said lines) × AreReturned g lines count before after (λ n taken given. Unit {0}) × Rose bay_before bay_after
-HasRunCause g lines before after bay_before bay_after fault.OutOfMemory = (count : ℕ) × (count ≤ servers_said lines) × AreReturned g lines count before after (HasDiskCause g lines fault.OutOfMemory)
-HasRunCause g lines before after bay_before bay_after fault.JournalFull = (server : ℕ) × AreLeft g lines server before after (λ n taken given. n ≡ server → HasFilled g lines n taken given)
-HasRunCause g lines before after bay_before bay_after (fault.Disk server) = AreLeft g lines server before after (HasDiskCause g lines (fault.Disk server))
-HasRunCause g lines before after bay_before bay_after (fault.EpochEnd server) = AreLeft g lines server before after (HasDiskCause g lines (fault.EpochEnd server))
-HasRunCause g lines before after bay_before bay_after (fault.NotAVolume server found) = AreLeft g lines server before after (HasDiskCause g lines (fault.NotAVolume server found))
-HasRunCause g lines before after bay_before bay_after (fault.Damaged server place) = AreLeft g lines server before after (HasDiskCause g lines (fault.Damaged server place))
+HasRunCause g lines before after bay_before bay_after fault.Bay = (count : ℕ) × (count < servers_said lines) × AreReturned g lines count before after (IsUnplayed g lines) × Rose bay_before bay_after
+HasRunCause g lines before after bay_before bay_after fault.OutOfMemory =
+    (count : ℕ) × (count ≤ servers_said lines) × AreReturned g lines count before after (λ n taken given. StopNone lines → g.faults given ≡ g.faults taken)
+HasRunCause g lines before after bay_before bay_after fault.JournalFull =
+    (server : ℕ) × IsOneOf (servers_said lines) server × AreReturned g lines (servers_said lines) before after (λ n taken given. n ≡ server → HasFilled g lines n taken given)
+HasRunCause g lines before after bay_before bay_after (fault.Disk server) = AreLeft g lines server before after (λ n taken given. n ≡ server → Rose (g.faults taken) (g.faults given))
+HasRunCause g lines before after bay_before bay_after (fault.EpochEnd server) =
+    StopsAt g lines server before after (IsAtItsEnd g lines server)
+    ⊎ (IsOneOf (servers_said lines) server × AreReturned g lines (servers_said lines) before after (λ n taken given. n ≡ server → HasUsedUp g lines n taken given))
+HasRunCause g lines before after bay_before bay_after (fault.NotAVolume server found) = StopsAt g lines server before after (IsNoVolume g lines server found)
+HasRunCause g lines before after bay_before bay_after (fault.Damaged server place) = StopsAt g lines server before after (IsDamaged g lines server place)
 
 -- ---- which disks a run starts on
 

@@ -15,7 +15,7 @@ use Rattle.alp_top.specs.Disks.{IsStarted, IsCountedStart}
 use Rattle.alp_top.specs.Faults.{of_start}
 use Rattle.alp_top.specs.Volumes.{pages_of, WhyNotBegun}
 use Rattle.alp_top.specs.declared.fault.NoReport.{NoReport}
-use Rattle.alp_top.proofs.BeginLemmas.{of_server, holds_by, new_on, opened_new, opened_on, not_opened, not_started, opened_counted, started_counted}
+use Rattle.alp_top.proofs.BeginLemmas.{of_server, holds_by, new_on, opened_new, opened_bare, opened_on, not_opened, not_started, opened_counted, started_counted}
 use Rattle.alp_top.proofs.start.start.Goals as goal
 
 -- ---- the store did not start
@@ -51,19 +51,19 @@ returns-in-Err-start-clause-cause g c told =
     let k = c.in-Err-start.ensures in
     let f : StartFault = c.in-Err-start.fault in
     let e = disk_of c.in-Err-start.store.log in
-    let cause : HasStartCause c.args.server c.args.servers (contents_of G s) (G.faults (disk_of s)) (G.faults e) (G.allowance e) f =
-    subst (λ (b : ℕ). HasStartCause c.args.server b (contents_of G s) (G.faults (disk_of s)) (G.faults e) (G.allowance e) f) h.named.1
-    (subst (λ (a : ℕ). HasStartCause a (anchor_of s).servers (contents_of G s) (G.faults (disk_of s)) (G.faults e) (G.allowance e) f) h.named.0 k.cause) in
+    let cause : HasStartCause (G.tells (disk_of s)) c.args.server c.args.servers (anchor_of s).sizes (contents_of G s) (G.faults (disk_of s)) (G.faults e) (G.allowance e) f =
+    subst (λ (b : ℕ). HasStartCause (G.tells (disk_of s)) c.args.server b (anchor_of s).sizes (contents_of G s) (G.faults (disk_of s)) (G.faults e) (G.allowance e) f) h.named.1
+    (subst (λ (a : ℕ). HasStartCause (G.tells (disk_of s)) a (anchor_of s).servers (anchor_of s).sizes (contents_of G s) (G.faults (disk_of s)) (G.faults e) (G.allowance e) f) h.named.0 k.cause) in
     subst (λ (q : NoReport). WhyNotBegun G c.args.sizes c.args.server c.args.servers q d c.into_disk.result) (sym c.of_start.ensures)
     (subst (λ (q : g.row.D.Denot). WhyNotBegun G c.args.sizes c.args.server c.args.servers (of_start c.args.server f) d q) (sym c.into_disk.ensures.disk)
-    (not_started G c.args.sizes c.args.server c.args.servers d e (contents_of G s) f (G.faults (disk_of s)) (G.allowance e) (anchor_of s).sizes.home cause (stays_free _ _ k.allowance (stays_free _ _ h.below.allowance c.requires.free)) h.cause.still h.notes
+    (not_started G c.args.sizes c.args.server c.args.servers d e (G.tells (disk_of s)) (anchor_of s).sizes (contents_of G s) f (G.faults (disk_of s)) (G.allowance e) (anchor_of s).sizes.home cause (stays_free _ _ k.allowance (stays_free _ _ h.below.allowance c.requires.free)) h.cause.still (let least : 64 ≤ (anchor_of s).sizes.area = h.sized.least_area in omega (arith, least)) h.notes
     (λ is. (k.memory is).0.faults)
-    (λ is. ap (λ v. G.faults (disk_of v.log)) (k.untouched (subst IsNoteFault (sym is) tt)))
+    (λ is. ap (λ v. G.faults (disk_of v.log)) (k.untouched is))
     (λ is. (h.new told is).empty)
     (λ old. holds_by _ _ _ _ _ _ _ _ (G.seen d) (contents_of G s) h.named.0 h.named.1 (h.looked told old).size refl (h.mounted told old).holds)
     (λ old. subst (λ (b : ℕ). StoredOfServer c.args.server b (contents_of G s)) h.named.1 (subst (λ (a : ℕ). StoredOfServer a (anchor_of s).servers (contents_of G s)) h.named.0 (h.mounted told old).own))
     (λ last. (
-    let same = k.untouched (subst IsNoteFault (sym last) tt) in
+    let same = k.untouched last in
     record {
       seen = λ old. ap (λ v. G.seen (disk_of v.log)) same ∙ (h.looked told old).seen;
       crash = λ old. subst (λ (q : g.row.D.Denot). NoMore (G.may_leave d) (G.may_leave q)) (sym (ap (λ v. disk_of v.log) same)) (h.looked told old).crash;
@@ -79,7 +79,7 @@ returns-in-Err-start-clause-counted g c =
     let f : StartFault = c.in-Err-start.fault in
     subst (λ (q : NoReport). IsCountedStart c.args.server q (G.faults c.args.disk) (G.faults c.into_disk.result)) (sym c.of_start.ensures)
     (subst (λ (q : g.row.D.Denot). IsCountedStart c.args.server (of_start c.args.server f) (G.faults c.args.disk) (G.faults q)) (sym c.into_disk.ensures.disk)
-    (started_counted c.args.server c.args.servers (anchor_of s).server (anchor_of s).servers _ _ _ (contents_of G s) _ f k.cause (stays_free _ _ k.allowance (stays_free _ _ h.below.allowance c.requires.free)) h.cause.still))
+    (started_counted (G.tells (disk_of s)) (anchor_of s).sizes c.args.server c.args.servers (anchor_of s).server (anchor_of s).servers _ _ _ (contents_of G s) _ f k.cause (stays_free _ _ k.allowance (stays_free _ _ h.below.allowance c.requires.free)) h.cause.still))
 
 -- ---- it started
 
@@ -96,18 +96,21 @@ returns-in-Ok-start-clause-started g c =
     let telling = k.same.telling ∙ h.below.tells in
     let free = stays_free _ _ k.allowance (stays_free _ _ h.below.allowance c.requires.free) in
     let all = ap V.servers k.new.opening ∙ c.knows.ensures.all in
-    let rose : HasRaised (V.tells n.kept.vault) c.args.server c.args.servers (contents_of G s) (V.held n.kept.vault) (record { epoch = n.kept.epoch; clock = n.kept.clock }) =
-    subst (λ b. HasRaised b c.args.server c.args.servers (contents_of G s) (V.held n.kept.vault) (record { epoch = n.kept.epoch; clock = n.kept.clock })) (sym k.same.telling)
-    (subst (λ (b : ℕ). HasRaised (G.tells (disk_of s)) c.args.server b (contents_of G s) (V.held n.kept.vault) (record { epoch = n.kept.epoch; clock = n.kept.clock })) h.named.1
-    (subst (λ (a : ℕ). HasRaised (G.tells (disk_of s)) a (anchor_of s).servers (contents_of G s) (V.held n.kept.vault) (record { epoch = n.kept.epoch; clock = n.kept.clock })) h.named.0 k.raised)) in
+    let rose : HasRaised (V.tells n.kept.vault) c.args.server c.args.servers vol (contents_of G s) (V.held n.kept.vault) (record { epoch = n.kept.epoch; clock = n.kept.clock }) =
+    subst (λ b. HasRaised b c.args.server c.args.servers vol (contents_of G s) (V.held n.kept.vault) (record { epoch = n.kept.epoch; clock = n.kept.clock })) (sym k.same.telling)
+    (subst (λ (b : ℕ). HasRaised (G.tells (disk_of s)) c.args.server b vol (contents_of G s) (V.held n.kept.vault) (record { epoch = n.kept.epoch; clock = n.kept.clock })) h.named.1
+    (subst (λ (a : ℕ). HasRaised (G.tells (disk_of s)) a (anchor_of s).servers vol (contents_of G s) (V.held n.kept.vault) (record { epoch = n.kept.epoch; clock = n.kept.clock })) h.named.0 k.raised)) in
     record {
-      on = new_on V n c.knows.ensures k.new.sessions k.new.journal all;
-      idle = record { opening = k.new.opening; journal = k.new.journal; sessions = k.new.sessions; up = k.new.up; free = free };
-      number = k.new.number;
+      on = new_on V n c.knows.ensures k.new.found.sessions k.new.journal all;
+      idle = record { opening = k.new.opening; journal = k.new.journal; sessions = k.new.found.sessions; up = k.new.found.up; free = free };
+      number = k.new.number ∙ h.named.0;
       count = sym c.knows.ensures.all ∙ k.same.of_all ∙ h.named.1;
       telling = telling;
       sized = sym h.below.size ∙ sym h.sized.total ∙ ap pages_of (sym k.same.sizes);
       faults = k.counted ∙ h.cause.still;
+      bare = λ given.
+          opened_bare V G c.args.sizes c.args.server c.args.servers n (contents_of G s) vol d c.knows.ensures k.new.journal k.new.opening k.same.sizes (subst IsTrue (sym telling) given) rose
+          h.notes;
       new = λ given is.
           opened_new V G c.args.sizes c.args.server c.args.servers n (contents_of G s) vol d c.knows.ensures k.new.journal k.new.opening k.same.sizes (subst IsTrue (sym telling) given) rose (h.new given is).empty (ap (λ (a : Anchor). a.sizes) (h.new given is).anchor);
       found = λ given old.
