@@ -115,6 +115,14 @@ module _ (s m : State) (j : JoinNo) (t : TransId) (one : IsOneOn s m j t) where
       subst (λ (p : Phase). IsReadyNote m.holder.lives p x) (sym (one.phases i (number_away i j other)))
       (ready_on s.holder.lives m.holder.lives (s.phases i) x (λ u c n is. one.lives u (one.apart i u c n (number_away i j other) is)) h)
 
+  -- each that is ready has a name that can be spelled
+  pub still_fit : ready_name.Fits j → ((i : JoinNo) → is_ready (s.phases i) ≡ true → ready_name.Fits i) → (i : JoinNo) → is_ready (m.phases i) ≡ true → ready_name.Fits i
+  still_fit named fit i is = go (same_join j i) refl
+    where
+      go : (b : Bool) → same_join j i ≡ b → ready_name.Fits i
+      go true e = subst (λ (x : JoinNo). ready_name.Fits x) (same_join-true j i e) named
+      go false e = fit i (sym (ap is_ready (one.phases i e)) ∙ is)
+
   -- it is over
   pub ended_keeps : is_ready (m.phases j) ≡ false → (clock : ClockNote) (fate : TransId → Option Decision) (notes : Notes) → ready_name.Fits j → Keeps s.holder.server s.servers clock (λ i. IsReadyNote s.holder.lives (s.phases i)) fate notes
       → Keeps s.holder.server s.servers clock (λ i. IsReadyNote m.holder.lives (m.phases i)) fate (noted (ready_name.spell j) None notes)
@@ -163,7 +171,7 @@ module _ (s : State) (j : JoinNo) (t : TransId) (client ts n : ℕ) (c : Cause) 
   pub aborted_notes : (epoch : ℕ) (notes : Notes) → ready_name.Fits j → AreNotesOf s epoch notes → AreNotesOf (state_deed s (Aborts j t n c)) epoch (noted (ready_name.spell j) None notes)
   aborted_notes epoch notes named h =
       let k = ended_keeps s aborted_state j t aborted_one aborted_over (record { epoch = epoch; clock = s.holder.kept }) (λ u. decision_kept (s.fates u)) notes named (keeps_of s epoch notes h) in
-      record { clock = k.clock; ready = k.ready; decided = k.decided; format = k.format }
+      record { clock = k.clock; ready = k.ready; decided = k.decided; fit = still_fit s aborted_state j t aborted_one named h.fit; fit_decided = h.fit_decided; format = k.format }
 
 -- ---- it is applied, and the clock stands
 
@@ -208,6 +216,8 @@ module _ (s : State) (j : JoinNo) (t : TransId) (client ts time : ℕ) (l : Life
         clock = k.clock ∙ ap (λ (o : Option Life). record { epoch = epoch; clock = (commits s.holder stamp o).kept }) (sym live);
         ready = k.ready;
         decided = k.decided;
+        fit = still_fit s applied_state j t applied_one named h.fit;
+        fit_decided = h.fit_decided;
         format = subst (λ (n : ℕ). AreServerNotes n s.servers (noted (ready_name.spell j) None (noted clock_name (Some (clock_form.spell now)) notes))) (sym (same_server (s.holder.lives t))) k.format;
       }
 
@@ -254,6 +264,8 @@ module _ (s : State) (j : JoinNo) (t : TransId) (client ts : ℕ) (who : List �
         clock = k.clock ∙ ap (λ (n : ℕ). record { epoch = epoch; clock = n }) (sym (readied_clock (s.holder.lives t)));
         ready = k.ready;
         decided = k.decided;
+        fit = still_fit s readied_state j t readied_one named h.fit;
+        fit_decided = h.fit_decided;
         format = subst (λ (n : ℕ). AreServerNotes n s.servers (noted (ready_name.spell j) (Some (ready_form.spell p)) notes)) (sym (readied_server (s.holder.lives t))) k.format;
       }
 
@@ -270,9 +282,15 @@ forgotten_notes s m t epoch notes holder servers phases others gone named h =
       ready = λ i fits. subst (λ (x : Holder). IsReadyNote x.lives (m.phases i) (ready_at (noted (decision_name.spell t) None notes) i)) (sym holder)
           (subst (λ (f : JoinNo → Phase). IsReadyNote s.holder.lives (f i) (ready_at (noted (decision_name.spell t) None notes) i)) (sym phases) (k.ready i fits));
       decided = k.decided;
+      fit = λ i is. h.fit i (sym (ap (λ (f : JoinNo → Phase). is_ready (f i)) phases) ∙ is);
+      fit_decided = λ u is. named_still u is (same_trans t u) refl;
       format = subst (λ (x : Holder). AreServerNotes x.server m.servers (noted (decision_name.spell t) None notes)) (sym holder) (subst (λ (n : ℕ). AreServerNotes s.holder.server n (noted (decision_name.spell t) None notes)) (sym servers) k.format);
     }
   where
+    named_still : (u : TransId) → is_some (decision_kept (m.fates u)) ≡ true → (b : Bool) → same_trans t u ≡ b → decision_name.Fits u
+    named_still u is true e = subst (λ (x : TransId). decision_name.Fits x) (same_trans-true t u e) named
+    named_still u is false e = h.fit_decided u (sym (ap (λ (o : Option Decision). is_some o) (others u e)) ∙ is)
+
     trans_away : (u : TransId) → (u ≡ t → ⊥) → same_trans t u ≡ false
     trans_away u other = go (same_trans t u) refl
       where
