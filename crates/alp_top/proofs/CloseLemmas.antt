@@ -191,8 +191,8 @@ module _ {V D T : Type 0} (G : VaultGhosts V) (g : Ghosts D) (tells : Bool) (all
         each = (
           here.is,
           paired_map (IsClosedAt G g tells (length all) now r) (IsClosedAt G g tells (length all) after q) (length rest + 1 + 1) h.done h.disks
-          (λ m x d low one. closed_on k m now after r q x d one goes (λ same. omega (arith, low, same)) (λ told. here.others told m (λ same. omega (arith, low, same))))
-          (subst (λ (m : ℕ). ArePaired (IsClosedAt G g tells (length all) now r) m h.done h.disks) (ap (λ (m : ℕ). m + 1) long) h.each),
+              (λ m x d low one. closed_on k m now after r q x d one goes (λ same. omega (arith, low, same)) (λ told. here.others told m (λ same. omega (arith, low, same))))
+              (subst (λ (m : ℕ). ArePaired (IsClosedAt G g tells (length all) now r) m h.done h.disks) (ap (λ (m : ℕ). m + 1) long) h.each),
         );
         same = λ told n out.
             here.others told n (λ same. out (omega (arith, same), omega (arith, same, among)))

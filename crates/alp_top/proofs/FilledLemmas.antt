@@ -181,9 +181,9 @@ module _ {V D T : Type 0} (G : VaultGhosts V) (g : Ghosts D) (tells : Bool) (tol
           i + 1,
           record { first = omega arith; last = omega (arith, less, many_is, count) },
           (λ here.
-          let (y, now, m, sits) = seat_on G last early.on (i + 1) (seat_here (i + 1) here) in
-          let stays = all_still (i + 1 - 1) y (at (i + 1) here).at.left m.node now m.keeps.stands (at (i + 1) here).at.stands in
-          still_filled (i + 1) here y now m sits stays all_told all_bare (subst (λ (j : ℕ). entries_limit ≤ (get_or r.seats j no_seat).stand.place) (sym same) full) (subst (λ (j : ℕ). (get_or r.seats j no_seat).stand.is_down ≡ false) (sym same) up) is),
+              let (y, now, m, sits) = seat_on G last early.on (i + 1) (seat_here (i + 1) here) in
+              let stays = all_still (i + 1 - 1) y (at (i + 1) here).at.left m.node now m.keeps.stands (at (i + 1) here).at.stands in
+              still_filled (i + 1) here y now m sits stays all_told all_bare (subst (λ (j : ℕ). entries_limit ≤ (get_or r.seats j no_seat).stand.place) (sym same) full) (subst (λ (j : ℕ). (get_or r.seats j no_seat).stand.is_down ≡ false) (sym same) up) is),
         )
 
   -- ---- at the last epoch

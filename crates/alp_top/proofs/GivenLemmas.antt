@@ -133,7 +133,7 @@ module _ {V D : Type 0} (G : VaultGhosts V) (g : Ghosts D) (tells : Bool) (told 
               c,
               holds_by _ _ _ _ _ _ _ _ image c number all refl (ap (λ (z : Sizes). z.home) volume) holds,
               subst (λ (js : List Entry). NoMore (IsSaid (state_after next (opened (start_in G m)) js)) (G.may_leave m.kept.vault)) b.started.idle.journal
-              ((b.started.on.kept.durable here).up (ap (λ (js : List Entry). (state_after next (opened (start_in G m)) js).is_down) b.started.idle.journal)) c (subst (λ (w : V). G.may_leave w c) is may_be),
+                  ((b.started.on.kept.durable here).up (ap (λ (js : List Entry). (state_after next (opened (start_in G m)) js).is_down) b.started.idle.journal)) c (subst (λ (w : V). G.may_leave w c) is may_be),
             );
         read = back.read tells_v;
         unfailed = back.faults ∙ ap G.faults is ∙ b.started.faults;

@@ -43,8 +43,8 @@ module _ {V D : Type 0} (G : VaultGhosts V) (g : Ghosts D) (tells : Bool) (all :
         each = (
           record { vault = v; its = has; back = given.back; there = λ told. (given.filled told).here },
           paired_map (IsLeftAt G g tells now) (IsLeftAt G g tells after) (length rest + 1 + 1) h.done h.disks
-          (λ m x d low one. record { vault = one.vault; its = one.its; back = one.back; there = λ told. (given.filled told).others m (λ same. omega (arith, low, same)) ∙ one.there told })
-          (subst (λ (m : ℕ). ArePaired (IsLeftAt G g tells now) m h.done h.disks) (ap (λ (m : ℕ). m + 1) long) h.each),
+              (λ m x d low one. record { vault = one.vault; its = one.its; back = one.back; there = λ told. (given.filled told).others m (λ same. omega (arith, low, same)) ∙ one.there told })
+              (subst (λ (m : ℕ). ArePaired (IsLeftAt G g tells now) m h.done h.disks) (ap (λ (m : ℕ). m + 1) long) h.each),
         );
         same = λ told n out.
             (given.filled told).others n (λ same. out (let most : length left ≤ length all = many_left left h.done h.are in (omega (arith, same), omega (arith, same, long, most))))

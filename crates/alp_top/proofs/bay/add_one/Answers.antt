@@ -42,14 +42,14 @@ returns-in-Err-clause-refused g c =
     let placed = c.give.ensures.given in
     record {
       refused = λ told. inr (record {
-          taken = one.disk;
-          from_there = one.is.was told;
-          given = placed.device;
-          there = (placed.filled (subst IsTrue (sym c.in_ok-node.ensures.tells) told)).here;
-          size = placed.back.sized ∙ ap (λ v. pages_of (V.volume v)) at ∙ sym one.is.started.sized;
-          later = (let now = placed.back.faults ∙ ap V.faults at ∙ one.is.started.faults in omega (arith, now));
-          left = placed.back.faults ∙ ap V.faults at ∙ one.is.started.faults;
-        });
+        taken = one.disk;
+        from_there = one.is.was told;
+        given = placed.device;
+        there = (placed.filled (subst IsTrue (sym c.in_ok-node.ensures.tells) told)).here;
+        size = placed.back.sized ∙ ap (λ v. pages_of (V.volume v)) at ∙ sym one.is.started.sized;
+        later = (let now = placed.back.faults ∙ ap V.faults at ∙ one.is.started.faults in omega (arith, now));
+        left = placed.back.faults ∙ ap V.faults at ∙ one.is.started.faults;
+      });
       others = λ told k away. (placed.filled (subst IsTrue (sym c.in_ok-node.ensures.tells) told)).others k away ∙ one.others told k away;
       of_server = tt;
     }

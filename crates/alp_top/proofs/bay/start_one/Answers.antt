@@ -97,7 +97,7 @@ returns-in-Err-clause-refused g c =
           (cause_alike F h S c.new.result c.in-Err.disk c.in_ok-device.device placed.device taken placed.alike c.args.server (servers_said c.args.lines.now) c.in-Err.fault
           (subst (λ (m : ℕ). WhyNotBegun F S c.args.server m c.in-Err.fault c.new.result c.in-Err.disk) c.requires.servers
           (subst (λ (z : Sizes). WhyNotBegun F z c.args.server c.args.servers c.in-Err.fault c.new.result c.in-Err.disk) c.sizes_of-sizes.ensures (x.cause (subst IsTrue (sym c.new.ensures.tells) (took.told told))))))
-        );
+          );
       others = λ told k away. (placed.filled (subst IsTrue (sym took.tells) told)).others k away ∙ (took.emptied told).others k away;
       of_server = counted_alike F h S c.new.result c.in-Err.disk c.in_ok-device.device placed.device taken placed.alike c.args.server c.in-Err.fault x.counted;
     }
