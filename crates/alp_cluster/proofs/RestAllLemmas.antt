@@ -92,11 +92,11 @@ module _ {V : Type 0} (G : Ghosts V) (z : Stations V) (on : AreOn G z) where
       let facts : (k : ℕ) → IsSeat c k → IsRightSeat (length c.seats) (seat_at c k) = (λ k here. right_seat k here (each_tells c tells k here)) in
       let word : IsSettling (length via.mid.seats) behind = subst (λ (k : ℕ). IsSettling k behind) (sym count ∙ sym all ∙ many) settles in
       let well : IsWellRun c handed = record {
-          proper = record { different = different c handed numbered; sound = sound; lawful = all_lawful c handed numbered (λ k here. (facts k here).lawful); linked = linking first c hs handed begin course };
-          answered = λ k here. (facts k here).answered;
-          tells = tells;
-          spelled = spelled;
-          among = λ k here. (facts k here).among;
-          account = λ k here. (facts k here).account;
-        } in
+        proper = record { different = different c handed numbered; sound = sound; lawful = all_lawful c handed numbered (λ k here. (facts k here).lawful); linked = linking first c hs handed begin course };
+        answered = λ k here. (facts k here).answered;
+        tells = tells;
+        spelled = spelled;
+        among = λ k here. (facts k here).among;
+        account = λ k here. (facts k here).account;
+      } in
       resting first via.mid c before behind handed begin via.first word via.second well n s
