@@ -1,7 +1,7 @@
 -- Behind a run that was settled all servers are at rest.
 use Rattle.std.specs.Prelude.{IsTrue, map as list_map, slice_get}
 use Rattle.std.specs.List.{AllByRecursion}
-use Rattle.std.proofs.Common.{inl, inr, ◌≡◌, ℕ, ◌+◌, ◌-◌, ◌<◌, ◌≤◌, List, [], ◌∷◌, ◌++◌, length, get_or, refl, sym, ◌∙◌, ap, subst, arith}
+use Rattle.std.proofs.Common.{inl, inr, ◌≡◌, ℕ, suc, ◌+◌, ◌-◌, ◌<◌, ◌≤◌, List, [], ◌∷◌, ◌++◌, length, get_or, refl, sym, ◌∙◌, ap, subst, arith}
 use Rattle.std.proofs.lemmas.List.{length-map}
 use Rattle.alp_journal.specs.Account.{Account, state_of as account_state, Stands}
 use Rattle.alp_journal.specs.Answered.{IsAnswered}
@@ -36,7 +36,7 @@ use Rattle.alp_cluster.proofs.SweepLemmas.{is_there}
 in_seats : (x : logs.ServerLog) (ss : List Seat) → IsIn x (list_map server_log ss) → (i : ℕ) × (i < length ss) × (x ≡ server_log (get_or ss i no_seat))
 in_seats x [] h = absurd h
 in_seats x (s ∷ ss) (inl is) = (0, omega arith, is)
-in_seats x (s ∷ ss) (inr h) = (let (i, less, is) = in_seats x ss h in (i + 1, omega (arith, less), is))
+in_seats x (s ∷ ss) (inr h) = (let (i, less, is) = in_seats x ss h in (suc i, omega (arith, less), is))
 
 different : (r : Course) (handed : Handed) → AreNumbered 1 r.seats → logs.AreDifferent (log_of r handed)
 different r handed h x i =
