@@ -32,7 +32,7 @@ use Rattle.alp_top.specs.Endings.{AreRestsOf, IsReportOf}
 use Rattle.alp_top.specs.Faults.{of_bay, played}
 use Rattle.alp_top.specs.Headline.{IsRunOf}
 use Rattle.alp_top.specs.Logs.{Log}
-use Rattle.alp_top.specs.Volumes.{HasFilled, HasUsedUp, HasRunCause, IsBayFault, IsBayTold, IsOfServers}
+use Rattle.alp_top.specs.Volumes.{HasRunCause, IsBayFault, IsBayTold, IsOfServers}
 use Rattle.alp_top.specs.declared.fault.NoReport.{NoReport}
 use Rattle.alp_top.specs.declared.fault.NoReport.TheVariants as fault
 use Rattle.alp_top.specs.declared.finish.Rests.{Rests}

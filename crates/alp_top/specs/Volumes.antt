@@ -21,7 +21,7 @@ use Rattle.alp_journal.specs.Laws.{IsLawful}
 use Rattle.alp_journal.specs.Moves.{next}
 use Rattle.alp_journal.specs.State.{State, opened}
 use Rattle.alp_node.specs.Downs.{IsLeftOf}
-use Rattle.alp_node.specs.Durable.{IsSaid}
+use Rattle.alp_node.specs.Durable.{IsSaid, IsSaidThen}
 use Rattle.alp_node.specs.Starts.{raised}
 use Rattle.alp_node.specs.declared.start.StartFault.TheVariants.{EpochEnd}
 use Rattle.alp_store.specs.Holding.{Holds}
@@ -160,27 +160,34 @@ pub record IsCutShort (lines : List NumberedLine) (f : RunFault) (last : Course)
   pub alone : servers_said lines ≡ 1
       → IsOneThread (log_of last (handed_of (λ k. own_in k turns))) × AreWhole (log_of last (handed_of (λ k. own_in k turns))) × ArePromisesKept (log_of last (handed_of (λ k. own_in k turns)))
 
+-- Where the servers stand so, this one was started on the disk, and what a crash leaves of the disk that is given back is what its journal
+-- says; of a server that is down, it is that or what its last write makes of that.
+pub record IsLeftBy {D : Type 0} (g : Ghosts D) (lines : List NumberedLine) (last : Course) (server : ℕ) (taken given : D) : Type 0 where
+  pub notes : Notes
+  pub new : IsNew (sizes_said lines server) (g.size taken) (g.seen taken) → IsOpenedNew (sizes_said lines server) (seat_at last server).opening notes
+  pub found : (IsNew (sizes_said lines server) (g.size taken) (g.seen taken) → ⊥) → IsOpenedOn server (servers_said lines) (g.size taken) (g.seen taken) (seat_at last server).opening notes
+  pub left : (image : Image) → g.may_leave given image
+      → (c : Contents) × Holds server (servers_said lines) (g.size given) (seat_at last server).opening.sizes.home image c
+      × (IsSaid (state_after next (opened (seat_at last server).opening) (seat_at last server).journal) c ⊎ IsSaidThen (state_after next (opened (seat_at last server).opening) (seat_at last server).journal) c)
+  pub read : g.may_leave given (g.seen given)
+
 -- The journal of the server that was started on the disk was full where another event was to come. The disk holds what the journal
 -- says.
-pub record HasFilled {D : Type 0} (g : Ghosts D) (lines : List NumberedLine) (server : ℕ) (taken given : D) : Type 0 where
-  pub last : Course
+pub record HasFilled {D : Type 0} (g : Ghosts D) (lines : List NumberedLine) (last : Course) (server : ℕ) (taken given : D) : Type 0 where
   pub seat : IsSeat last server
   pub notes : Notes
   pub started : (seat_at last server).opening ≡ start_at server (servers_said lines) (seat_at last server).opening.sizes (seat_at last server).opening.cells notes
   pub full : entries_limit ≤ length (seat_at last server).journal
   pub stored : IsStored g (StopNone lines) server (servers_said lines) (sizes_said lines server) (seat_at last server).opening notes (state_after next (opened (seat_at last server).opening) (seat_at last server).journal) taken given
-  pub short : IsCutShort lines run_fault.JournalFull last
 
 -- The server that was started on the disk was to start again, and had come to the last epoch. What the disk reads and what a crash leaves
 -- of it is what the journal says, or that with the whole of what was tried last.
-pub record HasUsedUp {D : Type 0} (g : Ghosts D) (lines : List NumberedLine) (server : ℕ) (taken given : D) : Type 0 where
-  pub last : Course
+pub record HasUsedUp {D : Type 0} (g : Ghosts D) (lines : List NumberedLine) (last : Course) (server : ℕ) (taken given : D) : Type 0 where
   pub seat : IsSeat last server
   pub notes : Notes
   pub started : (seat_at last server).opening ≡ start_at server (servers_said lines) (seat_at last server).opening.sizes (seat_at last server).opening.cells notes
   pub new : IsNew (sizes_said lines server) (g.size taken) (g.seen taken) → IsOpenedNew (sizes_said lines server) (seat_at last server).opening notes
   pub found : (IsNew (sizes_said lines server) (g.size taken) (g.seen taken) → ⊥) → IsOpenedOn server (servers_said lines) (g.size taken) (g.seen taken) (seat_at last server).opening notes
-  pub short : IsCutShort lines (run_fault.Start server EpochEnd) last
   pub left : (image : Image) → g.may_leave given image
       → (c : Contents) × Holds server (servers_said lines) (g.size given) (seat_at last server).opening.sizes.home image c × IsLeftOf (state_after next (opened (seat_at last server).opening) (seat_at last server).journal) c
   pub read : g.may_leave given (g.seen given)
@@ -234,17 +241,20 @@ IsAtItsEnd g lines server taken given = IsLeftAlone g (sizes_said lines server) 
 -- Why a run ended before its report, and how the bay stands then. Where the bay failed, so many servers were started, and the next disk was not
 -- taken. A disk that is none to start on is the first one that is not. Where a disk failed it is one that was taken, and where memory was
 -- wanting all that were taken are given back; without a line that stops a disk none failed then. A full journal, and an epoch that is the
--- last one of a server in the run, come when all were started.
+-- last one of a server in the run, come when all were started, and each disk comes back as its server's journal says.
 abbrev pub HasRunCause : {D : Type 0} → Ghosts D → List NumberedLine → (before after : ℕ → Option D) → (bay_before bay_after : ℕ) → NoReport → Type 0
 HasRunCause g lines before after bay_before bay_after fault.Bay = (count : ℕ) × (count < servers_said lines) × AreReturned g lines count before after (IsUnplayed g lines) × Rose bay_before bay_after
 HasRunCause g lines before after bay_before bay_after fault.OutOfMemory =
     (count : ℕ) × (count ≤ servers_said lines) × AreReturned g lines count before after (λ n taken given. StopNone lines → g.faults given ≡ g.faults taken)
 HasRunCause g lines before after bay_before bay_after fault.JournalFull =
-    (server : ℕ) × IsOneOf (servers_said lines) server × AreReturned g lines (servers_said lines) before after (λ n taken given. n ≡ server → HasFilled g lines n taken given)
-HasRunCause g lines before after bay_before bay_after (fault.Disk server) = AreLeft g lines server before after (λ n taken given. n ≡ server → Rose (g.faults taken) (g.faults given))
+    (last : Course) × IsCutShort lines run_fault.JournalFull last × (server : ℕ) × IsOneOf (servers_said lines) server
+    × AreReturned g lines (servers_said lines) before after (λ n taken given. IsLeftBy g lines last n taken given × (n ≡ server → HasFilled g lines last n taken given))
+HasRunCause g lines before after bay_before bay_after (fault.Disk server) = 
+    AreLeft g lines server before after (λ n taken given. (n ≡ server → Rose (g.faults taken) (g.faults given)) × ((n ≡ server → ⊥) → StopNone lines → g.faults given ≡ g.faults taken))
 HasRunCause g lines before after bay_before bay_after (fault.EpochEnd server) =
     StopsAt g lines server before after (IsAtItsEnd g lines server)
-    ⊎ (IsOneOf (servers_said lines) server × AreReturned g lines (servers_said lines) before after (λ n taken given. n ≡ server → HasUsedUp g lines n taken given))
+    ⊎ ((last : Course) × IsCutShort lines (run_fault.Start server EpochEnd) last × IsOneOf (servers_said lines) server
+    × AreReturned g lines (servers_said lines) before after (λ n taken given. ((n ≡ server → ⊥) → IsLeftBy g lines last n taken given) × (n ≡ server → HasUsedUp g lines last n taken given)))
 HasRunCause g lines before after bay_before bay_after (fault.NotAVolume server found) = StopsAt g lines server before after (IsNoVolume g lines server found)
 HasRunCause g lines before after bay_before bay_after (fault.Damaged server place) = StopsAt g lines server before after (IsDamaged g lines server place)
 
