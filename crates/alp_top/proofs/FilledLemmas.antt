@@ -76,7 +76,7 @@ set_elsewhere (x ∷ xs) (suc i) (suc j) y away = set_elsewhere xs i j y (λ e. 
 -- ---- the servers as they were left
 
 -- each has the vault of the server that stood there
-module _ {V D T : Type 0} (G : VaultGhosts V) (g : Ghosts D) (tells : Bool) (told : IsTrue tells) (lines : List NumberedLine) (before after : ℕ → Option D) (first left : Stations V) (f : RunFault) (few : servers_said lines ≤ 8) (early : HasEndedEarly G (servers_said lines) lines f left)
+module _ {V D T : Type 0} (G : VaultGhosts V) (g : Ghosts D) (tells : Bool) (told : IsTrue tells) (lines : List NumberedLine) (before after : ℕ → Option D) (first left : Stations V) (f : RunFault) (early : HasEndedEarly G (servers_said lines) lines f left)
     (at : (n : ℕ) → IsOneOf (servers_said lines) n → IsLeftSo {T = T} G g tells lines before after first left (Err f) n) (opens : openings_of left ≡ openings_of first) where
   abbrev last : Stations V
   last = early.last
@@ -111,11 +111,11 @@ module _ {V D T : Type 0} (G : VaultGhosts V) (g : Ghosts D) (tells : Bool) (tol
       opening : m.node.opening ≡ x.node.opening
       opening = opening_same first left (n - 1) x.station x.left x.node m.node opens x.stood x.was x.stands still
 
-      -- it opened with nothing
-      pub still_bare : IsBare (seat_at r n).opening
-      still_bare =
+      -- where it is the only one, it opened with nothing
+      pub still_bare : servers_said lines ≡ 1 → IsBare (seat_at r n).opening
+      still_bare one =
           subst (λ (z : Seat). IsBare z.opening) (sym sits)
-          (bare_as G g (sizes_said lines n) n (servers_said lines) x.node m.node x.vault x.taken x.given x.begun.started (x.begun.told told) m.keeps.on m.number_is opening still_tells)
+          (bare_as G g (sizes_said lines n) n (servers_said lines) x.node m.node x.vault x.taken x.given x.begun.started (x.begun.told told) m.keeps.on m.number_is opening still_tells one)
 
       -- what is left of it
       pub still_left : IsLeftBy g lines r n x.taken x.given
@@ -181,11 +181,11 @@ module _ {V D T : Type 0} (G : VaultGhosts V) (g : Ghosts D) (tells : Bool) (tol
         let stays = all_still (i + 1 - 1) y (at (i + 1) here).at.left m.node now m.keeps.stands (at (i + 1) here).at.stands in
         subst (λ (z : Station V). IsTrue (seat_of G z).tells) one (subst (λ o. IsTrue (seat_for G y.is_fused y.ranks.items o).tells) (sym m.keeps.stands) (still_tells (i + 1) here y now m sits stays)))
 
-    all_bare : (k : ℕ) → IsSeat r k → IsBare (seat_at r k).opening
-    all_bare k seat =
+    all_bare : (k : ℕ) → IsSeat r k → servers_said lines ≡ 1 → IsBare (seat_at r k).opening
+    all_bare k seat alone =
         let here : IsOneOf (servers_said lines) k = one_seat k seat in
         let (y, now, m, sits) = seat_on G last early.on k seat in
-        still_bare k here y now m sits (all_still (k - 1) y (at k here).at.left m.node now m.keeps.stands (at k here).at.stands)
+        still_bare k here y now m sits (all_still (k - 1) y (at k here).at.left m.node now m.keeps.stands (at k here).at.stands) alone
 
     pub filled : IsFilledRun g lines (λ n here. (at n here).at.taken) (λ n here. (at n here).at.given)
     filled =
@@ -202,7 +202,7 @@ module _ {V D T : Type 0} (G : VaultGhosts V) (g : Ghosts D) (tells : Bool) (tol
         let count : length last.all.items ≡ servers_said lines = early.count in
         record {
           last = r;
-          short = subst (λ (q : RunFault). IsCutShort lines q r) is (cut_short G lines f left early all_told few all_bare);
+          short = subst (λ (q : RunFault). IsCutShort lines q r) is (cut_short G lines f left early all_told all_bare);
           each = λ n here. (let (y, now, m, sits) = seat_on G last early.on n (seat_here n here) in still_left n here y now m sits (all_still (n - 1) y (at n here).at.left m.node now m.keeps.stands (at n here).at.stands));
           server = i + 1;
           among = record { first = omega arith; last = omega (arith, less, many_is, count) };
@@ -264,9 +264,9 @@ module _ {V D T : Type 0} (G : VaultGhosts V) (g : Ghosts D) (tells : Bool) (tol
         ])
 
     -- each opened with nothing
-    bare_then : (n : ℕ) → IsSeat r n → IsBare (seat_at r n).opening
+    bare_then : (n : ℕ) → IsSeat r n → servers_said lines ≡ 1 → IsBare (seat_at r n).opening
     unfolding down e
-    bare_then n seat =
+    bare_then n seat alone =
         let here : IsOneOf (servers_said lines) n = one_seat n seat in
         let (y, now, m, sits) = seat_on G last early.on n seat in
         elim (cases_eq (n - 1) k) [
@@ -283,11 +283,11 @@ module _ {V D T : Type 0} (G : VaultGhosts V) (g : Ghosts D) (tells : Bool) (tol
               let vault_is : x.vault ≡ down.vault = subst (λ o. HasVault o x.vault) (ap (λ (z : Station V). z.server) left_is ∙ e.ends.1) (at n here).its in
               let tells_node : IsTrue (G.tells m.node.kept.vault) = subst (λ (q : NodeState V). IsTrue (G.tells q.kept.vault)) (sym node_is) (subst IsTrue (ap G.tells vault_is ∙ stays.stays.same.telling ∙ stays.falls.same.telling) (vault_tells n here)) in
               subst (λ (z : Seat). IsBare z.opening) (sym sits)
-              (bare_as G g (sizes_said lines n) n (servers_said lines) x.node m.node x.vault x.taken x.given x.begun.started (x.begun.told told) m.keeps.on m.number_is opening tells_node)
+              (bare_as G g (sizes_said lines n) n (servers_said lines) x.node m.node x.vault x.taken x.given x.begun.started (x.begun.told told) m.keeps.on m.number_is opening tells_node alone)
           | inr away ↦
               let x = (at n here).at in
               let left_is : x.left ≡ y = same_there (slice_get left.all.items (n - 1)) x.left y x.stands (elsewhere_now (n - 1) away ∙ now) in
-              still_bare n here y now m sits (ap (λ (z : Station V). z.server) left_is ∙ m.keeps.stands)
+              still_bare n here y now m sits (ap (λ (z : Station V). z.server) left_is ∙ m.keeps.stands) alone
         ]
 
     over_at : (here : IsOneOf (servers_said lines) (k + 1)) → server ≡ k + 1 → HasUsedUp g lines r (k + 1) (at (k + 1) here).at.taken (at (k + 1) here).at.given
@@ -365,7 +365,7 @@ module _ {V D T : Type 0} (G : VaultGhosts V) (g : Ghosts D) (tells : Bool) (tol
     pub over : IsUsedUpRun g lines server (λ n here. (at n here).at.taken) (λ n here. (at n here).at.given)
     over = record {
       last = r;
-      short = subst (λ (q : RunFault). IsCutShort lines q r) is (cut_short G lines f left early all_told_then few bare_then);
+      short = subst (λ (q : RunFault). IsCutShort lines q r) is (cut_short G lines f left early all_told_then bare_then);
       others = other_left;
       over = subst (λ (n : ℕ). (h : IsOneOf (servers_said lines) n) → HasUsedUp g lines r n (at n h).at.taken (at n h).at.given) (sym server_at) (λ h. over_at h server_at);
     }

@@ -43,6 +43,7 @@ module _ {V D : Type 0} (G : VaultGhosts V) (g : Ghosts D) (old new : Option (Li
     faithful = x.faithful;
     stored = x.stored;
     whole = x.whole;
+    fresh = x.fresh;
     alone = λ one. record { is = x.alone one; output = subst Written (x.report ∙ (x.alone one).counted) out };
   }
 
@@ -311,7 +312,7 @@ module _ {D : Type 0} {g : Ghosts D} (lines : List NumberedLine) (before after :
         first = ap (λ (i : Image). page i 0) new.zeros ∙ zeros (pages_of sizes) 0 (omega arith);
         second = ap (λ (i : Image). page i 1) new.zeros ∙ zeros (pages_of sizes) 1 (omega arith);
       } in
-      record { volume = λ found why. blank; whole = λ place why. blank; epoch = λ none. blank }
+      record { volume = λ found why. blank; whole = λ place why. blank; epoch = λ none. blank; notes = λ a held several counts holds own. inl blank }
   startable n here d (Some s) is same = subst (λ (q : D). IsStartable (sizes_said lines n) n (servers_said lines) (g.size q) (g.seen q)) (sym same) ((starts n here).startable s is)
 
   pub plays_on : (s : Status D g) (f : NoReport) (bay_before bay_after : ℕ) → s ≡ ended_by f → HasRunCause g lines before after bay_before bay_after f → (Rose bay_before bay_after → ⊥) → IsPlayedOrMemory s
@@ -334,4 +335,10 @@ module _ {D : Type 0} {g : Ghosts D} (lines : List NumberedLine) (before after :
       go (fault.EpochEnd n) (inl x) = (let e = x.returned.each n (its n x.among) in let why = e.left.0 refl in absurd (why.0.old ((on n x.among e.taken e.from_there).epoch why.1)))
       go (fault.EpochEnd n) (inr x) = inr refl
       go (fault.NotAVolume n found) x = (let e = x.returned.each n (its n x.among) in let why = e.left.0 refl in absurd (why.0.old ((on n x.among e.taken e.from_there).volume found why.1)))
-      go (fault.Damaged n place) x = (let e = x.returned.each n (its n x.among) in let why = e.left.0 refl in absurd (why.0.old ((on n x.among e.taken e.from_there).whole place why.1)))
+      go (fault.Damaged n place) x =
+          let e = x.returned.each n (its n x.among) in
+          let y = on n x.among e.taken e.from_there in
+          elim (e.left.0 refl) [
+            | inl why ↦ absurd (why.0.old (y.whole place why.1))
+            | inr why ↦ (let w = why.1 in elim (y.notes w.anchor w.held w.several w.counts w.holds w.own) [ inl new ↦ absurd (w.old new) | inr are ↦ absurd (w.apart are) ])
+          ]

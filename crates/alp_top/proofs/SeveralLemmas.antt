@@ -56,7 +56,7 @@ use Rattle.alp_top.specs.Reports.{end_of, holding_in, files_text_of, owners_text
 use Rattle.alp_top.specs.Tallies.{begun_in, committed_in}
 use Rattle.alp_top.specs.declared.finish.Rests.{Rests}
 use Rattle.alp_top.specs.Volumes.{IsBare}
-use Rattle.alp_top.proofs.OpeningLemmas.{IsOpenedWell, all_bare, sound_openings}
+use Rattle.alp_top.proofs.OpeningLemmas.{IsOpenedWell, sound_openings}
 use Rattle.alp_top.proofs.PairLemmas.{matched_many, matched_map, same_there}
 use Rattle.alp_top.proofs.SeatedLemmas.{there_less, seat_on, numbered, of_each, proper_course, many}
 use Rattle.alp_top.proofs.SummaryLemmas.{held_is, owned_is}
@@ -220,7 +220,7 @@ module _ {V : Type 0} (G : Ghosts V) (lines : List NumberedLine) (last : Station
 
   -- ---- where all vaults tell
 
-  module _ (told : TellAll r) (few : servers_said lines ≤ 8) (bare : (n : ℕ) → IsSeat r n → IsBare (seat_at r n).opening) where
+  module _ (told : TellAll r) where
     seat_told : (n : ℕ) → IsSeat r n → IsTrue (seat_at r n).tells
     seat_told n here = all_seat (λ (s : Seat). IsTrue s.tells) r.seats (n - 1) told (omega (arith, here.first, here.last))
 
@@ -229,14 +229,6 @@ module _ {V : Type 0} (G : Ghosts V) (lines : List NumberedLine) (last : Station
         let (x, at, m, same) = seat_on G last out.on n here in
         let tells : IsTrue (G.tells m.node.kept.vault) = subst (λ (s : Seat). IsTrue s.tells) same (seat_told n here) in
         subst (λ (s : Seat). IsLawful s.opening s.journal × Along next IsDone (opened s.opening) s.journal) (sym same) ((m.keeps.on.kept.right tells).lawful, m.keeps.on.answered tells)
-
-    seat_well : (n : ℕ) → IsSeat r n → IsOpenedWell (seat_at r n)
-    seat_well n here =
-        let (x, at, m, same) = seat_on G last out.on n here in
-        let tells : IsTrue (G.tells m.node.kept.vault) = subst (λ (s : Seat). IsTrue s.tells) same (seat_told n here) in
-        let right : node.IsRight (start_in G m.node) (G.held m.node.kept.vault) m.node = m.keeps.on.kept.right tells in
-        let all : (start_in G m.node).servers ≡ servers_said lines = m.keeps.on.all ∙ m.count_is ∙ out.count in
-        subst IsOpenedWell (sym same) (record { few = omega (arith, all, few); files = right.opening.parts.sound [] refl; sizes = right.opening.parts.sized; bare = subst (λ (s : Seat). IsBare s.opening) same (bare n here) })
 
     seat_up : (i : ℕ) (s : Station V) → slice_get last.all.items i ≡ Some s → IsUpTold G servers s
     seat_up i s at =
@@ -258,17 +250,16 @@ module _ {V : Type 0} (G : Ghosts V) (lines : List NumberedLine) (last : Station
     faithful = record {
       script = of_script;
       tells = told;
-      bare = subst (λ (l : logs.Log). (n : ℕ) → IsBare (logs.opening_of l n)) log_same (all_bare r (runs.handed_of (lists_of G log)) (numbered G last out.on) seat_well);
       linked = subst logs.IsLinked log_same (linking out.ran.first r out.hs (runs.handed_of (lists_of G log)) out.ran.is_first out.ran.course);
       lawful = subst logs.AreLawful log_same (of_each (λ l. IsLawful l.opening l.journal) r (runs.handed_of (lists_of G log)) (numbered G last out.on) (λ n here. (seat_right n here).0) (λ n. tt));
       caused = subst (λ (l : logs.Log). (n : ℕ) → Along next IsDone (opened (logs.opening_of l n)) (logs.journal_of l n)) log_same
           (of_each (λ l. Along next IsDone (opened l.opening) l.journal) r (runs.handed_of (lists_of G log)) (numbered G last out.on) (λ n here. (seat_right n here).1) (λ n. tt));
     }
 
-    pub decided_whole : AreDecidedWhole (log_of G log)
-    decided_whole =
+    pub decided_whole : logs.AreSoundOpenings (log_of G log) → AreDecidedWhole (log_of G log)
+    decided_whole sound =
         let p : IsProper (log_of G log) = subst IsProper log_same
-        (proper_course out.ran.first r out.hs (runs.handed_of (lists_of G log)) out.ran.is_first out.ran.course (numbered G last out.on) (λ n here. (seat_right n here).0) (sound_openings r (runs.handed_of (lists_of G log)) (numbered G last out.on) seat_well)) in
+        (proper_course out.ran.first r out.hs (runs.handed_of (lists_of G log)) out.ran.is_first out.ran.course (numbered G last out.on) (λ n here. (seat_right n here).0) (subst logs.AreSoundOpenings (sym log_same) sound)) in
         let h = history (log_of G log) p in
         record {
           whole = wholeness (log_of G log) p;
@@ -277,6 +268,19 @@ module _ {V : Type 0} (G : Ghosts V) (lines : List NumberedLine) (last : Station
           serial = record { replies = h.replies; files = h.files };
           charged = record { each = h.charged; last = h.charged_last };
         }
+
+    -- where the servers opened with nothing, what they opened on is sound
+    module _ (few : servers_said lines ≤ 8) (bare : (n : ℕ) → IsSeat r n → IsBare (seat_at r n).opening) where
+      seat_well : (n : ℕ) → IsSeat r n → IsOpenedWell (seat_at r n)
+      seat_well n here =
+          let (x, at, m, same) = seat_on G last out.on n here in
+          let tells : IsTrue (G.tells m.node.kept.vault) = subst (λ (s : Seat). IsTrue s.tells) same (seat_told n here) in
+          let right : node.IsRight (start_in G m.node) (G.held m.node.kept.vault) m.node = m.keeps.on.kept.right tells in
+          let all : (start_in G m.node).servers ≡ servers_said lines = m.keeps.on.all ∙ m.count_is ∙ out.count in
+          subst IsOpenedWell (sym same) (record { few = omega (arith, all, few); files = right.opening.parts.sound [] refl; sizes = right.opening.parts.sized; bare = subst (λ (s : Seat). IsBare s.opening) same (bare n here) })
+
+      pub decided_fresh : AreDecidedWhole (log_of G log)
+      decided_fresh = decided_whole (subst logs.AreSoundOpenings log_same (sound_openings r (runs.handed_of (lists_of G log)) (numbered G last out.on) seat_well))
 
     pub tallied : printed ≡ tallied_report G lines log
     tallied =
