@@ -44,6 +44,7 @@ module _ {V D : Type 0} (G : VaultGhosts V) (g : Ghosts D) (old new : Option (Li
     stored = x.stored;
     whole = x.whole;
     fresh = x.fresh;
+    settled = x.settled;
     alone = λ one. record { is = x.alone one; output = subst Written (x.report ∙ (x.alone one).counted) out };
   }
 

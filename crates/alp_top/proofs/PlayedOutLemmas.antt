@@ -40,7 +40,7 @@ use Rattle.alp_top.proofs.GoneAtLemmas.{IsGoneAt, IsDoneAt, done_at}
 use Rattle.alp_top.proofs.LonelyLemmas.{is_alone}
 use Rattle.alp_top.proofs.PairLemmas.{matched_at, same_there}
 use Rattle.alp_top.proofs.SeatedLemmas.{there_less, seat_on, many}
-use Rattle.alp_top.proofs.SeveralLemmas.{one_node, one_same, log_many, faithful, decided_whole, decided_fresh, tallied}
+use Rattle.alp_top.proofs.SeveralLemmas.{one_node, one_same, log_many, faithful, decided_whole, decided_fresh, settled, tallied}
 use Rattle.alp_top.proofs.StoredLemmas.{stored, bare_as, bare_blank}
 
 -- ---- openings
@@ -174,6 +174,7 @@ module _ {V D U : Type 0} (G : VaultGhosts V) (g : Ghosts D) (tells : Bool) (tol
     faithful = faithful G lines last vs text printed log rests rises out kept is all_told;
     stored = returned_all;
     whole = decided_whole G lines last vs text printed log rests rises out kept is all_told;
+    settled = settled G lines last vs text printed log rests rises out kept is all_told;
     fresh = λ none. decided_fresh G lines last vs text printed log rests rises out kept is all_told few (bare_fresh none);
     alone = λ one. is_alone G lines last vs text printed log rests rises out kept is all_told one
         (bare_alone one 1 (record { first = omega arith; last = (let count : length last.all.items ≡ servers_said lines = out.count in let all : length (course_of G last).seats ≡ length last.all.items = many G last out.on in omega (arith, one, count, all)) }));

@@ -15,11 +15,13 @@ use Rattle.alp_journal.specs.declared.entry.Entry.{Entry}
 use Rattle.alp_journal.specs.declared.log.Item.{Item}
 use Rattle.alp_history.specs.Log as logs
 use Rattle.alp_history.specs.RunLogs as runs
-use Rattle.alp_history.specs.Theorems.{IsProper}
+use Rattle.alp_history.specs.Theorems.{IsProper, IsSettled}
 use Rattle.alp_history.proofs.Merged.{history}
 use Rattle.alp_history.proofs.Agreed.{agreement}
 use Rattle.alp_history.proofs.EffectiveActs.{listing}
 use Rattle.alp_history.proofs.Wholes.{wholeness}
+use Rattle.alp_course.proofs.SeatLemmas.{of_seat}
+use Rattle.alp_course.specs.Resting.{AreSpelled}
 use Rattle.alp_course.specs.Courses.{Course, Seat, IsOneOf, IsSeat, no_seat, seat_at, TellAll}
 use Rattle.alp_course.specs.Links as links
 use Rattle.alp_course.specs.Links.{server_log}
@@ -268,6 +270,19 @@ module _ {V : Type 0} (G : Ghosts V) (lines : List NumberedLine) (last : Station
           serial = record { replies = h.replies; files = h.files };
           charged = record { each = h.charged; last = h.charged_last };
         }
+
+    -- behind it all they are at rest
+    pub settled : logs.AreSoundOpenings (log_of G log) → ((n : ℕ) → IsOneOf servers n → AreSpelled (logs.opening_of (log_of G log) n)) → (n : ℕ) → IsOneOf servers n → IsSettled (logs.final (log_of G log) n)
+    settled sound spelled n one =
+        let handed = runs.handed_of (lists_of G log) in
+        let seats : length r.seats ≡ servers = many G last out.on ∙ out.count in
+        let here : IsSeat r n = record { first = one.first; last = (let high : n ≤ servers = one.last in omega (arith, high, seats)) } in
+        let there : (k : ℕ) (seat : IsSeat r k) → logs.of (log_of G log) k ≡ server_log (seat_at r k) = (λ k seat. ap (λ (l : logs.Log). logs.of l k) (sym log_same) ∙ of_seat r handed k (numbered G last out.on) seat) in
+        let rested : IsSettled (seat_at r n).stand.state = out.rested handed told (subst logs.AreSoundOpenings (sym log_same) sound)
+        (λ k seat. subst (λ (l : logs.ServerLog). AreSpelled l.opening) (there k seat) (spelled k (record { first = seat.first; last = (let high : k ≤ length r.seats = seat.last in omega (arith, high, seats)) }))) n here in
+        let (x, at, m, same) = seat_on G last out.on n here in
+        let ends : (seat_at r n).stand.state ≡ state_after next (opened (seat_at r n).opening) (seat_at r n).journal = subst (λ (z : Seat). z.stand.state ≡ state_after next (opened z.opening) z.journal) (sym same) refl in
+        subst IsSettled (ends ∙ ap (λ (l : logs.ServerLog). state_after next (opened l.opening) l.journal) (sym (there n here))) rested
 
     -- where the servers opened with nothing, what they opened on is sound
     module _ (few : servers_said lines ≤ 8) (bare : (n : ℕ) → IsSeat r n → IsBare (seat_at r n).opening) where

@@ -10,7 +10,7 @@ use Rattle.alp_journal.specs.Moves.{next}
 use Rattle.alp_journal.specs.State.{opened}
 use Rattle.alp_history.specs.Handed.{ArePromisesKept}
 use Rattle.alp_history.specs.Log as logs
-use Rattle.alp_history.specs.Theorems.{AreWhole, AreListed, DoAgreeOnEnds}
+use Rattle.alp_history.specs.Theorems.{AreWhole, AreListed, DoAgreeOnEnds, IsSettled}
 use Rattle.alp_script.specs.Accepted.{servers_said}
 use Rattle.alp_script.specs.Reading.{GaveScript}
 use Rattle.alp_script.specs.Volumes.{sizes_said}
@@ -21,6 +21,7 @@ use Rattle.alp_course.specs.Courses.{Course, Occurrence, IsOneOf, TellAll, AreCo
 use Rattle.alp_course.specs.Links.{IsFirst, AreNumbered, server_log}
 use Rattle.alp_course.specs.Lone.{happenings_of}
 use Rattle.alp_course.specs.Plays.{ArePlayed}
+use Rattle.alp_course.specs.Resting.{AreSpelled}
 use Rattle.alp_course.specs.Settles.{AreUp, AreTaken}
 use Rattle.alp_course.specs.Turns.{turns_of, own_in}
 use Rattle.alp_cluster.specs.Runs.{StopNone}
@@ -141,6 +142,7 @@ pub record IsRunOf {V D : Type 0} (G : Ghosts V) (g : DiskGhosts D) (lines : Lis
   pub stored : AreReturned g lines (servers_said lines) before after (IsStoredBy G g lines log)
   pub whole : logs.AreSoundOpenings (log_of G log) → AreDecidedWhole (log_of G log)
   pub fresh : ((n : ℕ) → IsOneOf (servers_said lines) n → HasNoPart g lines n (before n)) → AreDecidedWhole (log_of G log)
+  pub settled : logs.AreSoundOpenings (log_of G log) → ((n : ℕ) → IsOneOf (servers_said lines) n → AreSpelled (logs.opening_of (log_of G log) n)) → (n : ℕ) → IsOneOf (servers_said lines) n → IsSettled (logs.final (log_of G log) n)
   pub alone : servers_said lines ≡ 1 → IsAlone G lines log
 
 -- ---- the headline
@@ -166,6 +168,8 @@ pub record IsPromised {V D : Type 0} (G : Ghosts V) (g : DiskGhosts D) (old new 
   -- each decided transaction is whole: on sound openings, and on disks without parts and decisions, as new ones are
   pub whole : logs.AreSoundOpenings (log_of G log) → AreDecidedWhole (log_of G log)
   pub fresh : ((n : ℕ) → IsOneOf (servers_said lines) n → HasNoPart g lines n (before n)) → AreDecidedWhole (log_of G log)
+  -- and behind it all no part lives, none is ready, and no decision stands, on sound openings whose notes name ids that are such
+  pub settled : logs.AreSoundOpenings (log_of G log) → ((n : ℕ) → IsOneOf (servers_said lines) n → AreSpelled (logs.opening_of (log_of G log) n)) → (n : ℕ) → IsOneOf (servers_said lines) n → IsSettled (logs.final (log_of G log) n)
   -- and of one server all six
   pub alone : servers_said lines ≡ 1 → IsPromisedAlone G lines Written log
 

@@ -276,7 +276,7 @@ HasRunCause g lines before after bay_before bay_after fault.OutOfMemory =
 HasRunCause g lines before after bay_before bay_after fault.JournalFull =
     (last : Course) × IsCutShort lines run_fault.JournalFull last × (server : ℕ) × IsOneOf (servers_said lines) server
     × AreReturned g lines (servers_said lines) before after (λ n taken given. IsLeftBy g lines last n taken given × (n ≡ server → HasFilled g lines last n taken given))
-HasRunCause g lines before after bay_before bay_after (fault.Disk server) = 
+HasRunCause g lines before after bay_before bay_after (fault.Disk server) =
     AreLeft g lines server before after (λ n taken given. (n ≡ server → Rose (g.faults taken) (g.faults given)) × ((n ≡ server → ⊥) → StopNone lines → g.faults given ≡ g.faults taken))
 HasRunCause g lines before after bay_before bay_after (fault.EpochEnd server) =
     StopsAt g lines server before after (IsAtItsEnd g lines server)
