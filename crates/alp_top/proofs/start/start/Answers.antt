@@ -11,7 +11,7 @@ use Rattle.alp_store.specs.Holding.{Holds, HoldsBy}
 use Rattle.alp_store.specs.Told.{contents_of}
 use Rattle.alp_vault.specs.Contents.{Contents}
 use Rattle.alp_vault.specs.Volumes.{AreServerNotes}
-use Rattle.alp_vault.proofs.VolumeLemmas.{noted_so_far, alone_so_far}
+use Rattle.alp_vault.proofs.VolumeLemmas.{alone_so_far}
 use Rattle.alp_store.specs.contracts.store.StoreVault.TheImpl as store_vault
 use Rattle.alp_wal.specs.Wal.{disk_of, anchor_of}
 use Rattle.alp_cluster.proofs.GoneLemmas.{stays_free}
@@ -60,7 +60,7 @@ returns-in-Err-start-clause-cause g c told =
     (subst (λ (a : ℕ). HasStartCause (G.tells (disk_of s)) a (anchor_of s).servers (anchor_of s).sizes (contents_of G s) (G.faults (disk_of s)) (G.faults e) (G.allowance e) f) h.named.0 k.cause) in
     subst (λ (q : NoReport). WhyNotBegun G c.args.sizes c.args.server c.args.servers q d c.into_disk.result) (sym c.of_start.ensures)
     (subst (λ (q : g.row.D.Denot). WhyNotBegun G c.args.sizes c.args.server c.args.servers (of_start c.args.server f) d q) (sym c.into_disk.ensures.disk)
-    (not_started G c.args.sizes c.args.server c.args.servers d e (G.tells (disk_of s)) (anchor_of s).sizes (contents_of G s) f (G.faults (disk_of s)) (G.allowance e) (anchor_of s).sizes.home cause (stays_free _ _ k.allowance (stays_free _ _ h.below.allowance c.requires.free)) h.cause.still (subst IsTrue (sym h.below.tells) told) c.requires.server.first c.requires.server.among ((let least : 64 ≤ (anchor_of s).sizes.area = h.sized.least_area in omega (arith, least))) (noted_so_far c.args.server c.args.servers (contents_of G s).notes h.notes)
+    (not_started G c.args.sizes c.args.server c.args.servers d e (G.tells (disk_of s)) (anchor_of s).sizes (contents_of G s) f (G.faults (disk_of s)) (G.allowance e) (anchor_of s).sizes.home cause (stays_free _ _ k.allowance (stays_free _ _ h.below.allowance c.requires.free)) h.cause.still (subst IsTrue (sym h.below.tells) told) c.requires.server.first c.requires.server.among ((let least : 64 ≤ (anchor_of s).sizes.area = h.sized.least_area in omega (arith, least))) h.notes
     (λ bad old several apart. (
     let into = c.into_disk.ensures in
     let quiet = k.noted (subst IsNoteFault (sym bad) tt) in
@@ -139,7 +139,7 @@ returns-in-Ok-start-clause-started g c =
           let high : c.args.server ≤ c.args.servers = c.requires.server.among in
           let first : c.args.server ≡ 1 = omega (arith, low, high, one) in
           alone_so_far (contents_of G s).notes
-          (subst (λ (b : ℕ). AreServerNotes 1 b (contents_of G s).notes) one (subst (λ (a : ℕ). AreServerNotes a c.args.servers (contents_of G s).notes) first (noted_so_far c.args.server c.args.servers (contents_of G s).notes h.notes))));
+          (subst (λ (b : ℕ). AreServerNotes 1 b (contents_of G s).notes) one (subst (λ (a : ℕ). AreServerNotes a c.args.servers (contents_of G s).notes) first h.notes)));
       new = λ given is.
           opened_new V G c.args.sizes c.args.server c.args.servers n (contents_of G s) vol d c.knows.ensures k.new.journal k.new.opening k.same.sizes (subst IsTrue (sym telling) given) rose (h.new given is).empty (ap (λ (a : Anchor). a.sizes) (h.new given is).anchor);
       found = λ given old.
