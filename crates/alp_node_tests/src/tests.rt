@@ -1,4 +1,7 @@
-//! What crosses threads of a server.
+//! What crosses threads of a server, and messages that it does not wait for.
+ghost use Rattle.std.specs.Prelude.{◌≤◌};
+
+mod strangers;
 
 use alp_base::Sizes;
 use alp_journal::Journal;
@@ -12,9 +15,11 @@ const SIZES: Sizes = Sizes {
     area: 64,
 };
 
-// A server on a vault in memory.
-fn in_memory(alloc: Global) -> Result<Node<MemVault>, Fail> {
-    match Node::start(alloc, 1, 1, MemVault::new(alloc, SIZES, 1, 1)) {
+// Server 1 of so many, on a vault in memory.
+fn in_memory(alloc: Global, servers: u8) -> Result<Node<MemVault>, Fail>
+    requires { (1 ≤ servers) × (servers ≤ 8) }
+{
+    match Node::start(alloc, 1, servers, MemVault::new(alloc, SIZES, 1, servers)) {
         Ok(node) => Ok(node),
         Err(_) => Err("a server".into()),
     }
@@ -28,7 +33,7 @@ fn crosses<T: Send + Sync>() {}
 fn servers_cross_threads(rt: HostRuntime) -> Result<(), Fail> {
     crosses::<Journal>();
     crosses::<Down<MemVault>>();
-    let node = in_memory(rt.alloc())?;
+    let node = in_memory(rt.alloc(), 1)?;
     assert!(rt; node.epoch() == 1 && !node.is_down());
     let (_, _, journal) = node.fall(0).into_parts();
     assert!(rt; journal.entries().is_empty());
