@@ -9,8 +9,8 @@ use std::test::*;
 
 const SERVERS: u8 = 3;
 
-// The page behind the records of a new volume.
-const FREE: u32 = 7;
+// The page behind the one record of a new volume, with its first home page.
+const FREE: u32 = 5;
 
 // Epoch 1 and clock 9.
 const CLOCK: &[u8] = b"\
