@@ -105,19 +105,24 @@ fn is_whole(alloc: Global, server: u8, calls: u32, both: &mut u32) -> Result<boo
     Ok(first == second)
 }
 
+// Whether it is so at each call at which the disk of this server stops, until none is left.
+fn is_always_whole(alloc: Global, server: u8) -> Result<bool, Fail> {
+    let mut both = 0u32;
+    for calls in 0..200u32 {
+        if !is_whole(alloc, server, calls, &mut both)? {
+            return Ok(false);
+        }
+        if is_up(alloc, server, calls)? {
+            return Ok(both > 1 && both <= calls);
+        }
+    }
+    Ok(false)
+}
+
 #[test]
 fn a_commit_stands_at_both_servers_or_at_none(rt: HostRuntime) -> Result<(), Fail> {
     for server in [1u8, 2] {
-        let mut both = 0u32;
-        let mut met = 0u32;
-        for calls in 0..200u32 {
-            assert!(rt; is_whole(rt.alloc(), server, calls, &mut both)?);
-            if is_up(rt.alloc(), server, calls)? {
-                break;
-            }
-            met = met.saturating_add(1);
-        }
-        assert!(rt; met > 2 && met < 200 && both > 1 && both < met);
+        assert!(rt; is_always_whole(rt.alloc(), server)?);
     }
     Ok(())
 }
