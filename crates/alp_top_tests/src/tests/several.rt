@@ -92,7 +92,7 @@ fn count(seen: &mut u32, holds: bool) {
 fn is_up(alloc: Global, server: u8, calls: u32) -> Result<bool, Fail> {
     let begin = format!(in alloc; "1 begin {server}\n")?;
     let report = stopped(alloc, server, calls, begin.as_bytes())?;
-    Ok(!has(report.as_slice(), b"19 refused 20\n"))
+    Ok(!has(report.as_slice(), b"20 refused 20\n"))
 }
 
 // Whether both servers have the owner, or neither has, when that server has started again. Both are counted.
