@@ -1,7 +1,7 @@
-//! What crosses threads of a server, and messages that it does not wait for.
-ghost use Rattle.std.specs.Prelude.{◌≤◌};
+//! What crosses threads of a server, and what servers of one run say to one another.
+ghost use Rattle.alp_vault.specs.Vault.{IsServer};
 
-mod strangers;
+mod several;
 
 use alp_base::Sizes;
 use alp_journal::Journal;
@@ -15,11 +15,14 @@ const SIZES: Sizes = Sizes {
     area: 64,
 };
 
-// Server 1 of so many, on a vault in memory.
-fn in_memory(alloc: Global, servers: u8) -> Result<Node<MemVault>, Fail>
-    requires { (1 ≤ servers) × (servers ≤ 8) }
+// A server on a vault in memory.
+type Server = Node<MemVault>;
+
+// One of three servers, by its number.
+fn in_memory(alloc: Global, server: u8) -> Result<Server, Fail>
+    requires { IsServer server 3 }
 {
-    match Node::start(alloc, 1, servers, MemVault::new(alloc, SIZES, 1, servers)) {
+    match Node::start(alloc, server, 3, MemVault::new(alloc, SIZES, server, 3)) {
         Ok(node) => Ok(node),
         Err(_) => Err("a server".into()),
     }
