@@ -89,7 +89,8 @@ fn shelf_on<D: Disk>(
 
 impl<D: Disk> Store<D> {
     /// A store on the disk of a server, one of so many. A new disk is formatted, to a volume of these sizes; any other keeps
-    /// its own, and nothing that a read gives of it is changed.
+    /// its own, and nothing that a read gives of it is changed. Notes of no format of the server, and files that it did not
+    /// give, are damage at place 0; what the notes say of one another is not looked at.
     pub fn start(
         alloc: Global,
         disk: D,
