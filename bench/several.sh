@@ -1,8 +1,9 @@
 #!/usr/bin/env bash
 # Plays scripts of eight servers and sixteen clients with the built program: each transaction writes a page at two servers and
 # commits there, with messages carried of themselves. Prints the nanoseconds a line of 2,000 and of 20,000 lines, the best of five
-# rounds less the time of a script of one line; then, where valgrind is there, the instructions of a message: what such a
-# transaction costs more than one of the same calls at one server, over its six messages.
+# rounds less the time of a script of one line. Then, where valgrind is there, the instructions of a line of both, which do not
+# depend on what else the machine does, and the instructions of a message: what such a transaction costs more than one of the same
+# calls at one server, over its six messages.
 set -eu
 cd "$(dirname "$0")/.."
 program=${ALPINE:-crates/alpine/out/alpine}
@@ -69,6 +70,10 @@ for lines in 2000 20000; do
     echo "$lines lines of sixteen clients at eight servers: $((($(best "$folder/$lines") - rest) / lines)) ns a line"
 done
 command -v valgrind > /dev/null || exit 0
+still=$(instructions "$folder/one")
+for lines in 2000 20000; do
+    echo "$lines lines: $((($(instructions "$folder/$lines") - still) / lines)) instructions a line"
+done
 for where in alone both; do
     crowd 2000 "$where" > "$folder/$where"
     crowd 4240 "$where" > "$folder/$where.more"

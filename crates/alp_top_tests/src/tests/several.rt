@@ -78,7 +78,7 @@ fn stopped(alloc: Global, server: u8, calls: u32, between: &[u8]) -> Result<Vec<
 
 // Whether the report has these lines in a row.
 fn has(report: &[u8], lines: &[u8]) -> bool {
-    report.windows(lines.len().max(1)).any(|part| part == lines)
+    !lines.is_empty() && report.windows(lines.len()).any(|part| part == lines)
 }
 
 // One more, where that holds.
