@@ -13,7 +13,8 @@ pub mod CutLemmas
 pub mod PlayedOutLemmas
 pub mod GivenLemmas
 pub mod GoneAtLemmas
-pub mod OpeningLemmas
+pub mod RestLemmas
+pub mod TogetherLemmas
 pub mod OwnerLemmas
 pub mod PairLemmas
 pub mod PlayedLemmas

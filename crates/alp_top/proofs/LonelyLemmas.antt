@@ -16,16 +16,14 @@ use Rattle.alp_journal.specs.Opening.{Start}
 use Rattle.alp_journal.specs.State.{State, opened}
 use Rattle.alp_journal.specs.declared.entry.Entry.{Entry}
 use Rattle.alp_journal.specs.declared.log.Item.{Item}
-use Rattle.alp_history.specs.Handed.{AreOfClients}
+use Rattle.alp_history.specs.Handed.{AreOfClients, ArePromisesKept}
 use Rattle.alp_history.specs.Items as items
 use Rattle.alp_history.specs.Log as logs
 use Rattle.alp_history.specs.Log.{decided}
 use Rattle.alp_history.specs.RunLogs as runs
 use Rattle.alp_history.specs.RunLogs.{item_of}
 use Rattle.alp_history.specs.Theorems.{IsProper}
-use Rattle.alp_history.proofs.Merged.{history}
 use Rattle.alp_history.proofs.Promises.{promises}
-use Rattle.alp_history.proofs.Wholes.{wholeness}
 use Rattle.alp_course.specs.Courses.{Course, Seat, IsSeat, seat_at, TellAll, ranks_from}
 use Rattle.alp_course.specs.Happens.{Stand, first_stand, AreRecorded}
 use Rattle.alp_course.specs.Links.{server_log}
@@ -111,6 +109,12 @@ module _ {V : Type 0} (G : Ghosts V) where
       ++ count_text (all i) (began i - all i))
 
 -- ---- all of it
+
+-- what holds of a run of one server
+pub record IsLoneRun {V : Type 0} (G : Ghosts V) (lines : List NumberedLine) (log : Log V) : Type 0 where
+  pub alone : IsAlone G lines log
+  pub kept : ArePromisesKept (log_of G log)
+  pub counted : tallied_report G lines log ≡ report_of G lines log
 
 module _ {V : Type 0} (G : Ghosts V) (lines : List NumberedLine) (last : Stations V) (vs : List (Vec Item Global)) (text printed : List ℕ) (log : Log V) (rests : Rests V) (rises : RisesFrom 1 lines)
     (out : HasPlayedOut G (servers_said lines) lines last vs text) (kept : AreRestsOf G last.all.items rests) (is : IsReportOf rests vs text log printed) (told : TellAll (course_of G last)) (alone : servers_said lines ≡ 1) (bare : IsBare (seat_at (course_of G last) 1).opening) where
@@ -223,37 +227,36 @@ module _ {V : Type 0} (G : Ghosts V) (lines : List NumberedLine) (last : Station
     log_single : log_of G log ≡ single as_read handed
     log_single = log_is G log x l.one
 
-    is_lone : IsAlone G lines log
+    is_lone : IsLoneRun G lines log
     is_lone =
         let p : IsProper (log_of G log) = subst IsProper (sym log_single) (proper as_read handed is_single) in
         let clients : AreOfClients (log_of G log) = subst AreOfClients (sym log_single) (of_clients as_read handed out.turns is_said) in
-        let h = history (log_of G log) p in
         let counts = tally_is (start_of G 1 x) x.journal l.found.ready l.found.decisions l.lawful own l.answered.1 in
         record {
-          server = x;
-          one = l.one;
-          number = l.number;
-          counted = report_is G lines log x l.one l.found.decisions counts.0 (counts.1 ∙ sym (decided_many as_read handed is_single) ∙ ap (λ (y : logs.Log). length (decided y)) (sym log_single));
-          faithful = record {
-            script = record {
-              occurred = out.hs;
-              played = subst (λ (n : ℕ). ArePlayed n lines (turns_of lines (lists_of G log)) out.hs) many script.played;
-              all = script.all;
-              many = script.many;
-              last = l.last_stand;
-              recorded = l.recorded;
-              up = l.up;
-              ranks = l.ranks;
+          alone = record {
+            server = x;
+            one = l.one;
+            number = l.number;
+            faithful = record {
+              script = record {
+                occurred = out.hs;
+                played = subst (λ (n : ℕ). ArePlayed n lines (turns_of lines (lists_of G log)) out.hs) many script.played;
+                all = script.all;
+                many = script.many;
+                last = l.last_stand;
+                recorded = l.recorded;
+                up = l.up;
+                ranks = l.ranks;
+              };
+              lawful = l.lawful;
+              caused = l.caused;
+              bare = l.found;
+              rests = l.calm;
             };
-            lawful = l.lawful;
-            caused = l.caused;
-            bare = l.found;
-            rests = l.calm;
           };
-          serial = record { replies = h.replies; files = h.files };
-          kept = record { told = promises (log_of G log) p clients; whole = wholeness (log_of G log) p };
-          charged = record { each = h.charged; last = h.charged_last };
+          kept = promises (log_of G log) p clients;
+          counted = report_is G lines log x l.one l.found.decisions counts.0 (counts.1 ∙ sym (decided_many as_read handed is_single) ∙ ap (λ (y : logs.Log). length (decided y)) (sym log_single));
         }
 
-  pub is_alone : IsAlone G lines log
+  pub is_alone : IsLoneRun G lines log
   is_alone = is_lone has_lone

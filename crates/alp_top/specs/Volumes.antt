@@ -22,6 +22,7 @@ use Rattle.alp_journal.specs.Moves.{next}
 use Rattle.alp_journal.specs.State.{State, opened}
 use Rattle.alp_node.specs.Downs.{IsLeftOf}
 use Rattle.alp_node.specs.Durable.{IsSaid, IsSaidThen}
+use Rattle.alp_node.specs.Nodes.{IsSoundStart}
 use Rattle.alp_node.specs.Starts.{raised, epoch_after}
 use Rattle.alp_regain.specs.Together.{AreTogether}
 use Rattle.alp_node.specs.declared.start.StartFault.TheVariants.{EpochEnd}
@@ -94,8 +95,8 @@ pub record IsSoundAlone (o : Start) (held : Contents) : Type 0 where
   pub clock : AreClockNotes held.notes
   pub bare : IsBare (start_at 1 1 o.sizes held.cells held.notes)
 
--- What the server holds in the end by its journal is what the disk that was given back holds, and what a crash leaves of it. Where this
--- holds, the disk did not fail.
+-- What the server holds in the end by its journal is what the disk that was given back holds, and what a crash leaves of it. What its notes
+-- said of its own files was sound. Where this holds, the disk did not fail.
 pub record IsStored {D : Type 0} (g : Ghosts D) (P : Type 0) (server servers : ℕ) (sizes : Sizes) (o : Start) (notes : Notes) (m : State) (taken given : D) : Type 0 where
   pub new : IsNew sizes (g.size taken) (g.seen taken) → IsOpenedNew sizes o notes
   pub found : (IsNew sizes (g.size taken) (g.seen taken) → ⊥) → IsOpenedOn server servers (g.size taken) (g.seen taken) o notes
@@ -106,6 +107,7 @@ pub record IsStored {D : Type 0} (g : Ghosts D) (P : Type 0) (server servers : �
   pub sized : AreSized (map.get held.cells)
   pub durable : Only (g.seen given) (g.may_leave given)
   pub alone : servers ≡ 1 → IsSoundAlone o held
+  pub sound : IsSoundStart o
   pub unfailed : P → g.faults given ≡ g.faults taken
 
 -- ---- how the bay stands behind the run

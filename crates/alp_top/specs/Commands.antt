@@ -1,0 +1,14 @@
+-- What a command plays.
+use Rattle.std.specs.Prelude.{ℕ, List, Option}
+use Rattle.alp_script.specs.Reading.{GaveScript, SaysScript}
+use Rattle.alp_script.specs.declared.numbered.NumberedLine.{NumberedLine}
+use Rattle.alp_words.specs.declared.command.Command.{Command}
+use Rattle.alp_words.specs.declared.command.Command.TheVariants as command
+
+-- these lines are to be played: of `play` they are the script that the source gave
+abbrev pub AreToPlay : Command → (old new : Option (List ℕ)) → List NumberedLine → Type 0
+AreToPlay (command.Play folder) old new lines = GaveScript old new lines
+
+-- there are lines to play: of `play` what the source has left is a script
+abbrev pub HasLines : Command → Option (List ℕ) → Type 0
+HasLines (command.Play folder) has = SaysScript has
