@@ -4,6 +4,7 @@ pub mod LonelyLemmas
 pub mod BeginLemmas
 pub mod BegunLemmas
 pub mod ClientLemmas
+pub mod CommandLemmas
 pub mod CloseLemmas
 pub mod CloseOneLemmas
 pub mod LeaveLemmas

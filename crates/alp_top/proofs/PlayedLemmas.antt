@@ -1,8 +1,8 @@
 -- the end of a run, as its status tells it
-use Rattle.std.specs.Prelude.{Bool, length, Option, None, Some, Result, Ok, Err, replicate, take}
+use Rattle.std.specs.Prelude.{Bool, length, Option, None, Some, Result, Ok, replicate, take}
 use Rattle.std.specs.Option.{option_map}
 use Rattle.std.specs.Io.KnownBytes.{Appends}
-use Rattle.std.proofs.Common.{inl, inr, ◌⊎◌, ◌≡◌, ◌<◌, ◌≤◌, ℕ, zero, suc, List, [], ◌∷◌, ◌++◌, refl, sym, ◌∙◌, ap, subst, arith, append-nil}
+use Rattle.std.proofs.Common.{inl, inr, ◌⊎◌, ◌≡◌, ◌<◌, ◌≤◌, ℕ, zero, suc, List, [], ◌∷◌, refl, sym, ◌∙◌, ap, subst, arith}
 use Rattle.alp_base.specs.Causes.{Rose}
 use Rattle.alp_base.specs.Pages.{zero_page}
 use Rattle.alp_base.specs.declared.faults.Sizes.{Sizes}
@@ -11,8 +11,6 @@ use Rattle.alp_course.specs.Courses.{IsOneOf}
 use Rattle.alp_disk.specs.Disk.{Image, page}
 use Rattle.alp_disk.specs.declared.disk.Disk.{Ghosts}
 use Rattle.alp_script.specs.Accepted.{servers_said}
-use Rattle.alp_script.specs.Reading.{GaveScript, GaveFlaw, SaysScript}
-use Rattle.alp_script.specs.Script.{script}
 use Rattle.alp_script.specs.Volumes.{sizes_said}
 use Rattle.alp_script.specs.declared.fault.ScriptFault.{ScriptFault}
 use Rattle.alp_script.specs.declared.numbered.NumberedLine.{NumberedLine}
@@ -22,8 +20,8 @@ use Rattle.alp_words.specs.Words.{folder_named, IsNamedBy}
 use Rattle.alp_words.specs.declared.command.Command.{Command}
 use Rattle.alp_words.specs.declared.command.Command.TheVariants as command
 use Rattle.alp_top.specs.Anywhere.{IsPlayedThrough, HasReported, IsDeclared}
-use Rattle.alp_top.specs.Commands.{AreToPlay, HasLines}
-use Rattle.alp_top.specs.Headline.{IsRunOf, IsPromised, IsPlayed, IsCutOff, HasLinesFor}
+use Rattle.alp_top.specs.Commands.{AreToPlay}
+use Rattle.alp_top.specs.Headline.{IsRunOf, IsPromised, IsPlayed, IsCutOff}
 use Rattle.alp_top.specs.Logs.{Log}
 use Rattle.alp_top.specs.Statuses.{IsLimit, OnTooLong, OnBadDisk, OnUntaken, OnFlaw, Kept, OnDone, OnWriteFault, OnCutShort, ended_by, folder_in, IsFolderTold, IsBayFaultTold, OnDiskFault, IsHandedOver, IsPlayedOrMemory, IsReadFaultTold, IsWriteFaultTold}
 use Rattle.alp_top.specs.Volumes.{pages_of, HasRunCause, IsBayFault, IsFolderLeft, IsOfServers, IsStartable, StartsOn}
@@ -33,35 +31,6 @@ use Rattle.alp_top.specs.declared.status.Status.{Status}
 use Rattle.alp_top.specs.declared.status.Status.TheVariants as status
 
 -- ---- the report is written, or a part of it
-
--- the lines of the script are to be played
-pub to_play : (words : List (List ℕ)) (c : Command) (old new : Option (List ℕ)) (lines : List NumberedLine) → IsNamedBy words c → GaveScript old new lines → AreToPlay c old new lines
-to_play words (command.Play folder) old new lines named script = script
-
--- and the source has a script left
-pub has_script : (c : Command) (has : Option (List ℕ)) → HasLines c has → SaysScript has
-has_script (command.Play folder) has h = h
-
--- what has a flaw is no script
-ok_not : {A : Type 0} (x : A) (flaw : ScriptFault) → ◌≡◌ {A = Result A ScriptFault} (Ok x) (Err flaw) → ⊥
-ok_not x flaw e = cc
-
-flawed_by : (bytes rest : List ℕ) (all : List ℕ) (lines : List NumberedLine) (flaw : ScriptFault) → all ≡ bytes ++ rest → script all ≡ Ok lines → script bytes ≡ Err flaw → ((more : List ℕ) → script (bytes ++ more) ≡ Err flaw) ⊎ (rest ≡ []) → ⊥
-flawed_by bytes rest all lines flaw is said outside (inl more) = ok_not lines flaw (sym said ∙ ap script is ∙ more rest)
-flawed_by bytes rest all lines flaw is said outside (inr none) = ok_not lines flaw (sym said ∙ ap script (is ∙ ap (λ (r : List ℕ). bytes ++ r) none ∙ append-nil bytes) ∙ outside)
-
-flawed_of : (old new : Option (List ℕ)) (flaw : ScriptFault) → GaveFlaw old new flaw → (bytes : List ℕ) (lines : List NumberedLine) → old ≡ Some bytes → script bytes ≡ Ok lines → ⊥
-flawed_of None new flaw h bytes lines left said = let wrong : ◌≡◌ {A = Option (List ℕ)} None (Some bytes) = left in cc
-flawed_of (Some xs) None flaw h bytes lines left said = absurd h.consumed
-flawed_of (Some xs) (Some ys) flaw h bytes lines left said =
-    let same : xs ≡ bytes = same_bytes xs bytes left in
-    flawed_by (h.front ++ h.piece) ys xs lines flaw h.consumed (ap script same ∙ said) h.outside h.final
-  where
-    same_bytes : (xs ys : List ℕ) → ◌≡◌ {A = Option (List ℕ)} (Some xs) (Some ys) → xs ≡ ys
-    same_bytes xs ys e = cc
-
-pub not_flawed_then : (words : List (List ℕ)) (c : Command) → IsNamedBy words c → (old new : Option (List ℕ)) (flaw : ScriptFault) → GaveFlaw old new flaw → HasLinesFor words old → ⊥
-not_flawed_then words c named old new flaw h says = (let s : SaysScript old = has_script c old (says c named) in flawed_of old new flaw h s.bytes s.lines s.left s.said)
 
 module _ {V D : Type 0} (G : VaultGhosts V) (g : Ghosts D) (words : List (List ℕ)) (c : Command) (named : IsNamedBy words c) (old new : Option (List ℕ)) (before after : ℕ → Option D) (lines : List NumberedLine) (log : Log V) (text : List ℕ) (script : AreToPlay c old new lines) (x : IsRunOf G g lines log text before after) where
   -- what is promised, where this was written of the text

@@ -1,6 +1,8 @@
 -- What a command plays.
 use Rattle.std.specs.Prelude.{ℕ, List, Option}
-use Rattle.alp_script.specs.Reading.{GaveScript, SaysScript}
+use Rattle.alp_script.specs.Reading.{GaveScript, GaveFlaw, GaveGoodLines, SaysScript}
+use Rattle.alp_script.specs.declared.fault.ScriptFault.{ScriptFault}
+use Rattle.alp_script.specs.declared.fault.ScriptFault.TheVariants as flaw
 use Rattle.alp_script.specs.declared.numbered.NumberedLine.{NumberedLine}
 use Rattle.alp_words.specs.declared.command.Command.{Command}
 use Rattle.alp_words.specs.declared.command.Command.TheVariants as command
@@ -12,3 +14,10 @@ AreToPlay (command.Play folder) old new lines = GaveScript old new lines
 -- there are lines to play: of `play` what the source has left is a script
 abbrev pub HasLines : Command → Option (List ℕ) → Type 0
 HasLines (command.Play folder) has = SaysScript has
+
+-- Why there are none: what the source gave has that flaw, or the source failed. A flaw is told only where there are no lines.
+abbrev pub HasNoLines : Command → (old new : Option (List ℕ)) → ScriptFault → Type 0
+HasNoLines c old new (flaw.Bad n) = GaveFlaw old new (flaw.Bad n) × (HasLines c old → ⊥)
+HasNoLines c old new flaw.TooLong = GaveFlaw old new flaw.TooLong × (HasLines c old → ⊥)
+HasNoLines c old new flaw.ReadFault = GaveGoodLines old new
+HasNoLines c old new flaw.OutOfMemory = Unit {0}

@@ -174,6 +174,8 @@ pub record IsCutShort (lines : List NumberedLine) (f : RunFault) (last : Course)
 -- says; of a server that is down, it is that or what its last write makes of that.
 pub record IsLeftBy {D : Type 0} (g : Ghosts D) (lines : List NumberedLine) (last : Course) (server : ℕ) (taken given : D) : Type 0 where
   pub notes : Notes
+  pub started : (seat_at last server).opening ≡ start_at server (servers_said lines) (seat_at last server).opening.sizes (seat_at last server).opening.cells notes
+  pub sound : IsSoundStart (seat_at last server).opening
   pub new : IsNew (sizes_said lines server) (g.size taken) (g.seen taken) → IsOpenedNew (sizes_said lines server) (seat_at last server).opening notes
   pub found : (IsNew (sizes_said lines server) (g.size taken) (g.seen taken) → ⊥) → IsOpenedOn server (servers_said lines) (g.size taken) (g.seen taken) (seat_at last server).opening notes
   pub left : (image : Image) → g.may_leave given image
@@ -198,6 +200,7 @@ pub record HasUsedUp {D : Type 0} (g : Ghosts D) (lines : List NumberedLine) (la
   pub started : (seat_at last server).opening ≡ start_at server (servers_said lines) (seat_at last server).opening.sizes (seat_at last server).opening.cells notes
   pub new : IsNew (sizes_said lines server) (g.size taken) (g.seen taken) → IsOpenedNew (sizes_said lines server) (seat_at last server).opening notes
   pub found : (IsNew (sizes_said lines server) (g.size taken) (g.seen taken) → ⊥) → IsOpenedOn server (servers_said lines) (g.size taken) (g.seen taken) (seat_at last server).opening notes
+  pub sound : IsSoundStart (seat_at last server).opening
   pub left : (image : Image) → g.may_leave given image
       → (c : Contents) × Holds server (servers_said lines) (g.size given) (seat_at last server).opening.sizes.home image c × IsLeftOf (state_after next (opened (seat_at last server).opening) (seat_at last server).journal) c
   pub read : g.may_leave given (g.seen given)

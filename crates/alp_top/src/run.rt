@@ -1,10 +1,12 @@
 //! A whole run, from the words of the program to the bytes of the report and the disks that are given back.
-ghost use Rattle.std.specs.Prelude.{◌≡◌, ℕ, false, take, map, string_bytes};
+ghost use Rattle.std.specs.Prelude.{◌≡◌, ℕ, false, take, map, string_bytes, IfOk, IfErr};
 ghost use Rattle.std.specs.Io.KnownBytes.{Appends};
 ghost use Rattle.std.specs.Option.{option_map};
 ghost use Rattle.alp_base.specs.Causes.{Rose};
-ghost use Rattle.alp_script.specs.Reading.{GaveFlaw, GaveGoodLines};
+ghost use Rattle.alp_script.specs.Accepted.{IsAccepted};
+ghost use Rattle.alp_script.specs.Reading.{GaveFlaw, GaveGoodLines, HasReadCause};
 ghost use Rattle.alp_top.specs.Anywhere.{IsToldAnywhere};
+ghost use Rattle.alp_top.specs.Commands.{AreToPlay, HasNoLines};
 ghost use Rattle.alp_top.specs.Headline.{IsPlayed, IsCutOff, HasCause, StartsHere, IsOfOne, HasLinesFor};
 ghost use Rattle.alp_top.specs.Statuses.{AreWordsTold, IsTold, OnDone, OnBadWords, OnFlaw, OnReadFault, OnWriteFault, OnCutShort, OnUntaken, folder_in, IsReadFaultTold, IsWriteFaultTold, IsBayFaultTold, IsFolderTold, OnUnwritten, IsPlayedOrMemory, IsHandedOver};
 ghost use Rattle.alp_words.specs.Words.{are_bad, folder_named};
@@ -29,6 +31,23 @@ fn folder_of(command: &Command) -> Option<&str>
 {
     match command {
         Command::Play { folder } => folder.as_deref(),
+    }
+}
+
+// The lines that the command plays.
+fn lines_of<S: Source>(
+    alloc: Global,
+    command: &Command,
+    script: &mut S,
+) -> Result<Vec<NumberedLine>, ScriptFault>
+    ensures lines { IfOk result (λ lines. AreToPlay command.now (S.left script.old) (S.left script.new) lines.items) }
+    ensures accepted { IfOk result (λ lines. IsAccepted lines.items) }
+    ensures none { IfErr result (HasNoLines command.now (S.left script.old) (S.left script.new)) }
+    ensures cause { HasReadCause (S.faults script.old) (S.faults script.new) result }
+{
+    accepted_lines();
+    match command {
+        Command::Play { folder: _ } => read_script(alloc, script),
     }
 }
 
@@ -94,7 +113,7 @@ pub fn run_alpine<S: Source, K: Sink, B: Bay>(
         Err(WordsFault::Bad) => return Status::BadWords,
         Err(WordsFault::OutOfMemory) => return Status::OutOfMemory,
     };
-    let lines = match read_script(alloc, script) {
+    let lines = match lines_of(alloc, &command, script) {
         Ok(lines) => lines,
         Err(ScriptFault::Bad { line }) => return Status::BadScript { line },
         Err(ScriptFault::TooLong) => {
@@ -105,7 +124,6 @@ pub fn run_alpine<S: Source, K: Sink, B: Bay>(
         Err(ScriptFault::ReadFault) => return Status::ReadFault,
         Err(ScriptFault::OutOfMemory) => return Status::OutOfMemory,
     };
-    accepted_lines();
     let played: &[NumberedLine] = &lines;
     match run_bay(alloc, played, folder_of(&command), bay) {
         Ok(ended) => hand_over(&ended, out),
