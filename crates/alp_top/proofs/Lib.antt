@@ -6,6 +6,8 @@ pub mod BegunLemmas
 pub mod ClientLemmas
 pub mod CloseLemmas
 pub mod CloseOneLemmas
+pub mod KeptCourse
+pub mod KeptLemmas
 pub mod LeaveLemmas
 pub mod LookLemmas
 pub mod FilledLemmas
