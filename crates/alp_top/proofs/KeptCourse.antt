@@ -15,7 +15,7 @@ use Rattle.alp_history.specs.Handed.{IsOfNone}
 use Rattle.alp_history.specs.Log.{IsIn}
 use Rattle.alp_history.proofs.Linked.{in-left, in-right}
 use Rattle.alp_course.specs.Happens.{Happening, sent_it, timed_out, ticked, forced, stop_set, restarted, lifts, finds, Stand, first_stand, IsEntryOf, IsNone, ComesTo, Takes, Happens}
-use Rattle.alp_course.specs.Courses.{Course, Seat, first_seat, no_seat, seat_at, seat_after, IsSeat, IsAt, Occurrence, at, looks, brings, loses, repeats, rests, next_message, taking, Arrives, IsBrought, IsLost, IsRepeated, Occurs, AreCourse}
+use Rattle.alp_course.specs.Courses.{Course, Seat, first_seat, no_seat, seat_at, seat_after, last_rank, IsSeat, IsAt, Occurrence, at, looks, brings, loses, repeats, rests, next_message, taking, Arrives, IsBrought, IsLost, IsRepeated, Occurs, AreCourse}
 use Rattle.alp_course.specs.Links.{AreIdle, IsFirst}
 use Rattle.alp_course.specs.Plays.{sent_of}
 use Rattle.alp_course.proofs.LinkLemmas.{all_at}
@@ -397,7 +397,7 @@ arrives_done r after from to seen m a = quiet_done r after to seen a.entries a.s
 
 brought_done : (r after : Course) (from to : ℕ) (o : Option Message) → IsBrought r from to o after → HasDone r after []
 brought_done r after from to None h = none_done r after (ap (λ (c : Course). c.seats) h)
-brought_done r after from to (Some m) h = (let d : HasDone (taking r from to m) after [] = arrives_done (taking r from to m) after from to _ m h in record { many = d.many; each = d.each; servers = λ y i. absurd i })
+brought_done r after from to (Some m) h = (let d : HasDone (taking r from to m) after [] = arrives_done (taking r from to m) after from to (last_rank (seat_at r from).ranks) m h in record { many = d.many; each = d.each; servers = λ y i. absurd i })
 
 lost_done : (r after : Course) (from to : ℕ) (o : Option Message) → IsLost r from to o after → HasDone r after []
 lost_done r after from to None h = none_done r after (ap (λ (c : Course). c.seats) h)
