@@ -7,6 +7,8 @@ pub mod ClientLemmas
 pub mod CommandLemmas
 pub mod CloseLemmas
 pub mod CloseOneLemmas
+pub mod KeptCourse
+pub mod KeptLemmas
 pub mod LeaveLemmas
 pub mod LookLemmas
 pub mod FilledLemmas
