@@ -9,6 +9,9 @@ pub mod CloseOneLemmas
 pub mod LeaveLemmas
 pub mod LookLemmas
 pub mod FilledLemmas
+pub mod CountedFits
+pub mod CountedLemmas
+pub mod CountedLists
 pub mod CutLemmas
 pub mod PlayedOutLemmas
 pub mod GivenLemmas
