@@ -1,12 +1,10 @@
 -- what is promised of a run of one server
-use Rattle.std.specs.Prelude.{Vec, Bool, true, false, cond, min, IsTrue, sum, flat_map, map as list_map, slice_get, Option, None, Some}
+use Rattle.std.specs.Prelude.{Vec, Bool, true, false, IsTrue, map as list_map, None}
 use Rattle.std.specs.Global.{Global}
 use Rattle.std.specs.List.{AllByRecursion}
-use Rattle.std.proofs.Common.{◌≡◌, ℕ, zero, suc, ◌+◌, ◌-◌, ◌<◌, ◌≤◌, ◌^◌, List, [], ◌∷◌, ◌++◌, length, refl, sym, ◌∙◌, ap, subst, arith, append_assoc, append-nil}
+use Rattle.std.proofs.Common.{◌≡◌, ℕ, ◌-◌, List, [], ◌∷◌, length, refl, sym, ◌∙◌, ap, subst, arith}
 use Rattle.std.proofs.lemmas.List.{length-map}
 use Rattle.alp_base.specs.declared.ids.TransId.{TransId}
-use Rattle.alp_files.specs.Apart.{AreSized}
-use Rattle.alp_files.specs.Sound.{AreSound}
 use Rattle.alp_journal.specs.Account.{AreOwnEvents}
 use Rattle.alp_journal.specs.Along.{Along, state_after}
 use Rattle.alp_journal.specs.Answered.{IsAnswered}
@@ -19,7 +17,6 @@ use Rattle.alp_journal.specs.declared.log.Item.{Item}
 use Rattle.alp_history.specs.Handed.{AreOfClients}
 use Rattle.alp_history.specs.Items as items
 use Rattle.alp_history.specs.Log as logs
-use Rattle.alp_history.specs.Log.{decided}
 use Rattle.alp_history.specs.RunLogs as runs
 use Rattle.alp_history.specs.RunLogs.{item_of}
 use Rattle.alp_history.specs.Theorems.{IsProper}
@@ -31,84 +28,38 @@ use Rattle.alp_course.specs.Happens.{Stand, first_stand, AreRecorded}
 use Rattle.alp_course.specs.Links.{server_log}
 use Rattle.alp_course.specs.Lone.{happenings_of}
 use Rattle.alp_course.specs.Plays.{ArePlayed}
-use Rattle.alp_course.specs.Turns.{Turn, own_in, turns_of, turns_text}
+use Rattle.alp_course.specs.Turns.{own_in, turns_of}
 use Rattle.alp_course.proofs.PlayLemmas.{played_sent}
 use Rattle.alp_node.specs.Nodes as node
 use Rattle.alp_node.specs.Nodes.{start_in}
-use Rattle.alp_report.specs.Reports.{count_text}
 use Rattle.alp_script.specs.Accepted.{RisesFrom, servers_said}
 use Rattle.alp_script.specs.declared.numbered.NumberedLine.{NumberedLine}
-use Rattle.alp_session.specs.Crowds.{client_at}
 use Rattle.alp_vault.specs.declared.vault.Vault.{Ghosts}
 use Rattle.alp_cluster.specs.Runs.{HasPlayedOut}
-use Rattle.alp_cluster.specs.Servers.{IsOn, IsDone}
+use Rattle.alp_cluster.specs.Servers.{IsDone}
 use Rattle.alp_cluster.specs.Station.{standing, seat_for}
 use Rattle.alp_cluster.specs.Stations.{course_of}
 use Rattle.alp_cluster.specs.declared.stations.Stations.{Stations}
 use Rattle.alp_top.specs.Endings.{AreRestsOf, IsReportOf}
-use Rattle.alp_top.specs.Headline.{IsOfScript, IsAloneScript, IsAloneFaithful, IsAlone}
+use Rattle.alp_top.specs.Headline.{IsOfScript, IsAlone}
 use Rattle.alp_top.specs.Logs.{Log, ServerOfLog, openings, start_of, log_of, lists_of}
-use Rattle.alp_top.specs.Reports.{end_of, files_text_of, owners_text_of, begun_at, counts_text, report_of, tallied_text, tallied_report}
-use Rattle.alp_top.specs.Tallies.{sum_of, one_more, no_tally, is_made, none_seen, seen_from, with_seen, tally_from, tally_in, begun_in, committed_in}
+use Rattle.alp_top.specs.Reports.{end_of}
 use Rattle.alp_top.specs.Volumes.{IsBare}
 use Rattle.alp_top.specs.declared.finish.Rests.{Rests}
-use Rattle.alp_top.specs.declared.tally.Seen.{Seen}
-use Rattle.alp_top.specs.declared.tally.Tally.{Tally}
 use Rattle.alp_top.proofs.AloneLemmas.{one_there, same_one, own_recorded, IsLone, lone}
 use Rattle.alp_top.proofs.BegunLemmas.{begun_of_run}
 use Rattle.alp_top.proofs.ClientLemmas.{sent_alone, IsSaid, of_clients}
 use Rattle.alp_top.proofs.SeatedLemmas.{seat_on}
-use Rattle.alp_top.proofs.SeveralLemmas.{log_many, turns_same, of_script}
-use Rattle.alp_top.proofs.SingleLemmas.{single, IsSingle, proper, decided_many}
-use Rattle.alp_top.proofs.TallyLemmas.{tally_is}
+use Rattle.alp_top.proofs.CountedLemmas.{counted}
+use Rattle.alp_top.proofs.SeveralLemmas.{log_many, turns_same, of_script, faithful}
+use Rattle.alp_top.proofs.SingleLemmas.{single, IsSingle, proper}
 
--- ---- counts fit their numbers
-
-record IsSmall (t : Tally) : Type 0 where
-  begun : t.begun ≤ 2 ^ 32 - 1
-  committed : t.committed ≤ 2 ^ 32 - 1
-
-small_if : (b : Bool) (t u : Tally) → IsSmall t → IsSmall u → IsSmall (cond b t u)
-small_if true t u h k = h
-small_if false t u h k = k
-
-least_if : (b : Bool) (m n most : ℕ) → m ≤ most → n ≤ most → cond b m n ≤ most
-least_if true m n most h k = h
-least_if false m n most h k = k
-
-small_with : (t : Tally) (s : Seen) → IsSmall t → IsSmall (with_seen t s)
-small_with t s h =
-    small_if s.stops (record t { tried = s.tried })
-    (record { begun = sum_of t.begun s.begun; committed = cond (is_made t.tried s.found) (one_more (sum_of t.committed s.committed)) (sum_of t.committed s.committed); tried = None })
-    (record { begun = h.begun; committed = h.committed })
-    (record { begun = omega arith; committed = least_if (is_made t.tried s.found) (one_more (sum_of t.committed s.committed)) (sum_of t.committed s.committed) (2 ^ 32 - 1) (omega arith) (omega arith) })
-
-small_from : (t : Tally) (es : List Entry) → IsSmall t → IsSmall (tally_from t es)
-small_from t [] h = h
-small_from t (e ∷ es) h = small_from (with_seen t (seen_from none_seen e.acts)) es (small_with t (seen_from none_seen e.acts) h)
-
-small : (es : List Entry) → IsSmall (tally_in es)
-small es = small_from no_tally es (record { begun = omega arith; committed = omega arith })
-
--- ---- the report
+-- ---- its log
 
 module _ {V : Type 0} (G : Ghosts V) where
   -- the log of one server as the theorems read it
   log_is : (log : Log V) (x : ServerOfLog V) → log.servers.items ≡ x ∷ [] → log_of G log ≡ single (runs.server_log (openings G) 1 x) (runs.handed_of (lists_of G log))
   log_is log x one = ap (λ (xs : List (ServerOfLog V)). record { servers = list_map (runs.server_log (openings G) (length xs)) xs; handed = runs.handed_of (lists_of G log) }) one
-
-  -- as many are decided as its entries count
-  report_is : (lines : List NumberedLine) (log : Log V) (x : ServerOfLog V) → log.servers.items ≡ x ∷ [] → (start_of G 1 x).decisions ≡ [] → (tally_in x.journal).begun ≡ length (end_of G 1 x).begun
-      → (tally_in x.journal).committed ≡ length (decided (log_of G log)) → tallied_report G lines log ≡ report_of G lines log
-  report_is lines log x one none begun committed =
-      let few = small x.journal in
-      let all : committed_in log.servers.items ≡ length (decided (log_of G log)) = ap committed_in one ∙ (let low : (tally_in x.journal).committed ≤ 2 ^ 32 - 1 = few.committed in let same : min ((tally_in x.journal).committed + 0) (2 ^ 32 - 1) ≡ (tally_in x.journal).committed = omega (arith, low) in same) ∙ committed in
-      let began : begun_in log.servers.items ≡ sum (list_map (begun_at G (length log.servers.items)) log.servers.items) =
-      ap begun_in one ∙ (let low : (tally_in x.journal).begun ≤ 2 ^ 32 - 1 = few.begun in let same : min ((tally_in x.journal).begun + 0) (2 ^ 32 - 1) ≡ (tally_in x.journal).begun = omega (arith, low) in same) ∙ begun
-      ∙ (let less : length (end_of G 1 x).begun ≡ 0 + (length (end_of G 1 x).begun - 0) = omega arith in less) ∙ (λ i. sum ((length (end_of G 1 x).begun - length (sym none i)) ∷ []))
-      ∙ sym (ap (λ (xs : List (ServerOfLog V)). sum (list_map (begun_at G (length xs)) xs)) one) in
-      (λ i. turns_text (turns_of lines (lists_of G log)) ++ flat_map (λ x. files_text_of (end_of G (length log.servers.items) x)) log.servers.items ++ flat_map (λ x. owners_text_of (end_of G (length log.servers.items) x)) log.servers.items
-      ++ count_text (all i) (began i - all i))
 
 -- ---- all of it
 
@@ -228,12 +179,11 @@ module _ {V : Type 0} (G : Ghosts V) (lines : List NumberedLine) (last : Station
         let p : IsProper (log_of G log) = subst IsProper (sym log_single) (proper as_read handed is_single) in
         let clients : AreOfClients (log_of G log) = subst AreOfClients (sym log_single) (of_clients as_read handed out.turns is_said) in
         let h = history (log_of G log) p in
-        let counts = tally_is (start_of G 1 x) x.journal l.found.ready l.found.decisions l.lawful own l.answered.1 in
         record {
           server = x;
           one = l.one;
           number = l.number;
-          counted = report_is G lines log x l.one l.found.decisions counts.0 (counts.1 ∙ sym (decided_many as_read handed is_single) ∙ ap (λ (y : logs.Log). length (decided y)) (sym log_single));
+          counted = counted G lines log (faithful G lines last vs text printed log rests rises out kept is told) p.sound;
           faithful = record {
             script = record {
               occurred = out.hs;

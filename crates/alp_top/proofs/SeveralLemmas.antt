@@ -2,7 +2,7 @@
 use Rattle.std.specs.Prelude.{Vec, Bool, true, false, IsTrue, flat_map, map as list_map, get_or, slice_get, Option, Some}
 use Rattle.std.specs.Global.{Global}
 use Rattle.std.specs.List.{AllByRecursion}
-use Rattle.std.proofs.Common.{inl, inr, ◌≡◌, ℕ, zero, suc, ◌+◌, ◌-◌, ◌<◌, ◌≤◌, List, [], ◌∷◌, ◌++◌, length, refl, sym, ◌∙◌, ap, subst, arith, append_assoc}
+use Rattle.std.proofs.Common.{inl, inr, ◌≡◌, ℕ, zero, suc, ◌+◌, ◌-◌, ◌<◌, ◌≤◌, List, [], ◌∷◌, ◌++◌, length, refl, sym, ◌∙◌, ap, subst, arith}
 use Rattle.std.proofs.lemmas.List.{length-map}
 use Rattle.alp_files.specs.Cells.{Cells}
 use Rattle.alp_journal.specs.Along.{Along, state_after}
@@ -306,11 +306,6 @@ module _ {V : Type 0} (G : Ghosts V) (lines : List NumberedLine) (last : Station
         let ends : printed_of is.summary ≡ flat_map (λ x. files_text_of (end_of G servers x)) rests.logs.items ++ flat_map (λ x. owners_text_of (end_of G servers x)) rests.logs.items ++ tallied_text log.servers.items =
         (λ i. files_same G servers is.summary.servers.now rests.logs.items said i ++ owners_same G servers is.summary.servers.now rests.logs.items said i
         ++ count_text ((is.committed ∙ committed) i) ((is.aborted ∙ (λ j. begun j - committed j)) i)) in
-        let shown : List ℕ = turns_text (turns_of lines (lists_of G log)) in
-        let files : List ℕ = flat_map (λ x. files_text_of (end_of G servers x)) rests.logs.items in
-        let owners : List ℕ = flat_map (λ x. owners_text_of (end_of G servers x)) rests.logs.items in
         is.report ∙ (λ i. text_same i ++ ends i)
-        ∙ sym (append_assoc shown (files ++ owners) (tallied_text log.servers.items))
-        ∙ ap (λ (zs : List ℕ). zs ++ tallied_text log.servers.items) (sym (append_assoc shown files owners))
-        ∙ (λ i. turns_text (turns_of lines (lists_of G log)) ++ flat_map (λ x. files_text_of (end_of G (sym log_many i) x)) (sym is.servers i) ++ flat_map (λ x. owners_text_of (end_of G (sym log_many i) x)) (sym is.servers i)
-        ++ tallied_text log.servers.items)
+        ∙ (λ i. turns_text (turns_of lines (lists_of G log))
+        ++ (flat_map (λ x. files_text_of (end_of G (sym log_many i) x)) (sym is.servers i) ++ flat_map (λ x. owners_text_of (end_of G (sym log_many i) x)) (sym is.servers i) ++ tallied_text log.servers.items))
