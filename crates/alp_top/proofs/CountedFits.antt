@@ -10,7 +10,7 @@ use Rattle.alp_journal.specs.declared.log.Item.{Item}
 use Rattle.alp_journal.specs.declared.log.Sent.{Sent}
 use Rattle.alp_journal.specs.declared.log.Sent.TheVariants as sent
 use Rattle.alp_journal.specs.declared.message.Message.{Message}
-use Rattle.alp_course.specs.Courses.{Course, Seat, IsSeat, IsAt, no_seat, first_seat, seat_at, seat_after, Occurrence, at, looks, brings, loses, repeats, rests, next_message, taking, Arrives, IsBrought, IsLost, IsRepeated, Occurs, AreCourse}
+use Rattle.alp_course.specs.Courses.{Course, Seat, IsSeat, IsAt, no_seat, seat_at, seat_after, Occurrence, at, looks, brings, loses, repeats, rests, next_message, taking, Arrives, IsBrought, IsLost, IsRepeated, Occurs, AreCourse}
 use Rattle.alp_course.specs.Happens.{Happening, sent_it, timed_out, ticked, forced, stop_set, restarted, lifts, finds, Stand, IsEntryOf, IsNone, ComesTo, Takes, Happens}
 use Rattle.alp_course.specs.Links.{IsFirst, AreIdle}
 use Rattle.alp_course.proofs.SeatLemmas.{as_many, each_seat}

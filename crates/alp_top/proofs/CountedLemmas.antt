@@ -1,7 +1,7 @@
 -- the last line of a report: the transactions that the servers' entries count are those that were decided, and the others that began
-use Rattle.std.specs.Prelude.{min, sum, sum_by, flat_map, map as list_map, slice_get, get_or}
+use Rattle.std.specs.Prelude.{min, sum, map as list_map, get_or}
 use Rattle.std.specs.List.{AllByRecursion}
-use Rattle.std.proofs.Common.{◌≡◌, ℕ, zero, suc, ◌+◌, ◌-◌, ◌<◌, ◌≤◌, ◌^◌, List, [], ◌∷◌, ◌++◌, length, refl, sym, ◌∙◌, ap, subst, arith, inl, inr}
+use Rattle.std.proofs.Common.{◌≡◌, ℕ, suc, ◌+◌, ◌-◌, ◌<◌, ◌≤◌, ◌^◌, List, [], ◌∷◌, ◌++◌, length, refl, sym, ◌∙◌, ap, subst, arith, inl, inr}
 use Rattle.std.proofs.lemmas.List.{length-map}
 use Rattle.std.proofs.lemmas.List.Sums.{sum_by-cons}
 use Rattle.alp_journal.specs.Answered.{FitsJournal}
@@ -9,7 +9,7 @@ use Rattle.alp_history.specs.Log as logs
 use Rattle.alp_history.specs.Log.{ServerLog, IsIn, decided}
 use Rattle.alp_history.specs.RunLogs as runs
 use Rattle.alp_history.specs.Theorems.{IsProper}
-use Rattle.alp_course.specs.Courses.{Course, Seat, IsSeat, no_seat, seat_at}
+use Rattle.alp_course.specs.Courses.{Course, Seat, IsSeat, no_seat}
 use Rattle.alp_course.specs.Links as links
 use Rattle.alp_course.specs.Links.{AreNumbered, server_log}
 use Rattle.alp_course.specs.Turns.{turns_of, turns_text}
@@ -19,7 +19,7 @@ use Rattle.alp_script.specs.declared.numbered.NumberedLine.{NumberedLine}
 use Rattle.alp_vault.specs.declared.vault.Vault.{Ghosts}
 use Rattle.alp_top.specs.Headline.{IsFaithful}
 use Rattle.alp_top.specs.Logs.{Log, ServerOfLog, openings, log_of, lists_of}
-use Rattle.alp_top.specs.Reports.{end_of, files_text_of, owners_text_of, begun_at, held_said, counts_text, summary_said, tallied_text, tallied_summary, Shown, shown_lines, report_for, tallied_for, report_of, tallied_report}
+use Rattle.alp_top.specs.Reports.{begun_at, held_said, counts_text, summary_said, tallied_text, tallied_summary, Shown, shown_lines, report_for, tallied_for, report_of, tallied_report}
 use Rattle.alp_top.specs.Tallies.{tally_in, begun_in, committed_in}
 use Rattle.alp_top.proofs.CountedFits.{journals_fit}
 use Rattle.alp_top.proofs.CountedLists.{AreOfNumbers, own_sum, decided_many, IsCountedAt, counted_at}

@@ -1,11 +1,12 @@
 -- what the entries of a journal count is what its state says: how many transactions it began, and how many of its own it committed
-use Rattle.std.specs.Prelude.{true, false, Bool, cond, ◌||◌, ◌==◌, not, ◌&&◌, nat_le, nat_lt, max, filter, flat_map, Option, None, Some, is_some, slice_get, map as list_map}
+use Rattle.std.specs.Prelude.{true, false, Bool, cond, ◌||◌, ◌==◌, not, ◌&&◌, nat_le, nat_lt, max, filter, flat_map, Option, None, Some, is_some, slice_get}
 use Rattle.std.specs.List.{list_any, AllByRecursion}
 use Rattle.std.specs.declared.cmp.Ordering.{Ordering}
 use Rattle.std.specs.declared.cmp.Ordering.TheVariants.{Less, Equal, Greater}
 use Rattle.std.specs.FinMap.Entries.{put, by_order}
 use Rattle.std.proofs.Common.{inl, inr, ◌⊎◌, ◌≡◌, ℕ, suc, ◌+◌, ◌-◌, ◌<◌, ◌≤◌, ◌^◌, List, [], ◌∷◌, ◌++◌, length, take, get_or, length-append, append-nil, refl, sym, ◌∙◌, ap, subst, arith, eq-eqb}
-use Rattle.std.proofs.lemmas.Bool.{eqb-true, or_parts, and_parts}
+use Rattle.std.proofs.lemmas.Bool.{or_parts, and_parts}
+use Rattle.std.proofs.lemmas.Bool.Decides.{eqb_tells}
 use Rattle.std.proofs.lemmas.List.{take_more, length-map}
 use Rattle.std.proofs.Math.Nat.{le-max_left, le-max_right}
 use Rattle.std.proofs.lemmas.Grind.{flat_map-append}
@@ -21,8 +22,8 @@ use Rattle.alp_files.specs.declared.reply.Reply.TheVariants as reply
 use Rattle.alp_journal.specs.Account.{AreEarlier}
 use Rattle.alp_journal.specs.Along.{Along, Where, state_after}
 use Rattle.alp_journal.specs.Answered.{FitsJournal, entries_limit}
-use Rattle.alp_journal.specs.Coordinator.{Fate, Vote, Finishing, decided, decision_in}
-use Rattle.alp_journal.specs.Deeds.{Deed, Begins, Joins, Enters, Quits, Aborts, Grants, Performs, Releases, Readies, Applies, Registers, Finishes, Hears, Decides, Ends, Acknowledges, Forgets, Restarts}
+use Rattle.alp_journal.specs.Coordinator.{Fate, Finishing, decided, decision_in}
+use Rattle.alp_journal.specs.Deeds.{Deed, Begins, Enters, Aborts, Grants, Performs, Releases, Readies, Applies, Hears, Decides, Forgets, Restarts}
 use Rattle.alp_journal.specs.Holder.{Holder, Life, with_life, new_life, grants, performs, readies, lapsed, is_part, emptied, in_history, commits, if_ready, holder_after, lives_noted}
 use Rattle.alp_journal.specs.Ids.{same_trans, stamp_cmp, has_join}
 use Rattle.alp_journal.specs.Laws.{drawn_by, begun_in, begun_new, latest_vote, DecidesAt, MayDecide, TellsIn, TellsDecided, IsFound, Regains, regained_by, IsStopped, TellsStop, IsLawfulDeed, IsLawfulEntry, IsLawful}
@@ -36,6 +37,7 @@ use Rattle.alp_journal.specs.declared.event.Event.{Event}
 use Rattle.alp_journal.specs.declared.event.Event.TheVariants as event
 use Rattle.alp_journal.specs.declared.message.Message.TheVariants as msg
 use Rattle.alp_journal.proofs.FoundLemmas.{found_after, found-append, IsAside, aside_found, aside_after, event_aside, none_performed, holders-after}
+use Rattle.alp_journal.proofs.HeldLemmas.{latest-after}
 use Rattle.alp_journal.proofs.IdLemmas.{same_trans-true, same_trans-itself, all-append}
 use Rattle.alp_journal.proofs.Origins.{IsEventFrom, event-from, all-cond}
 use Rattle.alp_journal.proofs.StampLemmas.{put-last, AreEarlier-push}
@@ -84,11 +86,7 @@ own_put n k d (x ∷ xs) other = go (stamp_cmp k x.0) (own_put n k d xs other)
     go Greater rest = ap (λ (m : ℕ). cond (x.0.trans.server == n) (m + 1) m) rest
 
 unlike : (a b : ℕ) → (a ≡ b → ⊥) → (a == b) ≡ false
-unlike a b other = go (a == b) refl
-  where
-    go : (c : Bool) → (a == b) ≡ c → c ≡ false
-    go true is = absurd (other (eqb-true a b is))
-    go false is = refl
+unlike a b other = elim (eqb_tells a b) [ inl same ↦ absurd (other same.1) | inr away ↦ away.0 ]
 
 earlier_put : (m : ℕ) (k : Stamp) (d : Decided) (xs : List (Stamp × Decided)) → AreEarlier m xs → k.ts ≤ m → AreEarlier m (put stamp_cmp k d xs)
 earlier_put m k d [] h le = (le, tt)
@@ -102,10 +100,6 @@ earlier_put m k d (x ∷ xs) h le = go (stamp_cmp k x.0) (earlier_put m k d xs h
 earlier_up : (m n : ℕ) (ds : List (Stamp × Decided)) → m ≤ n → AreEarlier m ds → AreEarlier n ds
 earlier_up m n [] le h = tt
 earlier_up m n (d ∷ ds) le h = ((let low : d.0.ts ≤ m = h.0 in omega (arith, low, le)), earlier_up m n ds le h.1)
-
-latest_least : (n : ℕ) (vs : List Vote) → n ≤ latest_vote n vs
-latest_least n [] = omega arith
-latest_least n (v ∷ vs) = omega (arith, le-max_left n v.1, latest_least (max n v.1) vs)
 
 -- a part that is another one now
 put_life : (l m : Life) → l.is_early ≡ false → (k : Life) → ◌≡◌ {A = Option Life} (Some m) (Some k) → m.is_early ≡ l.is_early → k.is_early ≡ false
@@ -682,7 +676,7 @@ module _ (n : ℕ) where
   decided_grows : (x : Event) (s : State) (stamp : Stamp) (js : List JoinNo) → IsPlain s.holder → MayDecide x s stamp js → Grows s (state_deed s (Decides stamp js)) 0 1
   decided_grows x s stamp js p may =
       let (l, is, unvoted) = may.live in
-      let late : s.holder.clock < stamp.ts = (let time : stamp.ts ≡ latest_vote (s.holder.clock + 1) may.votes = may.time in omega (arith, time, latest_least (s.holder.clock + 1) may.votes)) in
+      let late : s.holder.clock < stamp.ts = (let time : stamp.ts ≡ latest_vote (s.holder.clock + 1) may.votes = may.time in omega (arith, time, latest-after (s.holder.clock + 1) may.votes)) in
       let done : HasCommitted s.holder (commits s.holder stamp (Some l)) = commit_more s.holder stamp l p is (may.own ∙ p.here) late in
       let same : holder_after s.holder (Decides stamp js) ≡ commits s.holder stamp (Some l) = ap (commits s.holder stamp) is in
       record {
@@ -788,7 +782,7 @@ module _ (n : ℕ) where
           life = l;
           is = refl;
           own = may.own ∙ ap (λ (h : Holder). h.server) same_before ∙ p.here;
-          late = (let time : stamp.ts ≡ latest_vote (before_write.holder.clock + 1) may.votes = may.time in omega (arith, time, clock_is, latest_least (before_write.holder.clock + 1) may.votes));
+          late = (let time : stamp.ts ≡ latest_vote (before_write.holder.clock + 1) may.votes = may.time in omega (arith, time, clock_is, latest-after (before_write.holder.clock + 1) may.votes));
           live = here;
           found = λ ready clock stamps.
               around s x r (a ∷ b ∷ []) aside ready clock stamps ∙ ap (λ (ds : List Deed). found_after s.holder ready clock stamps ds) (only_write (Decides stamp js) is)
