@@ -93,7 +93,7 @@ earlier_put m k d [] h le = (le, tt)
 earlier_put m k d (x ∷ xs) h le = go (stamp_cmp k x.0) (earlier_put m k d xs h.1 le)
   where
     go : (o : Ordering) → AreEarlier m (put stamp_cmp k d xs) → AreEarlier m (by_order o ((k, d) ∷ x ∷ xs) ((x.0, d) ∷ xs) (x ∷ put stamp_cmp k d xs))
-    go Less rest = (le, h.0, h.1)
+    go Less rest = (le, h)
     go Equal rest = (h.0, h.1)
     go Greater rest = (h.0, rest)
 
