@@ -3,7 +3,6 @@ pub mod AloneLemmas
 pub mod LonelyLemmas
 pub mod BeginLemmas
 pub mod BegunLemmas
-pub mod ClientLemmas
 pub mod CommandLemmas
 pub mod CloseLemmas
 pub mod CloseOneLemmas
@@ -12,6 +11,9 @@ pub mod KeptLemmas
 pub mod LeaveLemmas
 pub mod LookLemmas
 pub mod FilledLemmas
+pub mod CountedFits
+pub mod CountedLemmas
+pub mod CountedLists
 pub mod CutLemmas
 pub mod PlayedOutLemmas
 pub mod GivenLemmas
@@ -25,7 +27,6 @@ pub mod RefusedLemmas
 pub mod RunLemmas
 pub mod SeatedLemmas
 pub mod SeveralLemmas
-pub mod SingleLemmas
 pub mod StartedLemmas
 pub mod StoredLemmas
 pub mod StreamLemmas

@@ -20,7 +20,7 @@ use Rattle.alp_words.specs.Words.{folder_named, IsNamedBy}
 use Rattle.alp_words.specs.declared.command.Command.{Command}
 use Rattle.alp_words.specs.declared.command.Command.TheVariants as command
 use Rattle.alp_top.specs.Anywhere.{IsPlayedThrough, HasReported, IsDeclared}
-use Rattle.alp_top.specs.Commands.{AreToPlay}
+use Rattle.alp_top.specs.Commands.{AreToPlay, shows_lines}
 use Rattle.alp_top.specs.Headline.{IsRunOf, IsPromised, IsPlayed, IsCutOff}
 use Rattle.alp_top.specs.Logs.{Log}
 use Rattle.alp_top.specs.Statuses.{IsLimit, OnTooLong, OnBadDisk, OnUntaken, OnFlaw, Kept, OnDone, OnWriteFault, OnCutShort, ended_by, folder_in, IsFolderTold, IsBayFaultTold, OnDiskFault, IsHandedOver, IsPlayedOrMemory, IsReadFaultTold, IsWriteFaultTold}
@@ -32,7 +32,14 @@ use Rattle.alp_top.specs.declared.status.Status.TheVariants as status
 
 -- ---- the report is written, or a part of it
 
-module _ {V D : Type 0} (G : VaultGhosts V) (g : Ghosts D) (words : List (List ℕ)) (c : Command) (named : IsNamedBy words c) (old new : Option (List ℕ)) (before after : ℕ → Option D) (lines : List NumberedLine) (log : Log V) (text : List ℕ) (script : AreToPlay c old new lines) (x : IsRunOf G g lines log text before after) where
+-- the command shows lines or not
+pub run_shown : {V D : Type 0} (G : VaultGhosts V) (g : Ghosts D) (a b : Bool) (lines : List NumberedLine) (log : Log V) (text : List ℕ) (before after : ℕ → Option D) → a ≡ b → IsRunOf G g a lines log text before after → IsRunOf G g b lines log text before after
+run_shown G g a b lines log text before after same h = subst (λ (d : Bool). IsRunOf G g d lines log text before after) same h
+
+pub through_shown : {V : Type 0} (G : VaultGhosts V) (a b : Bool) (lines : List NumberedLine) (log : Log V) (text : List ℕ) → a ≡ b → IsPlayedThrough G a lines log text → IsPlayedThrough G b lines log text
+through_shown G a b lines log text same h = subst (λ (d : Bool). IsPlayedThrough G d lines log text) same h
+
+module _ {V D : Type 0} (G : VaultGhosts V) (g : Ghosts D) (words : List (List ℕ)) (c : Command) (named : IsNamedBy words c) (old new : Option (List ℕ)) (before after : ℕ → Option D) (lines : List NumberedLine) (log : Log V) (text : List ℕ) (script : AreToPlay c old new lines) (x : IsRunOf G g (shows_lines c) lines log text before after) where
   -- what is promised, where this was written of the text
   promised : (Written : List ℕ → Type 0) → Written text → IsPromised G g words old new Written before after log
   promised Written out = record {
@@ -57,7 +64,7 @@ module _ {V D : Type 0} (G : VaultGhosts V) (g : Ghosts D) (words : List (List �
   is_cut_off wrote written l same count out = subst (λ (l : Log V). IsCutOff G g words old new wrote written before after l) (sym same) (promised (λ bytes. (count : ℕ) × Appends wrote written (take count bytes)) (count, out))
 
 -- what was written of any run
-module _ {V : Type 0} (G : VaultGhosts V) (words : List (List ℕ)) (c : Command) (named : IsNamedBy words c) (old new : Option (List ℕ)) (lines : List NumberedLine) (log : Log V) (text : List ℕ) (script : AreToPlay c old new lines) (through : IsPlayedThrough G lines log text) where
+module _ {V : Type 0} (G : VaultGhosts V) (words : List (List ℕ)) (c : Command) (named : IsNamedBy words c) (old new : Option (List ℕ)) (lines : List NumberedLine) (log : Log V) (text : List ℕ) (script : AreToPlay c old new lines) (through : IsPlayedThrough G (shows_lines c) lines log text) where
   pub has_reported : (wrote written : Option (List ℕ)) (l : Log V) → l ≡ log → Appends wrote written text → HasReported G words old new (λ ts. Appends wrote written ts) l
   has_reported wrote written l same out =
       subst (λ (l : Log V). HasReported G words old new (λ ts. Appends wrote written ts) l) (sym same) (record { command = c; named = named; lines = lines; script = script; text = text; through = through; output = out })

@@ -10,6 +10,7 @@ use Rattle.alp_course.specs.Links.{server_log}
 use Rattle.alp_disk.specs.declared.disk.Disk.{Ghosts}
 use Rattle.alp_history.specs.Log as logs
 use Rattle.alp_history.specs.RunLogs as runs
+use Rattle.alp_history.proofs.Promises.{promises}
 use Rattle.alp_journal.specs.Along.{state_after}
 use Rattle.alp_journal.specs.Moves.{next}
 use Rattle.alp_journal.specs.Opening.{Start}
@@ -32,19 +33,21 @@ use Rattle.alp_cluster.specs.declared.fault.RunFault.{RunFault}
 use Rattle.alp_cluster.specs.declared.station.Station.{Station}
 use Rattle.alp_cluster.specs.declared.stations.Stations.{Stations}
 use Rattle.alp_top.specs.Disks.{AreBegun, AreOthersSame, AreClosed, notes_in}
-use Rattle.alp_top.specs.Endings.{IsLogAt, AreRestsOf, IsReportOf}
-use Rattle.alp_top.specs.Headline.{IsStoredBy, AreAtRest, AreFromDisks, IsRunOf}
+use Rattle.alp_top.specs.Endings.{IsLogAt, AreRestsOf, IsReportOf, shown_text}
+use Rattle.alp_top.specs.Commands.{shown_as}
+use Rattle.alp_top.specs.Headline.{IsStoredBy, AreAtRest, AreFromDisks, IsAlone, IsRunOf}
 use Rattle.alp_top.specs.Logs.{Log, ServerOfLog, openings, start_of, log_of}
 use Rattle.alp_top.specs.Reports.{end_of}
 use Rattle.alp_top.specs.Together.{BeginsSound, OpensOn, OpenOn}
 use Rattle.alp_top.specs.Volumes.{pages_of, IsBare, IsStored, AreReturned}
 use Rattle.alp_top.specs.declared.finish.Rests.{Rests}
 use Rattle.alp_top.proofs.GoneAtLemmas.{IsGoneAt, IsDoneAt, done_at}
-use Rattle.alp_top.proofs.LonelyLemmas.{IsLoneRun, is_alone}
+use Rattle.alp_top.proofs.CountedLemmas.{counted_for}
+use Rattle.alp_top.proofs.LonelyLemmas.{is_alone}
 use Rattle.alp_top.proofs.PairLemmas.{matched_at, same_there}
 use Rattle.alp_top.proofs.SeatedLemmas.{there_less, seat_on, many}
 use Rattle.alp_top.proofs.RestLemmas.{only_clock}
-use Rattle.alp_top.proofs.SeveralLemmas.{one_node, one_same, log_many, faithful, AreDecidedSo, proper_log, decided_so, log_at, at_rest, tallied}
+use Rattle.alp_top.proofs.SeveralLemmas.{one_node, one_same, log_many, faithful, AreDecidedSo, proper_log, decided_so, told_clients, log_at, at_rest, tallied}
 use Rattle.alp_top.proofs.StoredLemmas.{stored, bare_as}
 use Rattle.alp_top.proofs.TogetherLemmas.{IsPlain, fresh_together, lone_together, plain_together, opens_by, all_open}
 
@@ -85,7 +88,7 @@ tell_all G s f = all_map (λ (z : Seat). IsTrue z.tells) (seat_of G) s.all.items
 module _ {V D U : Type 0} (G : VaultGhosts V) (g : Ghosts D) (tells : Bool) (told : IsTrue tells) (lines : List NumberedLine) (before mid after : ℕ → Option D) (ns : List (NodeState V)) (ds : List D) (first last : Stations V) (stand : AreStationsOf ns first.all.items)
     (many_is : length ns ≡ servers_said lines) (few : servers_said lines ≤ 8) (begun : AreBegun G g tells lines before 1 ns ds) (same : IsTrue tells → AreOthersSame (servers_said lines) before mid) (gone : HaveGone {T = Unit {0}} G (StopNone lines) first last (Ok tt)) (u : U)
     (closed : AreClosed {T = U} G g tells (length last.all.items) last.all.items mid after (Ok u)) (opens : openings_of last ≡ openings_of first) (vs : List (Vec Item Global)) (text printed : List ℕ) (log : Log V) (rests : Rests V) (rises : RisesFrom 1 lines)
-    (out : HasPlayedOut G (servers_said lines) lines last vs text) (kept : AreRestsOf G last.all.items rests) (is : IsReportOf rests vs text log printed) where
+    (out : HasPlayedOut G (servers_said lines) lines last vs text) (kept : AreRestsOf G last.all.items rests) (shows : Bool) (is : IsReportOf rests vs (shown_text shows text) log printed) where
   abbrev at_end : (n : ℕ) → IsOneOf (servers_said lines) n → IsDoneAt {T = U} G g tells lines before after first last (Ok u) n
   at_end = done_at G g tells lines before mid after ns ds first last stand many_is begun same tt (Ok u) gone closed
 
@@ -120,7 +123,7 @@ module _ {V D U : Type 0} (G : VaultGhosts V) (g : Ghosts D) (tells : Bool) (tol
 
   -- on sound openings they are at rest
   rest_of : BeginsSound (log_of G log) → AreAtRest (log_of G log)
-  rest_of = at_rest G lines last vs text printed log rests rises out kept is all_told
+  rest_of = at_rest G lines last vs text printed log rests rises out kept shows is all_told
 
   -- what it holds is what its journal says
   stored_at : (n : ℕ) (here : IsOneOf (servers_said lines) n) → IsStoredBy G g lines log n (at_end n here).at.taken (at_end n here).at.given
@@ -145,7 +148,7 @@ module _ {V D U : Type 0} (G : VaultGhosts V) (g : Ghosts D) (tells : Bool) (tol
       let notes_are : notes_in G x.rest ≡ (openings G).notes y.opening = ap (λ (o : Opened V). (G.held o.vault.value).notes) (ap (λ (k : NodeState V). k.opening) (sym node_is) ∙ ap (λ (k : NodeState V). k.opening) (one_node s.server m.node is_log.node m.keeps.stands is_log.stands) ∙ sym is_log.is.opened) in
       let final_is : logs.final (log_of G log) n ≡ end_of G (servers_said lines) y =
       ap (λ (l : logs.ServerLog). state_after next (opened l.opening) l.journal)
-      (log_at G lines last vs text printed log rests rises out kept is all_told n seat ∙ ap server_log (sits ∙ sym (ap (seat_for G s.is_fused s.ranks.items) m.keeps.stands)) ∙ same_log) in
+      (log_at G lines last vs text printed log rests rises out kept shows is all_told n seat ∙ ap server_log (sits ∙ sym (ap (seat_for G s.is_fused s.ranks.items) m.keeps.stands)) ∙ same_log) in
       let on_disk : IsStored g (StopNone lines) n (servers_said lines) (sizes_said lines n) (start_of G (servers_said lines) y) ((openings G).notes y.opening) (end_of G (servers_said lines) y) x.at.taken x.at.given =
       subst (λ (q : State). IsStored g (StopNone lines) n (servers_said lines) (sizes_said lines n) (start_of G (servers_said lines) y) ((openings G).notes y.opening) q x.at.taken x.at.given) state_is
       (subst (λ (o : Start). IsStored g (StopNone lines) n (servers_said lines) (sizes_said lines n) o ((openings G).notes y.opening) (state_of G x.rest) x.at.taken x.at.given) start_is
@@ -158,7 +161,7 @@ module _ {V D U : Type 0} (G : VaultGhosts V) (g : Ghosts D) (tells : Bool) (tol
         number = sym (ap (λ (o : Start). o.server) start_is) ∙ number;
         stored = on_disk;
         ends = λ begins. on_disk.said.cells ∙ ap (λ (q : State). q.holder.cells) (sym final_is) ∙ sym ((rest_of begins).ends.files n);
-        noted = λ begins. only_clock (log_of G log) (proper_log G lines last vs text printed log rests rises out kept is all_told begins.sound) n ((rest_of begins).settled n) (end_of G (servers_said lines) y).ids.epoch on_disk.held.notes
+        noted = λ begins. only_clock (log_of G log) (proper_log G lines last vs text printed log rests rises out kept shows is all_told begins.sound) n ((rest_of begins).settled n) (end_of G (servers_said lines) y).ids.epoch on_disk.held.notes
             (subst (λ (q : State). AreNotesOf q (end_of G (servers_said lines) y).ids.epoch on_disk.held.notes) (sym final_is) on_disk.said.notes);
       }
 
@@ -179,7 +182,7 @@ module _ {V D U : Type 0} (G : VaultGhosts V) (g : Ghosts D) (tells : Bool) (tol
   }
 
   many_logs : length log.servers.items ≡ servers_said lines
-  many_logs = log_many G lines last vs text printed log rests rises out kept is
+  many_logs = log_many G lines last vs text printed log rests rises out kept shows is
 
   -- each server opened on its disk
   open_all : OpenOn g lines before 1 (log_of G log).servers
@@ -208,21 +211,27 @@ module _ {V D U : Type 0} (G : VaultGhosts V) (g : Ghosts D) (tells : Bool) (tol
         (given, there, subst (λ (m : ℕ). IsPlain g m n given) (sym same) plain));
   }
 
-  lone_run : servers_said lines ≡ 1 → IsLoneRun G lines log
+  lone_run : servers_said lines ≡ 1 → IsAlone G lines log
   lone_run one =
-      is_alone G lines last vs text printed log rests rises out kept is all_told one
+      is_alone G lines last vs text printed log rests rises out kept shows is all_told one
       (bare_alone one 1 (record { first = omega arith; last = (let count : length last.all.items ≡ servers_said lines = out.count in let all : length (course_of G last).seats ≡ length last.all.items = many G last out.on in omega (arith, one, count, all)) }))
 
-  pub run_over : IsRunOf G g lines log printed before after
+  pub run_over : IsRunOf G g shows lines log printed before after
   run_over = record {
     count = many_logs;
-    report = tallied G lines last vs text printed log rests rises out kept is all_told;
-    faithful = faithful G lines last vs text printed log rests rises out kept is all_told;
+    report = tallied G lines last vs text printed log rests rises out kept shows is all_told;
+    faithful = faithful G lines last vs text printed log rests rises out kept shows is all_told;
     stored = returned_all;
     history = λ sound.
-        let h : AreDecidedSo (log_of G log) = decided_so G lines last vs text printed log rests rises out kept is all_told sound in
-        record { serial = h.serial; charged = h.charged; whole = h.whole; kept = λ one. (lone_run one).kept; counted = λ one. (lone_run one).counted };
+        let h : AreDecidedSo (log_of G log) = decided_so G lines last vs text printed log rests rises out kept shows is all_told sound in
+        record {
+          serial = h.serial;
+          charged = h.charged;
+          whole = h.whole;
+          kept = promises (log_of G log) (proper_log G lines last vs text printed log rests rises out kept shows is all_told sound) (told_clients G lines last vs text printed log rests rises out kept shows is all_told);
+          counted = counted_for G lines log (faithful G lines last vs text printed log rests rises out kept shows is all_told) sound (shown_as shows);
+        };
     rest = rest_of;
     disks = from_disks;
-    alone = λ one. (lone_run one).alone;
+    alone = lone_run;
   }

@@ -2,7 +2,7 @@
 use Rattle.std.specs.Prelude.{Vec, Bool, true, false, IsTrue, flat_map, map as list_map, get_or, slice_get, Option, Some}
 use Rattle.std.specs.Global.{Global}
 use Rattle.std.specs.List.{AllByRecursion}
-use Rattle.std.proofs.Common.{inl, inr, ◌≡◌, ℕ, zero, suc, ◌+◌, ◌-◌, ◌<◌, ◌≤◌, List, [], ◌∷◌, ◌++◌, length, refl, sym, ◌∙◌, ap, subst, arith, append_assoc}
+use Rattle.std.proofs.Common.{inl, inr, ◌≡◌, ℕ, zero, suc, ◌+◌, ◌-◌, ◌<◌, ◌≤◌, List, [], ◌∷◌, ◌++◌, length, refl, sym, ◌∙◌, ap, subst, arith}
 use Rattle.std.proofs.lemmas.List.{length-map}
 use Rattle.alp_files.specs.Cells.{Cells}
 use Rattle.alp_journal.specs.Along.{Along, state_after}
@@ -13,9 +13,11 @@ use Rattle.alp_journal.specs.Opening.{Start, start_at}
 use Rattle.alp_journal.specs.State.{State, opened}
 use Rattle.alp_journal.specs.declared.entry.Entry.{Entry}
 use Rattle.alp_journal.specs.declared.log.Item.{Item}
+use Rattle.alp_history.specs.Handed.{AreOfClients}
 use Rattle.alp_history.specs.Items as items
 use Rattle.alp_history.specs.Log as logs
 use Rattle.alp_history.specs.RunLogs as runs
+use Rattle.alp_history.specs.RunLogs.{item_of}
 use Rattle.alp_history.specs.Theorems.{IsProper, IsSettled}
 use Rattle.alp_history.proofs.Merged.{history}
 use Rattle.alp_history.proofs.Agreed.{agreement}
@@ -31,6 +33,7 @@ use Rattle.alp_course.specs.Plays.{ArePlayed}
 use Rattle.alp_course.specs.Settles.{IsUpIn}
 use Rattle.alp_course.specs.Turns.{Turn, lists_in, own_in, turns_of, turns_text}
 use Rattle.alp_course.proofs.LinkLemmas.{linking}
+use Rattle.alp_course.proofs.PlayLemmas.{played_sent}
 use Rattle.alp_course.proofs.TurnLemmas.{turns_are}
 use Rattle.alp_node.specs.Nodes as node
 use Rattle.alp_node.specs.Nodes.{start_in}
@@ -46,20 +49,22 @@ use Rattle.alp_vault.specs.declared.vault.Vault.{Ghosts}
 use Rattle.alp_cluster.specs.Runs.{HasPlayedOut}
 use Rattle.alp_cluster.specs.Servers.{IsOn, IsDone, state_of}
 use Rattle.alp_cluster.specs.Station.{standing, seat_for, seat_of}
-use Rattle.alp_cluster.specs.Stations.{IsManned, course_of}
+use Rattle.alp_cluster.specs.Stations.{IsManned, course_of, state_at}
 use Rattle.alp_cluster.specs.declared.server.Server.{Server}
 use Rattle.alp_cluster.specs.declared.server.Server.TheVariants.{Up, Fallen}
 use Rattle.alp_cluster.specs.declared.station.Station.{Station}
 use Rattle.alp_cluster.specs.declared.stations.Stations.{Stations}
 use Rattle.alp_top.specs.Anywhere.{IsPrintedOf, IsPlayedThrough}
-use Rattle.alp_top.specs.Endings.{AreCellsOf, IsHeldAt, IsLogAt, AreRestsOf, IsReportOf}
+use Rattle.alp_top.specs.Commands.{shown_as}
+use Rattle.alp_top.specs.Endings.{AreCellsOf, IsHeldAt, IsLogAt, AreRestsOf, IsReportOf, shown_text}
 use Rattle.alp_top.specs.Headline.{IsOfScript, IsFaithful, IsSerial, IsCharged, AreDecidedWhole, AreAtRest}
 use Rattle.alp_top.specs.Logs.{Log, ServerOfLog, openings, start_of, log_of, lists_of}
 use Rattle.alp_top.specs.Pairs.{AreMatched}
-use Rattle.alp_top.specs.Reports.{end_of, holding_in, files_text_of, owners_text_of, tallied_text, tallied_report}
+use Rattle.alp_top.specs.Reports.{end_of, holding_in, files_text_of, owners_text_of, tallied_text, shown_lines, tallied_for}
 use Rattle.alp_top.specs.Tallies.{begun_in, committed_in}
 use Rattle.alp_top.specs.Together.{BeginsSound}
 use Rattle.alp_top.specs.declared.finish.Rests.{Rests}
+use Rattle.alp_top.proofs.KeptLemmas.{clients_kept}
 use Rattle.alp_top.proofs.PairLemmas.{matched_many, matched_map, same_there}
 use Rattle.alp_top.proofs.SeatedLemmas.{there_less, seat_on, numbered, of_each, proper_course, many}
 use Rattle.alp_top.proofs.SummaryLemmas.{held_is, owned_is}
@@ -170,7 +175,7 @@ module _ {V : Type 0} (G : Ghosts V) (servers : ℕ) where
 -- ---- a run that is over
 
 module _ {V : Type 0} (G : Ghosts V) (lines : List NumberedLine) (last : Stations V) (vs : List (Vec Item Global)) (text printed : List ℕ) (log : Log V) (rests : Rests V) (rises : RisesFrom 1 lines)
-    (out : HasPlayedOut G (servers_said lines) lines last vs text) (kept : AreRestsOf G last.all.items rests) (is : IsReportOf rests vs text log printed) where
+    (out : HasPlayedOut G (servers_said lines) lines last vs text) (kept : AreRestsOf G last.all.items rests) (shows : Bool) (is : IsReportOf rests vs (shown_text shows text) log printed) where
   abbrev servers : ℕ
   servers = servers_said lines
 
@@ -215,8 +220,16 @@ module _ {V : Type 0} (G : Ghosts V) (lines : List NumberedLine) (last : Station
   text_same : text ≡ turns_text (turns_of lines (lists_of G log))
   text_same = out.text ∙ ap turns_text turns_same
 
+  -- the lines that are shown
+  shown_same : shown_text shows text ≡ shown_lines (shown_as shows) G lines log
+  shown_same = go shows
+    where
+      go : (b : Bool) → shown_text b text ≡ shown_lines (shown_as b) G lines log
+      go true = text_same
+      go false = refl
+
   -- what is printed, whatever the vaults tell
-  pub played_through : IsPlayedThrough G lines log printed
+  pub played_through : IsPlayedThrough G shows lines log printed
   played_through = record {
     count = log_many;
     script = of_script;
@@ -228,7 +241,7 @@ module _ {V : Type 0} (G : Ghosts V) (lines : List NumberedLine) (last : Station
         kept.helds);
     committed = is.committed ∙ kept.committed ∙ ap committed_in (sym is.servers);
     aborted = is.aborted ∙ (λ i. kept.begun i - kept.committed i) ∙ ap (λ (xs : List (ServerOfLog V)). begun_in xs - committed_in xs) (sym is.servers);
-    report = is.report ∙ ap (λ (ts : List ℕ). ts ++ printed_of is.summary) text_same;
+    report = is.report ∙ ap (λ (ts : List ℕ). ts ++ printed_of is.summary) shown_same;
   }
 
   -- ---- where all vaults tell
@@ -283,6 +296,11 @@ module _ {V : Type 0} (G : Ghosts V) (lines : List NumberedLine) (last : Station
           whole = record { whole = wholeness (log_of G log) p; listed = listing (log_of G log) p; agree = agreement (log_of G log) p };
         }
 
+    -- what clients sent and were handed is as their machines and the servers leave it
+    pub told_clients : AreOfClients (log_of G log)
+    told_clients = subst AreOfClients log_same
+        (clients_kept (state_at last) out.played.clients out.ran.first r out.hs out.turns (runs.handed_of (lists_of G log)) out.ran.is_first out.ran.course (played_sent servers lines out.turns out.hs out.played) out.said (λ k. ap (list_map item_of) (lists_are k)) (λ n here. (seat_right n here).0))
+
     -- a server as the theorems read it
     pub log_at : (k : ℕ) (seat : IsSeat r k) → logs.of (log_of G log) k ≡ server_log (seat_at r k)
     log_at k seat = ap (λ (l : logs.Log). logs.of l k) (sym log_same) ∙ of_seat r (runs.handed_of (lists_of G log)) k (numbered G last out.on) seat
@@ -310,7 +328,7 @@ module _ {V : Type 0} (G : Ghosts V) (lines : List NumberedLine) (last : Station
         all n = subst (λ (l : logs.Log). IsSettled (logs.final l n)) log_same
             (of_each (λ l. IsSettled (state_after next (opened l.opening) l.journal)) r handed (numbered G last out.on) settled_seat (λ k. record { parts = λ t. refl; ready = λ j. refl; decisions = λ x. refl }) n)
 
-    pub tallied : printed ≡ tallied_report G lines log
+    pub tallied : printed ≡ tallied_for (shown_as shows) G lines log
     tallied =
         let said : AreMatched (IsSaidBy G servers) is.summary.servers.now rests.logs.items =
         subst (λ (ds : List Held). AreMatched (IsSaidBy G servers) ds rests.logs.items) (sym is.helds) (all_said G servers last.all.items rests.helds.items rests.logs.items seat_up kept.helds kept.logs) in
@@ -319,11 +337,6 @@ module _ {V : Type 0} (G : Ghosts V) (lines : List NumberedLine) (last : Station
         let ends : printed_of is.summary ≡ flat_map (λ x. files_text_of (end_of G servers x)) rests.logs.items ++ flat_map (λ x. owners_text_of (end_of G servers x)) rests.logs.items ++ tallied_text log.servers.items =
         (λ i. files_same G servers is.summary.servers.now rests.logs.items said i ++ owners_same G servers is.summary.servers.now rests.logs.items said i
         ++ count_text ((is.committed ∙ committed) i) ((is.aborted ∙ (λ j. begun j - committed j)) i)) in
-        let shown : List ℕ = turns_text (turns_of lines (lists_of G log)) in
-        let files : List ℕ = flat_map (λ x. files_text_of (end_of G servers x)) rests.logs.items in
-        let owners : List ℕ = flat_map (λ x. owners_text_of (end_of G servers x)) rests.logs.items in
-        is.report ∙ (λ i. text_same i ++ ends i)
-        ∙ sym (append_assoc shown (files ++ owners) (tallied_text log.servers.items))
-        ∙ ap (λ (zs : List ℕ). zs ++ tallied_text log.servers.items) (sym (append_assoc shown files owners))
-        ∙ (λ i. turns_text (turns_of lines (lists_of G log)) ++ flat_map (λ x. files_text_of (end_of G (sym log_many i) x)) (sym is.servers i) ++ flat_map (λ x. owners_text_of (end_of G (sym log_many i) x)) (sym is.servers i)
-        ++ tallied_text log.servers.items)
+        is.report ∙ (λ i. shown_same i ++ ends i)
+        ∙ (λ i. shown_lines (shown_as shows) G lines log
+        ++ (flat_map (λ x. files_text_of (end_of G (sym log_many i) x)) (sym is.servers i) ++ flat_map (λ x. owners_text_of (end_of G (sym log_many i) x)) (sym is.servers i) ++ tallied_text log.servers.items))

@@ -1,9 +1,11 @@
 -- disks that go together
-use Rattle.std.specs.Prelude.{◌==◌, true, false, cond, Bool, flat_map, find, map as list_map, slice_get, unwrap_or, Option, Some}
+use Rattle.std.specs.Prelude.{◌==◌, true, false, cond, Bool, flat_map, find, map as list_map, slice_get, unwrap_or, Option, None, Some}
 use Rattle.std.specs.FinMap as map
 use Rattle.std.specs.List.{AllByRecursion}
 use Rattle.std.proofs.Common.{inl, inr, ◌⊎◌, ◌≡◌, ℕ, zero, suc, ◌+◌, ◌<◌, ◌≤◌, List, [], ◌∷◌, ◌++◌, length, refl, sym, ◌∙◌, ap, subst, arith}
+use Rattle.alp_base.specs.Keys.{key_cmp}
 use Rattle.alp_base.specs.Notes.{Notes}
+use Rattle.alp_base.specs.declared.cell.Cell.{Cell}
 use Rattle.alp_bay.specs.Bays.{IsTaken}
 use Rattle.alp_course.specs.Courses.{IsOneOf}
 use Rattle.alp_course.specs.Resting.{AreSpelled}
@@ -12,6 +14,7 @@ use Rattle.alp_disk.specs.declared.disk.Disk.{Ghosts}
 use Rattle.alp_fields.specs.ClockNote.{clock_name, AreClockNotes}
 use Rattle.alp_files.specs.Apart.{AreSized}
 use Rattle.alp_files.specs.Sound.{AreSound}
+use Rattle.alp_files.proofs.CellMapLemmas.{get_cell}
 use Rattle.alp_files.proofs.SoundLemmas.{empty_sound}
 use Rattle.alp_history.specs.Log as logs
 use Rattle.alp_history.specs.Log.{IsIn, AreDistinct}
@@ -34,9 +37,11 @@ use Rattle.alp_top.specs.Logs.{Log, ServerOfLog, openings, start_of}
 use Rattle.alp_top.specs.Together.{BeginsSound, OpensOn, OpenOn, GoTogether}
 use Rattle.alp_top.specs.Volumes.{pages_of, IsBare, HasNoPart, IsReturned}
 use Rattle.alp_top.proofs.BeginLemmas.{new_by, empty_noted}
-use Rattle.alp_top.proofs.SingleLemmas.{no_sizes}
 
 -- ---- servers that opened with nothing
+
+no_sizes : AreSized (map.get {R = key_cmp} map.empty)
+no_sizes k c is = let wrong : ◌≡◌ {A = Option Cell} None (Some c) = sym (get_cell [] k) ∙ is in cc
 
 -- a server opened with nothing on sound files
 pub record IsOpenedWell (o : Start) : Type 0 where
@@ -78,7 +83,7 @@ module _ (log : logs.Log) (well : AllByRecursion (λ (x : logs.ServerLog). IsOpe
   no_decision : (n : ℕ) (d : DecisionNote) → IsIn d (logs.opening_of log n).decisions → ⊥
   no_decision n d i = subst (IsIn d) (all_well n).bare.decisions i
 
-  sound_openings : logs.AreSoundOpenings log
+  pub sound_openings : logs.AreSoundOpenings log
   sound_openings n = record {
     few = (all_well n).few;
     files = (all_well n).files;

@@ -27,9 +27,9 @@ use Rattle.alp_course.specs.Settles.{AreUp, AreTaken}
 use Rattle.alp_course.specs.Turns.{turns_of, own_in}
 use Rattle.alp_cluster.specs.Runs.{StopNone}
 use Rattle.alp_cluster.specs.Servers.{IsDone}
-use Rattle.alp_top.specs.Commands.{AreToPlay, HasLines}
+use Rattle.alp_top.specs.Commands.{AreToPlay, HasLines, shows_lines, shown_as}
 use Rattle.alp_top.specs.Logs.{Log, ServerOfLog, openings, start_of, log_of, lists_of}
-use Rattle.alp_top.specs.Reports.{end_of, report_of, tallied_report}
+use Rattle.alp_top.specs.Reports.{Shown, end_of, report_for, tallied_for}
 use Rattle.alp_top.specs.Together.{BeginsSound, GoTogether}
 use Rattle.alp_top.specs.Volumes.{IsBare, HasNoPart, IsStored, AreReturned, HasRunCause, StartsOn}
 use Rattle.alp_top.specs.declared.fault.NoReport.{NoReport}
@@ -100,14 +100,15 @@ pub record AreDecidedWhole (log : logs.Log) : Type 0 where
 
 -- All that holds of the decided transactions: they are one thread's history, with charges, and each is whole; what clients were told of them is
 -- kept; and the counts of the report are theirs.
-pub record IsHistory {V : Type 0} (G : Ghosts V) (lines : List NumberedLine) (log : Log V) : Type 0 where
+pub record IsHistory {V : Type 0} (G : Ghosts V) (shown : Shown) (lines : List NumberedLine) (log : Log V) : Type 0 where
   pub serial : IsSerial (log_of G log)
   pub charged : IsCharged (log_of G log)
   pub whole : AreDecidedWhole (log_of G log)
   -- Each stamp that a client was told is of a decided transaction, but in replies that were kept for a number which a raw line sent first, and a
   -- decided transaction has a stamp above all that its client was told before it began.
-  pub kept : servers_said lines ≡ 1 → ArePromisesKept (log_of G log)
-  pub counted : servers_said lines ≡ 1 → tallied_report G lines log ≡ report_of G lines log
+  pub kept : ArePromisesKept (log_of G log)
+  -- the report with the numbers that the entries of the servers count is the one with those of the decided transactions
+  pub counted : tallied_for shown G lines log ≡ report_for shown G lines log
 
 -- Behind it all no part lives at any server, none is ready, and no decision stands. So the history ends in the cells that the servers hold, and
 -- each part of a decided transaction was applied, at its stamp.
@@ -155,13 +156,13 @@ pub record AreFromDisks {V D : Type 0} (G : Ghosts V) (g : DiskGhosts D) (lines 
 
 -- ---- a run
 
--- a run of these lines on the disks of a bay left the log, and the text is its report
-pub record IsRunOf {V D : Type 0} (G : Ghosts V) (g : DiskGhosts D) (lines : List NumberedLine) (log : Log V) (text : List ℕ) (before after : ℕ → Option D) : Type 0 where
+-- a run of these lines on the disks of a bay left the log, and the text is its report, with the lines of the clients or without
+pub record IsRunOf {V D : Type 0} (G : Ghosts V) (g : DiskGhosts D) (shows : Bool) (lines : List NumberedLine) (log : Log V) (text : List ℕ) (before after : ℕ → Option D) : Type 0 where
   pub count : length log.servers.items ≡ servers_said lines
-  pub report : text ≡ tallied_report G lines log
+  pub report : text ≡ tallied_for (shown_as shows) G lines log
   pub faithful : IsFaithful G lines log
   pub stored : AreReturned g lines (servers_said lines) before after (IsStoredBy G g lines log)
-  pub history : logs.AreSoundOpenings (log_of G log) → IsHistory G lines log
+  pub history : logs.AreSoundOpenings (log_of G log) → IsHistory G (shown_as shows) lines log
   pub rest : BeginsSound (log_of G log) → AreAtRest (log_of G log)
   pub disks : AreFromDisks G g lines log before after
   pub alone : servers_said lines ≡ 1 → IsAlone G lines log
@@ -178,13 +179,13 @@ pub record IsPromised {V D : Type 0} (G : Ghosts V) (g : DiskGhosts D) (words : 
   pub script : AreToPlay command old new lines
   pub count : length log.servers.items ≡ servers_said lines
   -- what was written is of the report of both, and nothing else
-  pub output : Written (tallied_report G lines log)
+  pub output : Written (tallied_for (shown_as (shows_lines command)) G lines log)
   -- the calls are the script's and nothing else occurred; what a client was handed is what the lawful journals say
   pub faithful : IsFaithful G lines log
   -- the disks were taken from the bay and are given back with what the servers hold in the end
   pub stored : AreReturned g lines (servers_said lines) before after (IsStoredBy G g lines log)
   -- the decided transactions, on sound openings
-  pub history : logs.AreSoundOpenings (log_of G log) → IsHistory G lines log
+  pub history : logs.AreSoundOpenings (log_of G log) → IsHistory G (shown_as (shows_lines command)) lines log
   -- and behind it all the servers are at rest, on sound openings whose notes name ids that a server draws
   pub rest : BeginsSound (log_of G log) → AreAtRest (log_of G log)
   -- of disks that go together the openings are such

@@ -152,8 +152,8 @@ pub record IsRightAt (last : Course) (n : ℕ) : Type 0 where
 
 -- The run of these lines ended for that fault where its servers stood so: a line had more to send or to bring about, or the settling behind
 -- the lines had (`stopped`). The journals are those of what occurred by then, each reply is the one that was handed, and they are lawful. Where
--- what the servers opened on is sound the decided transactions are one thread's history, each with all of its parts. Of a server that runs
--- alone all this holds, and what the clients are promised is kept too.
+-- what the servers opened on is sound the decided transactions are one thread's history, each with all of its parts, and what the clients are
+-- promised is kept. Of a server that runs alone it is.
 pub record IsCutShort (lines : List NumberedLine) (f : RunFault) (last : Course) : Type 0 where
   pub first : Course
   pub begins : IsFirst first
@@ -166,9 +166,9 @@ pub record IsCutShort (lines : List NumberedLine) (f : RunFault) (last : Course)
   pub stopped : StopsInLine (servers_said lines) lines turns happened due ⊎ StopsBehindLines (servers_said lines) lines turns happened due
   pub ends : IsEndFor f last due
   pub right : (n : ℕ) → IsSeat last n → IsRightAt last n
-  pub several : logs.AreSoundOpenings (log_of last (handed_of (λ k. own_in k turns))) → IsOneThread (log_of last (handed_of (λ k. own_in k turns))) × AreWhole (log_of last (handed_of (λ k. own_in k turns)))
-  pub alone : servers_said lines ≡ 1
+  pub history : logs.AreSoundOpenings (log_of last (handed_of (λ k. own_in k turns)))
       → IsOneThread (log_of last (handed_of (λ k. own_in k turns))) × AreWhole (log_of last (handed_of (λ k. own_in k turns))) × ArePromisesKept (log_of last (handed_of (λ k. own_in k turns)))
+  pub alone : servers_said lines ≡ 1 → logs.AreSoundOpenings (log_of last (handed_of (λ k. own_in k turns)))
 
 -- Where the servers stand so, this one was started on the disk, and what a crash leaves of the disk that is given back is what its journal
 -- says; of a server that is down, it is that or what its last write makes of that.

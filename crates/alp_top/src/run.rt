@@ -6,7 +6,7 @@ ghost use Rattle.alp_base.specs.Causes.{Rose};
 ghost use Rattle.alp_script.specs.Accepted.{IsAccepted};
 ghost use Rattle.alp_script.specs.Reading.{GaveFlaw, GaveGoodLines, HasReadCause};
 ghost use Rattle.alp_top.specs.Anywhere.{IsToldAnywhere};
-ghost use Rattle.alp_top.specs.Commands.{AreToPlay, HasNoLines};
+ghost use Rattle.alp_top.specs.Commands.{AreToPlay, HasNoLines, shows_lines};
 ghost use Rattle.alp_top.specs.Headline.{IsPlayed, IsCutOff, HasCause, StartsHere, IsOfOne, HasLinesFor};
 ghost use Rattle.alp_top.specs.Statuses.{AreWordsTold, IsTold, OnDone, OnBadWords, OnFlaw, OnReadFault, OnWriteFault, OnCutShort, OnUntaken, folder_in, IsReadFaultTold, IsWriteFaultTold, IsBayFaultTold, IsFolderTold, OnUnwritten, IsPlayedOrMemory, IsHandedOver};
 ghost use Rattle.alp_words.specs.Words.{are_bad, folder_named};
@@ -31,6 +31,15 @@ fn folder_of(command: &Command) -> Option<&str>
 {
     match command {
         Command::Play { folder } => folder.as_deref(),
+    }
+}
+
+// Whether the command shows a line for each line of a client.
+fn shows(command: &Command) -> bool
+    ensures { result ≡ shows_lines command.now }
+{
+    match command {
+        Command::Play { folder: _ } => true,
     }
 }
 
@@ -125,7 +134,7 @@ pub fn run_alpine<S: Source, K: Sink, B: Bay>(
         Err(ScriptFault::OutOfMemory) => return Status::OutOfMemory,
     };
     let played: &[NumberedLine] = &lines;
-    match run_bay(alloc, played, folder_of(&command), bay) {
+    match run_bay(alloc, played, shows(&command), folder_of(&command), bay) {
         Ok(ended) => hand_over(&ended, out),
         Err(fault) => ended_by(fault),
     }

@@ -6,7 +6,7 @@ use Rattle.alp_words.specs.Words.{folder_named}
 use Rattle.alp_top.specs.Commands.{AreToPlay}
 use Rattle.alp_top.specs.Headline.{HasCause}
 use Rattle.alp_top.specs.Volumes.{IsFolderLeft}
-use Rattle.alp_top.proofs.PlayedLemmas.{is_played, is_cut_off, done_then, cut_then, caused, folder_left, handed_folder, disk_counted, handed_counted, has_reported, has_reported_part, handed_limits, handed_disk, not_done, not_cut, limited, of_declared, bay_told, read_well, wrote_well, named_folder, folder_told, plays_on, not_flawed, not_untaken}
+use Rattle.alp_top.proofs.PlayedLemmas.{run_shown, through_shown, is_played, is_cut_off, done_then, cut_then, caused, folder_left, handed_folder, disk_counted, handed_counted, has_reported, has_reported_part, handed_limits, handed_disk, not_done, not_cut, limited, of_declared, bay_told, read_well, wrote_well, named_folder, folder_told, plays_on, not_flawed, not_untaken}
 use Rattle.alp_top.proofs.run.run_alpine.Goals as goal
 
 pub run_bay-requires-clause-accepted : goal.run_bay-requires-clause-accepted
@@ -18,7 +18,7 @@ returns-in-Ok-run_bay-clause-headline g c told =
     let script : AreToPlay c.in-Ok.command (g.S.Source.left c.args.script.now) (g.S.Source.left c.lines_of.new.script) lines = subst (AreToPlay c.in-Ok.command _ _) (sym c.deref-played.ensures.value) c.in-Ok-lines_of.ensures.lines in
     let asked = folder_told (λ name. name.now) c.folder_of.result _ _ (c.folder_of.ensures ∙ named_folder _ c.in-Ok.command c.in-Ok.ensures.named) told in
     done_then c.hand_over.result _ _
-    (λ log h. is_played _ g.B.Device.Disk _ c.in-Ok.command c.in-Ok.ensures.named _ _ _ _ lines c.in-Ok-run_bay.ended.log c.in-Ok-run_bay.ended.text.items script (c.in-Ok-run_bay.ensures.ran asked) _ _ log h.0 h.1)
+    (λ log h. is_played _ g.B.Device.Disk _ c.in-Ok.command c.in-Ok.ensures.named _ _ _ _ lines c.in-Ok-run_bay.ended.log c.in-Ok-run_bay.ended.text.items script (run_shown _ g.B.Device.Disk _ _ lines c.in-Ok-run_bay.ended.log c.in-Ok-run_bay.ended.text.items _ _ c.shows.ensures (c.in-Ok-run_bay.ensures.ran asked)) _ _ log h.0 h.1)
     c.hand_over.ensures.done
 
 pub returns-in-Ok-run_bay-clause-cut_off : goal.returns-in-Ok-run_bay-clause-cut_off
@@ -27,7 +27,7 @@ returns-in-Ok-run_bay-clause-cut_off g c told =
     let script : AreToPlay c.in-Ok.command (g.S.Source.left c.args.script.now) (g.S.Source.left c.lines_of.new.script) lines = subst (AreToPlay c.in-Ok.command _ _) (sym c.deref-played.ensures.value) c.in-Ok-lines_of.ensures.lines in
     let asked = folder_told (λ name. name.now) c.folder_of.result _ _ (c.folder_of.ensures ∙ named_folder _ c.in-Ok.command c.in-Ok.ensures.named) told in
     cut_then c.hand_over.result _ _
-    (λ log h. is_cut_off _ g.B.Device.Disk _ c.in-Ok.command c.in-Ok.ensures.named _ _ _ _ lines c.in-Ok-run_bay.ended.log c.in-Ok-run_bay.ended.text.items script (c.in-Ok-run_bay.ensures.ran asked) _ _ log h.0 h.1 h.2)
+    (λ log h. is_cut_off _ g.B.Device.Disk _ c.in-Ok.command c.in-Ok.ensures.named _ _ _ _ lines c.in-Ok-run_bay.ended.log c.in-Ok-run_bay.ended.text.items script (run_shown _ g.B.Device.Disk _ _ lines c.in-Ok-run_bay.ended.log c.in-Ok-run_bay.ended.text.items _ _ c.shows.ensures (c.in-Ok-run_bay.ensures.ran asked)) _ _ log h.0 h.1 h.2)
     c.hand_over.ensures.cut_off
 
 pub returns-in-Ok-run_bay-clause-any_bay : goal.returns-in-Ok-run_bay-clause-any_bay
@@ -36,8 +36,8 @@ returns-in-Ok-run_bay-clause-any_bay g c =
     let script : AreToPlay c.in-Ok.command (g.S.Source.left c.args.script.now) (g.S.Source.left c.lines_of.new.script) lines = subst (AreToPlay c.in-Ok.command _ _) (sym c.deref-played.ensures.value) c.in-Ok-lines_of.ensures.lines in
     let ended = c.in-Ok-run_bay.ended in
     record {
-      played = done_then c.hand_over.result _ _ (λ log h. has_reported _ _ c.in-Ok.command c.in-Ok.ensures.named _ _ lines ended.log ended.text.items script c.in-Ok-run_bay.ensures.through _ _ log h.0 h.1) c.hand_over.ensures.done;
-      cut_off = cut_then c.hand_over.result _ _ (λ log h. has_reported_part _ _ c.in-Ok.command c.in-Ok.ensures.named _ _ lines ended.log ended.text.items script c.in-Ok-run_bay.ensures.through _ _ log h.0 h.1 h.2) c.hand_over.ensures.cut_off;
+      played = done_then c.hand_over.result _ _ (λ log h. has_reported _ _ c.in-Ok.command c.in-Ok.ensures.named _ _ lines ended.log ended.text.items script (through_shown _ _ _ lines ended.log ended.text.items c.shows.ensures c.in-Ok-run_bay.ensures.through) _ _ log h.0 h.1) c.hand_over.ensures.done;
+      cut_off = cut_then c.hand_over.result _ _ (λ log h. has_reported_part _ _ c.in-Ok.command c.in-Ok.ensures.named _ _ lines ended.log ended.text.items script (through_shown _ _ _ lines ended.log ended.text.items c.shows.ensures c.in-Ok-run_bay.ensures.through) _ _ log h.0 h.1 h.2) c.hand_over.ensures.cut_off;
       limits = handed_limits c.hand_over.result _ c.hand_over.ensures.played;
       server = handed_disk c.hand_over.result _ c.hand_over.ensures.played;
       counted = handed_counted c.hand_over.result _ c.hand_over.ensures.played;
