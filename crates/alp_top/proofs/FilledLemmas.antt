@@ -17,7 +17,7 @@ use Rattle.alp_node.specs.DownStates.{DownState}
 use Rattle.alp_node.specs.Downs.{IsLeftOf, start_of as start_down}
 use Rattle.alp_node.specs.NodeStates.{NodeState}
 use Rattle.alp_node.specs.Nodes as node
-use Rattle.alp_node.specs.Nodes.{start_in}
+use Rattle.alp_node.specs.Nodes.{start_in, IsSoundStart}
 use Rattle.alp_node.specs.declared.start.StartFault.TheVariants as start_fault
 use Rattle.alp_script.specs.Accepted.{servers_said}
 use Rattle.alp_script.specs.Volumes.{sizes_said}
@@ -126,6 +126,10 @@ module _ {V D T : Type 0} (G : VaultGhosts V) (g : Ghosts D) (tells : Bool) (tol
           let volume : G.volume x.vault ≡ (start_in G m.node).sizes = same.sizes ∙ ap G.volume (sym x.begun.started.idle.opening) ∙ ap (λ o. G.volume o.vault.value) (sym opening) in
           record {
             notes = notes_in G m.node;
+            started =
+                subst (λ (z : Seat). z.opening ≡ start_at n (servers_said lines) z.opening.sizes z.opening.cells (notes_in G m.node)) (sym sits)
+                (started_as G g (sizes_said lines n) n (servers_said lines) x.node m.node x.vault x.taken x.given x.begun.started (x.begun.told told) m.keeps.on m.number_is opening still_tells);
+            sound = subst (λ (z : Seat). IsSoundStart z.opening) (sym sits) (m.keeps.on.kept.right still_tells).opening;
             new = λ new. subst (λ (z : Seat). IsOpenedNew (sizes_said lines n) z.opening (notes_in G m.node)) (sym sits)
                 (opened_new G g (sizes_said lines n) n (servers_said lines) x.node m.node x.vault x.taken x.given x.begun.started (x.begun.told told) m.keeps.on m.number_is opening still_tells new);
             found = λ old. subst (λ (z : Seat). IsOpenedOn n (servers_said lines) (g.size x.taken) (g.seen x.taken) z.opening (notes_in G m.node)) (sym sits)
@@ -324,6 +328,7 @@ module _ {V D T : Type 0} (G : VaultGhosts V) (g : Ghosts D) (tells : Bool) (tol
               (opened_new G g (sizes_said lines (k + 1)) (k + 1) (servers_said lines) x.node e.node x.vault x.taken x.given x.begun.started (x.begun.told told) on number opening tells_node new);
           found = λ old. subst (λ (z : Seat). IsOpenedOn (k + 1) (servers_said lines) (g.size x.taken) (g.seen x.taken) z.opening (notes_in G e.node)) (sym sits_node)
               (opened_on G g (sizes_said lines (k + 1)) (k + 1) (servers_said lines) x.node e.node x.vault x.taken x.given x.begun.started (x.begun.told told) on number opening tells_node old);
+          sound = subst (λ (z : Seat). IsSoundStart z.opening) (sym sits_node) (on.kept.right tells_node).opening;
           left = λ image may.
               let (c, holds, may_be) = x.back.whole tells_vault image may in (
                 c,

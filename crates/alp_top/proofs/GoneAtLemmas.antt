@@ -3,17 +3,20 @@ use Rattle.std.specs.Prelude.{Bool, IsTrue, map as list_map, slice_get, Option, 
 use Rattle.std.proofs.Common.{inl, inr, ◌⊎◌, ◌≡◌, ◌≢◌, ℕ, zero, suc, ◌+◌, ◌-◌, ◌<◌, ◌≤◌, List, [], ◌∷◌, length, refl, sym, ◌∙◌, ap, subst, arith}
 use Rattle.std.proofs.lemmas.Bool.{cases_eq}
 use Rattle.alp_base.specs.Causes.{Rose}
+use Rattle.alp_base.specs.declared.faults.Sizes.{Sizes}
 use Rattle.alp_base.specs.declared.faults.VaultFault.{VaultFault}
 use Rattle.alp_base.specs.declared.faults.VaultFault.TheVariants as vault_fault
 use Rattle.alp_course.specs.Courses.{Course, IsOneOf}
 use Rattle.alp_disk.specs.declared.disk.Disk.{Ghosts}
 use Rattle.alp_node.specs.NodeStates.{NodeState}
+use Rattle.alp_node.specs.Nodes.{start_in}
 use Rattle.alp_node.specs.declared.opened.Opened.{Opened}
 use Rattle.alp_node.specs.declared.start.StartFault.{StartFault}
 use Rattle.alp_node.specs.declared.start.StartFault.TheVariants as start_fault
 use Rattle.alp_script.specs.Accepted.{servers_said}
 use Rattle.alp_script.specs.Volumes.{sizes_said}
 use Rattle.alp_script.specs.declared.numbered.NumberedLine.{NumberedLine}
+use Rattle.alp_vault.specs.Vault.{IsSameVault}
 use Rattle.alp_vault.specs.declared.vault.Vault.{Ghosts as VaultGhosts}
 use Rattle.alp_cluster.specs.Gathered.{AreStationsOf}
 use Rattle.alp_cluster.specs.Runs.{StopNone}
@@ -25,11 +28,12 @@ use Rattle.alp_cluster.specs.declared.fault.RunFault.TheVariants as run_fault
 use Rattle.alp_cluster.specs.declared.station.Station.{Station}
 use Rattle.alp_cluster.specs.declared.stations.Stations.{Stations}
 use Rattle.alp_cluster.proofs.GoneLemmas.{gone_then}
-use Rattle.alp_top.specs.Disks.{IsBegunAt, AreBegun, AreOthersSame, IsGiven, IsLeftAt, AreLeftBy, IsClosedAt, AreClosed}
+use Rattle.alp_top.specs.Disks.{IsBegunAt, AreBegun, AreOthersSame, IsGiven, IsLeftAt, AreLeftBy, IsClosedAt, AreClosed, notes_in}
 use Rattle.alp_top.specs.Faults.{of_vault, of_start, played}
-use Rattle.alp_top.specs.Volumes.{pages_of, IsReturned, AreReturned, AreLeft, IsCutShort, IsLeftBy, HasFilled, HasUsedUp, HasRunCause, IsOfServers}
+use Rattle.alp_top.specs.Volumes.{pages_of, IsReturned, AreReturned, IsLeftWhole, AreLeftWanting, IsCutShort, IsLeftBy, HasFilled, HasUsedUp, HasRunCause, IsOfServers}
 use Rattle.alp_top.specs.declared.fault.NoReport.{NoReport}
 use Rattle.alp_top.specs.declared.fault.NoReport.TheVariants as fault
+use Rattle.alp_top.proofs.BeginLemmas.{holds_by}
 use Rattle.alp_top.proofs.GivenLemmas.{one_vault, up_vault, station_at, stations_many}
 use Rattle.alp_top.proofs.PairLemmas.{HasPair, paired_at, same_there}
 
@@ -234,8 +238,30 @@ module _ {V D : Type 0} (G : VaultGhosts V) (g : Ghosts D) (tells : Bool) (lines
       others = others;
     }
 
-    one_left : (s : ℕ) → IsOfRun (servers_said lines) s → (P : ℕ → D → D → Type 0) → ((n : ℕ) (here : IsOneOf (servers_said lines) n) → P n (at n here).taken (at n here).given) → AreLeft g lines s before after P
-    one_left s among P make = record { count = servers_said lines; few = omega arith; cause = one_of s among; returned = returned P make }
+    -- and is whole
+    whole_at : (n : ℕ) (here : IsOneOf (servers_said lines) n) → IsLeftWhole g lines n (at n here).taken (at n here).given
+    whole_at n here =
+        let x = at n here in
+        let same : IsSameVault G.tells G.volume G.server G.servers x.node.kept.vault x.vault = x.gone.same in
+        let tells_v : IsTrue (G.tells x.vault) = subst IsTrue (sym (same.telling ∙ x.begun.started.telling)) (x.begun.told told) in
+        let number : G.server x.vault ≡ n = same.number ∙ x.begun.started.on.kept.number ∙ x.begun.started.number in
+        let all : G.servers x.vault ≡ servers_said lines = same.of_all ∙ x.begun.started.on.kept.all ∙ x.begun.started.count in
+        let volume : G.volume x.vault ≡ (start_in G x.node).sizes = same.sizes ∙ ap G.volume (sym x.begun.started.idle.opening) in
+        record {
+          opening = start_in G x.node;
+          notes = notes_in G x.node;
+          new = x.begun.started.new (x.begun.told told);
+          found = x.begun.started.found (x.begun.told told);
+          left = λ image may. (let (c, holds, may_be) = x.back.whole tells_v image may in (c, holds_by _ _ _ _ _ _ _ _ image c number all refl (ap (λ (z : Sizes). z.home) volume) holds));
+          read = x.back.read tells_v;
+        }
+
+    wanting : (StopNone lines → (n : ℕ) (here : IsOneOf (servers_said lines) n) → g.faults (at n here).given ≡ g.faults (at n here).taken) → AreLeftWanting g lines before after
+    wanting same = record {
+      count = servers_said lines;
+      few = omega arith;
+      returned = returned (λ n d e. (StopNone lines → g.faults e ≡ g.faults d) × (IsLeftWhole g lines n d e ⊎ (n ≡ servers_said lines))) (λ n here. ((λ none. same none n here), inl (whole_at n here)));
+    }
 
     vault_told : (n : ℕ) (here : IsOneOf (servers_said lines) n) → IsTrue (G.tells (at n here).node.kept.vault)
     vault_told n here = (let x = at n here in subst IsTrue (sym x.begun.started.telling) (x.begun.told told))
@@ -259,12 +285,18 @@ module _ {V D : Type 0} (G : VaultGhosts V) (g : Ghosts D) (tells : Bool) (lines
         failing : (s : ℕ) → IsOfRun (servers_said lines) s → ((n : ℕ) (here : IsOneOf (servers_said lines) n) → n ≡ s → Rose (G.faults (at n here).node.kept.vault) (G.faults (at n here).vault))
             → (StopNone lines → (n : ℕ) (here : IsOneOf (servers_said lines) n) → (n ≡ s → ⊥) → G.faults (at n here).vault ≡ G.faults (at n here).node.kept.vault) → HasRunCause g lines before after bay_before bay_after (fault.Disk s)
         failing s among rose same =
-            one_left s among (λ n d e. (n ≡ s → Rose (g.faults d) (g.faults e)) × ((n ≡ s → ⊥) → StopNone lines → g.faults e ≡ g.faults d))
-            (λ n here. ((λ is. rose_for n here (rose n here is)), (λ other none. same_for n here (same none n here other))))
+            record {
+              count = servers_said lines;
+              few = omega arith;
+              cause = one_of s among;
+              returned =
+                  returned (λ n d e. (n ≡ s → Rose (g.faults d) (g.faults e)) × ((n ≡ s → ⊥) → StopNone lines → g.faults e ≡ g.faults d) × (IsLeftWhole g lines n d e ⊎ ((n ≡ s) × (n ≡ servers_said lines))))
+                  (λ n here. ((λ is. rose_for n here (rose n here is)), (λ other none. same_for n here (same none n here other)), inl (whole_at n here)));
+            }
 
         go : (q : RunFault) → Facts q → HasRunCause g lines before after bay_before bay_after (played q)
         go (run_fault.DiskFault s) x = failing s (x.failed_so 1 first_here).0 (λ n here is. (x.failed_so n here).1 (sym is)) (λ none n here other. (x.counted_so none n here).1 (λ is. other (sym is)))
-        go run_fault.OutOfMemory x = (servers_said lines, omega arith, returned (λ n d e. StopNone lines → g.faults e ≡ g.faults d) (λ n here none. same_for n here (x.counted_so none n here)))
+        go run_fault.OutOfMemory x = wanting (λ none n here. same_for n here (x.counted_so none n here))
         go run_fault.JournalFull x =
             let y = x.filled refl in (
               y.last,
@@ -276,18 +308,15 @@ module _ {V D : Type 0} (G : VaultGhosts V) (g : Ghosts D) (tells : Bool) (lines
             )
         go (run_fault.Start s (start_fault.Vault vault_fault.Failed)) x = failing s (x.failed_so 1 first_here).0 (λ n here is. (x.failed_so n here).1 (sym is)) (λ none n here other. (x.counted_so none n here).1 (λ is. other (sym is)))
         go (run_fault.Start s (start_fault.Vault vault_fault.Stopped)) x = failing s (x.failed_so 1 first_here).0 (λ n here is. absurd ((x.failed_so n here).1 (sym is))) (λ none n here other. (x.counted_so none n here).1 (λ is. other (sym is)))
-        go (run_fault.Start s (start_fault.Vault vault_fault.OutOfMemory)) x = (
-          servers_said lines,
-          omega arith,
-          returned (λ n d e. StopNone lines → g.faults e ≡ g.faults d) (λ n here none. same_for n here (elim (cases_eq s n) [ inl is ↦ (x.counted_so none n here).0 is | inr away ↦ (x.counted_so none n here).1 away ])),
-        )
+        go (run_fault.Start s (start_fault.Vault vault_fault.OutOfMemory)) x = wanting (λ none n here. same_for n here (elim (cases_eq s n) [ inl is ↦ (x.counted_so none n here).0 is | inr away ↦ (x.counted_so none n here).1 away ]))
         go (run_fault.Start s (start_fault.Vault (vault_fault.NotAVolume found))) x = absurd (x.told_so s (one_of s (x.failed_so 1 first_here).0) refl)
         go (run_fault.Start s (start_fault.Vault (vault_fault.Damaged place))) x = absurd (x.told_so s (one_of s (x.failed_so 1 first_here).0) refl)
         go (run_fault.Start s start_fault.BadNote) x = inr (
           refl,
           x.told_so s (one_of s (x.failed_so 1 first_here).0) refl,
           one_of s (x.failed_so 1 first_here).0,
-          returned (λ n d e. StopNone lines → g.faults e ≡ g.faults d) (λ n here none. same_for n here (elim (cases_eq s n) [ inl is ↦ (x.counted_so none n here).0 is | inr away ↦ (x.counted_so none n here).1 away ])),
+          returned (λ n d e. (StopNone lines → g.faults e ≡ g.faults d) × IsLeftWhole g lines n d e)
+              (λ n here. ((λ none. same_for n here (elim (cases_eq s n) [ inl is ↦ (x.counted_so none n here).0 is | inr away ↦ (x.counted_so none n here).1 away ])), whole_at n here)),
         )
         go (run_fault.Start s start_fault.EpochEnd) x =
             let y = x.over s refl in

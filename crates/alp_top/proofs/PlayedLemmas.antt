@@ -11,7 +11,6 @@ use Rattle.alp_course.specs.Courses.{IsOneOf}
 use Rattle.alp_disk.specs.Disk.{Image, page}
 use Rattle.alp_disk.specs.declared.disk.Disk.{Ghosts}
 use Rattle.alp_script.specs.Accepted.{servers_said}
-use Rattle.alp_script.specs.Reading.{GaveScript}
 use Rattle.alp_script.specs.Volumes.{sizes_said}
 use Rattle.alp_script.specs.declared.fault.ScriptFault.{ScriptFault}
 use Rattle.alp_script.specs.declared.numbered.NumberedLine.{NumberedLine}
@@ -21,6 +20,7 @@ use Rattle.alp_words.specs.Words.{folder_named, IsNamedBy}
 use Rattle.alp_words.specs.declared.command.Command.{Command}
 use Rattle.alp_words.specs.declared.command.Command.TheVariants as command
 use Rattle.alp_top.specs.Anywhere.{IsPlayedThrough, HasReported, IsDeclared}
+use Rattle.alp_top.specs.Commands.{AreToPlay, shows_lines}
 use Rattle.alp_top.specs.Headline.{IsRunOf, IsPromised, IsPlayed, IsCutOff}
 use Rattle.alp_top.specs.Logs.{Log}
 use Rattle.alp_top.specs.Statuses.{IsLimit, OnTooLong, OnBadDisk, OnUntaken, OnFlaw, Kept, OnDone, OnWriteFault, OnCutShort, ended_by, folder_in, IsFolderTold, IsBayFaultTold, OnDiskFault, IsHandedOver, IsPlayedOrMemory, IsReadFaultTold, IsWriteFaultTold}
@@ -32,36 +32,46 @@ use Rattle.alp_top.specs.declared.status.Status.TheVariants as status
 
 -- ---- the report is written, or a part of it
 
-module _ {V D : Type 0} (G : VaultGhosts V) (g : Ghosts D) (old new : Option (List ℕ)) (before after : ℕ → Option D) (lines : List NumberedLine) (log : Log V) (text : List ℕ) (script : GaveScript old new lines) (x : IsRunOf G g lines log text before after) where
+-- the command shows lines or not
+pub run_shown : {V D : Type 0} (G : VaultGhosts V) (g : Ghosts D) (a b : Bool) (lines : List NumberedLine) (log : Log V) (text : List ℕ) (before after : ℕ → Option D) → a ≡ b → IsRunOf G g a lines log text before after → IsRunOf G g b lines log text before after
+run_shown G g a b lines log text before after same h = subst (λ (d : Bool). IsRunOf G g d lines log text before after) same h
+
+pub through_shown : {V : Type 0} (G : VaultGhosts V) (a b : Bool) (lines : List NumberedLine) (log : Log V) (text : List ℕ) → a ≡ b → IsPlayedThrough G a lines log text → IsPlayedThrough G b lines log text
+through_shown G a b lines log text same h = subst (λ (d : Bool). IsPlayedThrough G d lines log text) same h
+
+module _ {V D : Type 0} (G : VaultGhosts V) (g : Ghosts D) (words : List (List ℕ)) (c : Command) (named : IsNamedBy words c) (old new : Option (List ℕ)) (before after : ℕ → Option D) (lines : List NumberedLine) (log : Log V) (text : List ℕ) (script : AreToPlay c old new lines) (x : IsRunOf G g (shows_lines c) lines log text before after) where
   -- what is promised, where this was written of the text
-  promised : (Written : List ℕ → Type 0) → Written text → IsPromised G g old new Written before after log
+  promised : (Written : List ℕ → Type 0) → Written text → IsPromised G g words old new Written before after log
   promised Written out = record {
+    command = c;
+    named = named;
     lines = lines;
     script = script;
     count = x.count;
     output = subst Written x.report out;
     faithful = x.faithful;
     stored = x.stored;
-    whole = x.whole;
-    fresh = x.fresh;
-    settled = x.settled;
-    alone = λ one. record { is = x.alone one; output = subst Written (x.report ∙ (x.alone one).counted) out };
+    history = x.history;
+    rest = x.rest;
+    disks = x.disks;
+    alone = x.alone;
   }
 
-  pub is_played : (wrote written : Option (List ℕ)) (l : Log V) → l ≡ log → Appends wrote written text → IsPlayed G g old new wrote written before after l
-  is_played wrote written l same out = subst (λ (l : Log V). IsPlayed G g old new wrote written before after l) (sym same) (promised (λ bytes. Appends wrote written bytes) out)
+  pub is_played : (wrote written : Option (List ℕ)) (l : Log V) → l ≡ log → Appends wrote written text → IsPlayed G g words old new wrote written before after l
+  is_played wrote written l same out = subst (λ (l : Log V). IsPlayed G g words old new wrote written before after l) (sym same) (promised (λ bytes. Appends wrote written bytes) out)
 
-  pub is_cut_off : (wrote written : Option (List ℕ)) (l : Log V) → l ≡ log → (count : ℕ) → Appends wrote written (take count text) → IsCutOff G g old new wrote written before after l
-  is_cut_off wrote written l same count out = subst (λ (l : Log V). IsCutOff G g old new wrote written before after l) (sym same) (promised (λ bytes. (count : ℕ) × Appends wrote written (take count bytes)) (count, out))
+  pub is_cut_off : (wrote written : Option (List ℕ)) (l : Log V) → l ≡ log → (count : ℕ) → Appends wrote written (take count text) → IsCutOff G g words old new wrote written before after l
+  is_cut_off wrote written l same count out = subst (λ (l : Log V). IsCutOff G g words old new wrote written before after l) (sym same) (promised (λ bytes. (count : ℕ) × Appends wrote written (take count bytes)) (count, out))
 
 -- what was written of any run
-module _ {V : Type 0} (G : VaultGhosts V) (old new : Option (List ℕ)) (lines : List NumberedLine) (log : Log V) (text : List ℕ) (script : GaveScript old new lines) (through : IsPlayedThrough G lines log text) where
-  pub has_reported : (wrote written : Option (List ℕ)) (l : Log V) → l ≡ log → Appends wrote written text → HasReported G old new (λ ts. Appends wrote written ts) l
-  has_reported wrote written l same out = subst (λ (l : Log V). HasReported G old new (λ ts. Appends wrote written ts) l) (sym same) (record { lines = lines; script = script; text = text; through = through; output = out })
+module _ {V : Type 0} (G : VaultGhosts V) (words : List (List ℕ)) (c : Command) (named : IsNamedBy words c) (old new : Option (List ℕ)) (lines : List NumberedLine) (log : Log V) (text : List ℕ) (script : AreToPlay c old new lines) (through : IsPlayedThrough G (shows_lines c) lines log text) where
+  pub has_reported : (wrote written : Option (List ℕ)) (l : Log V) → l ≡ log → Appends wrote written text → HasReported G words old new (λ ts. Appends wrote written ts) l
+  has_reported wrote written l same out =
+      subst (λ (l : Log V). HasReported G words old new (λ ts. Appends wrote written ts) l) (sym same) (record { command = c; named = named; lines = lines; script = script; text = text; through = through; output = out })
 
-  pub has_reported_part : (wrote written : Option (List ℕ)) (l : Log V) → l ≡ log → (count : ℕ) → Appends wrote written (take count text) → HasReported G old new (λ ts. (count : ℕ) × Appends wrote written (take count ts)) l
+  pub has_reported_part : (wrote written : Option (List ℕ)) (l : Log V) → l ≡ log → (count : ℕ) → Appends wrote written (take count text) → HasReported G words old new (λ ts. (count : ℕ) × Appends wrote written (take count ts)) l
   has_reported_part wrote written l same count out =
-      subst (λ (l : Log V). HasReported G old new (λ ts. (count : ℕ) × Appends wrote written (take count ts)) l) (sym same) (record { lines = lines; script = script; text = text; through = through; output = (count, out) })
+      subst (λ (l : Log V). HasReported G words old new (λ ts. (count : ℕ) × Appends wrote written (take count ts)) l) (sym same) (record { command = c; named = named; lines = lines; script = script; text = text; through = through; output = (count, out) })
 
 module _ {D : Type 0} {g : Ghosts D} where
   pub done_then : (s : Status D g) (P Q : Log (Kept D g) → Type 0) → ((log : Log (Kept D g)) → P log → Q log) → OnDone s P → OnDone s Q
@@ -148,17 +158,17 @@ module _ {D : Type 0} {g : Ghosts D} where
       go (fault.NotAVolume server found) = tt
       go (fault.Damaged server place) = tt
 
-  pub of_declared : (s : Status D g) (f : NoReport) (old new : Option (List ℕ)) (lines : List NumberedLine) → GaveScript old new lines → s ≡ ended_by f → IsOfServers g (servers_said lines) f → OnBadDisk s (IsDeclared old new)
-  of_declared s f old new lines script is h = subst (λ (q : Status D g). OnBadDisk q (IsDeclared old new)) (sym is) (go f h)
+  pub of_declared : (s : Status D g) (f : NoReport) (words : List (List ℕ)) (old new : Option (List ℕ)) (c : Command) → IsNamedBy words c → (lines : List NumberedLine) → AreToPlay c old new lines → s ≡ ended_by f → IsOfServers g (servers_said lines) f → OnBadDisk s (IsDeclared words old new)
+  of_declared s f words old new c named lines script is h = subst (λ (q : Status D g). OnBadDisk q (IsDeclared words old new)) (sym is) (go f h)
     where
-      go : (f : NoReport) → IsOfServers g (servers_said lines) f → OnBadDisk (ended_by {D = D} {g = g} f) (IsDeclared old new)
+      go : (f : NoReport) → IsOfServers g (servers_said lines) f → OnBadDisk (ended_by {D = D} {g = g} f) (IsDeclared words old new)
       go fault.Bay h = tt
       go (fault.Disk server) h = tt
       go fault.OutOfMemory h = tt
       go fault.JournalFull h = tt
       go (fault.EpochEnd server) h = tt
-      go (fault.NotAVolume server found) h = record { lines = lines; script = script; is = h }
-      go (fault.Damaged server place) h = record { lines = lines; script = script; is = h }
+      go (fault.NotAVolume server found) h = record { command = c; named = named; lines = lines; script = script; is = h }
+      go (fault.Damaged server place) h = record { command = c; named = named; lines = lines; script = script; is = h }
 
   -- the bay's count of faults
   pub bay_told : (s : Status D g) (f : NoReport) (servers before now : ℕ) → s ≡ ended_by f → IsOfServers g servers f → IsBayFault f before now → IsBayFaultTold s before now
@@ -256,13 +266,13 @@ module _ {D : Type 0} {g : Ghosts D} where
   handed_folder (status.Damaged server place) before now named h same = absurd h
 
   -- a fault of a disk is told where its count rose
-  pub disk_counted : (s : Status D g) (f : NoReport) (old new : Option (List ℕ)) (lines : List NumberedLine) → GaveScript old new lines → s ≡ ended_by f → IsOfServers g (servers_said lines) f
-      → OnDiskFault s (λ server. IsDeclared old new server × (taken : D) × (given : D) × Rose (g.faults taken) (g.faults given))
-  disk_counted s f old new lines script is h = subst (λ (q : Status D g). OnDiskFault q (λ server. IsDeclared old new server × (taken : D) × (given : D) × Rose (g.faults taken) (g.faults given))) (sym is) (go f h)
+  pub disk_counted : (s : Status D g) (f : NoReport) (words : List (List ℕ)) (old new : Option (List ℕ)) (c : Command) → IsNamedBy words c → (lines : List NumberedLine) → AreToPlay c old new lines → s ≡ ended_by f → IsOfServers g (servers_said lines) f
+      → OnDiskFault s (λ server. IsDeclared words old new server × (taken : D) × (given : D) × Rose (g.faults taken) (g.faults given))
+  disk_counted s f words old new c named lines script is h = subst (λ (q : Status D g). OnDiskFault q (λ server. IsDeclared words old new server × (taken : D) × (given : D) × Rose (g.faults taken) (g.faults given))) (sym is) (go f h)
     where
-      go : (f : NoReport) → IsOfServers g (servers_said lines) f → OnDiskFault (ended_by {D = D} {g = g} f) (λ server. IsDeclared old new server × (taken : D) × (given : D) × Rose (g.faults taken) (g.faults given))
+      go : (f : NoReport) → IsOfServers g (servers_said lines) f → OnDiskFault (ended_by {D = D} {g = g} f) (λ server. IsDeclared words old new server × (taken : D) × (given : D) × Rose (g.faults taken) (g.faults given))
       go fault.Bay h = inl refl
-      go (fault.Disk server) h = inr (record { lines = lines; script = script; is = h.0 }, h.1, h.2, h.3)
+      go (fault.Disk server) h = inr (record { command = c; named = named; lines = lines; script = script; is = h.0 }, h.1, h.2, h.3)
       go fault.OutOfMemory h = tt
       go fault.JournalFull h = tt
       go (fault.EpochEnd server) h = tt

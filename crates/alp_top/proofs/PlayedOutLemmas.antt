@@ -3,17 +3,20 @@ use Rattle.std.specs.Prelude.{Vec, Bool, false, IsTrue, map as list_map, slice_g
 use Rattle.std.specs.Global.{Global}
 use Rattle.std.specs.List.{AllByRecursion}
 use Rattle.std.proofs.Common.{◌≡◌, ℕ, zero, suc, ◌+◌, ◌-◌, ◌<◌, ◌≤◌, List, [], ◌∷◌, length, refl, sym, ◌∙◌, ap, subst, arith}
+use Rattle.std.proofs.lemmas.List.{length-map}
 use Rattle.alp_base.specs.Notes.{Notes}
 use Rattle.alp_course.specs.Courses.{Course, Seat, IsOneOf, IsSeat, seat_at, TellAll}
 use Rattle.alp_course.specs.Links.{server_log}
 use Rattle.alp_disk.specs.declared.disk.Disk.{Ghosts}
 use Rattle.alp_history.specs.Log as logs
 use Rattle.alp_history.specs.RunLogs as runs
+use Rattle.alp_history.proofs.Promises.{promises}
 use Rattle.alp_journal.specs.Along.{state_after}
 use Rattle.alp_journal.specs.Moves.{next}
 use Rattle.alp_journal.specs.Opening.{Start}
 use Rattle.alp_journal.specs.State.{State, opened}
 use Rattle.alp_journal.specs.declared.log.Item.{Item}
+use Rattle.alp_node.specs.Durable.{AreNotesOf}
 use Rattle.alp_node.specs.NodeStates.{NodeState}
 use Rattle.alp_node.specs.Nodes.{start_in}
 use Rattle.alp_node.specs.declared.opened.Opened.{Opened}
@@ -30,18 +33,23 @@ use Rattle.alp_cluster.specs.declared.fault.RunFault.{RunFault}
 use Rattle.alp_cluster.specs.declared.station.Station.{Station}
 use Rattle.alp_cluster.specs.declared.stations.Stations.{Stations}
 use Rattle.alp_top.specs.Disks.{AreBegun, AreOthersSame, AreClosed, notes_in}
-use Rattle.alp_top.specs.Endings.{IsLogAt, AreRestsOf, IsReportOf}
-use Rattle.alp_top.specs.Headline.{IsStoredBy, IsRunOf}
-use Rattle.alp_top.specs.Logs.{Log, ServerOfLog, openings, start_of}
+use Rattle.alp_top.specs.Endings.{IsLogAt, AreRestsOf, IsReportOf, shown_text}
+use Rattle.alp_top.specs.Commands.{shown_as}
+use Rattle.alp_top.specs.Headline.{IsStoredBy, AreAtRest, AreFromDisks, IsAlone, IsRunOf}
+use Rattle.alp_top.specs.Logs.{Log, ServerOfLog, openings, start_of, log_of}
 use Rattle.alp_top.specs.Reports.{end_of}
-use Rattle.alp_top.specs.Volumes.{pages_of, IsBare, HasNoPart, IsStored, AreReturned}
+use Rattle.alp_top.specs.Together.{BeginsSound, OpensOn, OpenOn}
+use Rattle.alp_top.specs.Volumes.{pages_of, IsBare, IsStored, AreReturned}
 use Rattle.alp_top.specs.declared.finish.Rests.{Rests}
 use Rattle.alp_top.proofs.GoneAtLemmas.{IsGoneAt, IsDoneAt, done_at}
+use Rattle.alp_top.proofs.CountedLemmas.{counted_for}
 use Rattle.alp_top.proofs.LonelyLemmas.{is_alone}
 use Rattle.alp_top.proofs.PairLemmas.{matched_at, same_there}
 use Rattle.alp_top.proofs.SeatedLemmas.{there_less, seat_on, many}
-use Rattle.alp_top.proofs.SeveralLemmas.{one_node, one_same, log_many, faithful, decided_whole, decided_fresh, settled, tallied}
-use Rattle.alp_top.proofs.StoredLemmas.{stored, bare_as, bare_blank}
+use Rattle.alp_top.proofs.RestLemmas.{only_clock}
+use Rattle.alp_top.proofs.SeveralLemmas.{one_node, one_same, log_many, faithful, AreDecidedSo, proper_log, decided_so, told_clients, log_at, at_rest, tallied}
+use Rattle.alp_top.proofs.StoredLemmas.{stored, bare_as}
+use Rattle.alp_top.proofs.TogetherLemmas.{IsPlain, fresh_together, lone_together, plain_together, opens_by, all_open}
 
 -- ---- openings
 
@@ -80,7 +88,7 @@ tell_all G s f = all_map (λ (z : Seat). IsTrue z.tells) (seat_of G) s.all.items
 module _ {V D U : Type 0} (G : VaultGhosts V) (g : Ghosts D) (tells : Bool) (told : IsTrue tells) (lines : List NumberedLine) (before mid after : ℕ → Option D) (ns : List (NodeState V)) (ds : List D) (first last : Stations V) (stand : AreStationsOf ns first.all.items)
     (many_is : length ns ≡ servers_said lines) (few : servers_said lines ≤ 8) (begun : AreBegun G g tells lines before 1 ns ds) (same : IsTrue tells → AreOthersSame (servers_said lines) before mid) (gone : HaveGone {T = Unit {0}} G (StopNone lines) first last (Ok tt)) (u : U)
     (closed : AreClosed {T = U} G g tells (length last.all.items) last.all.items mid after (Ok u)) (opens : openings_of last ≡ openings_of first) (vs : List (Vec Item Global)) (text printed : List ℕ) (log : Log V) (rests : Rests V) (rises : RisesFrom 1 lines)
-    (out : HasPlayedOut G (servers_said lines) lines last vs text) (kept : AreRestsOf G last.all.items rests) (is : IsReportOf rests vs text log printed) where
+    (out : HasPlayedOut G (servers_said lines) lines last vs text) (kept : AreRestsOf G last.all.items rests) (shows : Bool) (is : IsReportOf rests vs (shown_text shows text) log printed) where
   abbrev at_end : (n : ℕ) → IsOneOf (servers_said lines) n → IsDoneAt {T = U} G g tells lines before after first last (Ok u) n
   at_end = done_at G g tells lines before mid after ns ds first last stand many_is begun same tt (Ok u) gone closed
 
@@ -113,10 +121,9 @@ module _ {V D U : Type 0} (G : VaultGhosts V) (g : Ghosts D) (tells : Bool) (tol
       let x = (at_end n here).at in
       bare_as G g (sizes_said lines n) n (servers_said lines) x.node m x.vault x.taken x.given x.begun.started (x.begun.told told) on number opening tells_m one) seat
 
-  bare_fresh : ((n : ℕ) → IsOneOf (servers_said lines) n → HasNoPart g lines n (before n)) → (n : ℕ) → IsSeat (course_of G last) n → IsBare (seat_at (course_of G last) n).opening
-  bare_fresh none n seat = bare_by n (λ here m on number opening tells_m.
-      let x = (at_end n here).at in
-      bare_blank G g (sizes_said lines n) n (servers_said lines) x.node m x.vault x.taken x.given x.begun.started (x.begun.told told) on number opening tells_m (none n here x.taken (x.begun.was told))) seat
+  -- on sound openings they are at rest
+  rest_of : BeginsSound (log_of G log) → AreAtRest (log_of G log)
+  rest_of = at_rest G lines last vs text printed log rests rises out kept shows is all_told
 
   -- what it holds is what its journal says
   stored_at : (n : ℕ) (here : IsOneOf (servers_said lines) n) → IsStoredBy G g lines log n (at_end n here).at.taken (at_end n here).at.given
@@ -139,16 +146,23 @@ module _ {V D U : Type 0} (G : VaultGhosts V) (g : Ghosts D) (tells : Bool) (tol
       let state_is : state_of G x.rest ≡ end_of G (servers_said lines) y =
       ap (λ (z : Seat). state_after next (opened z.opening) z.journal) (sym as_seat) ∙ ap (λ (z : logs.ServerLog). state_after next (opened z.opening) z.journal) same_log in
       let notes_are : notes_in G x.rest ≡ (openings G).notes y.opening = ap (λ (o : Opened V). (G.held o.vault.value).notes) (ap (λ (k : NodeState V). k.opening) (sym node_is) ∙ ap (λ (k : NodeState V). k.opening) (one_node s.server m.node is_log.node m.keeps.stands is_log.stands) ∙ sym is_log.is.opened) in
+      let final_is : logs.final (log_of G log) n ≡ end_of G (servers_said lines) y =
+      ap (λ (l : logs.ServerLog). state_after next (opened l.opening) l.journal)
+      (log_at G lines last vs text printed log rests rises out kept shows is all_told n seat ∙ ap server_log (sits ∙ sym (ap (seat_for G s.is_fused s.ranks.items) m.keeps.stands)) ∙ same_log) in
+      let on_disk : IsStored g (StopNone lines) n (servers_said lines) (sizes_said lines n) (start_of G (servers_said lines) y) ((openings G).notes y.opening) (end_of G (servers_said lines) y) x.at.taken x.at.given =
+      subst (λ (q : State). IsStored g (StopNone lines) n (servers_said lines) (sizes_said lines n) (start_of G (servers_said lines) y) ((openings G).notes y.opening) q x.at.taken x.at.given) state_is
+      (subst (λ (o : Start). IsStored g (StopNone lines) n (servers_said lines) (sizes_said lines n) o ((openings G).notes y.opening) (state_of G x.rest) x.at.taken x.at.given) start_is
+      (subst (λ (w : Notes). IsStored g (StopNone lines) n (servers_said lines) (sizes_said lines n) (start_in G x.rest) w (state_of G x.rest) x.at.taken x.at.given) notes_are
+      (stored G g (sizes_said lines n) n (servers_said lines) x.at.node x.rest x.at.vault x.at.taken x.at.given x.at.begun.started (x.at.begun.told told) on number opening (rest_told n here) up x.at.gone.same x.held x.serves x.at.back (StopNone lines) low here.last
+      (λ none. x.at.gone.counted none x.at.begun.started.idle.free)))) in
       record {
         server = y;
         there = ap (λ (xs : List (ServerOfLog V)). slice_get xs (n - 1)) is.servers ∙ there;
         number = sym (ap (λ (o : Start). o.server) start_is) ∙ number;
-        stored =
-            subst (λ (q : State). IsStored g (StopNone lines) n (servers_said lines) (sizes_said lines n) (start_of G (servers_said lines) y) ((openings G).notes y.opening) q x.at.taken x.at.given) state_is
-            (subst (λ (o : Start). IsStored g (StopNone lines) n (servers_said lines) (sizes_said lines n) o ((openings G).notes y.opening) (state_of G x.rest) x.at.taken x.at.given) start_is
-            (subst (λ (w : Notes). IsStored g (StopNone lines) n (servers_said lines) (sizes_said lines n) (start_in G x.rest) w (state_of G x.rest) x.at.taken x.at.given) notes_are
-            (stored G g (sizes_said lines n) n (servers_said lines) x.at.node x.rest x.at.vault x.at.taken x.at.given x.at.begun.started (x.at.begun.told told) on number opening (rest_told n here) up x.at.gone.same x.held x.serves x.at.back (StopNone lines) low here.last
-            (λ none. x.at.gone.counted none x.at.begun.started.idle.free))));
+        stored = on_disk;
+        ends = λ begins. on_disk.said.cells ∙ ap (λ (q : State). q.holder.cells) (sym final_is) ∙ sym ((rest_of begins).ends.files n);
+        noted = λ begins. only_clock (log_of G log) (proper_log G lines last vs text printed log rests rises out kept shows is all_told begins.sound) n ((rest_of begins).settled n) (end_of G (servers_said lines) y).ids.epoch on_disk.held.notes
+            (subst (λ (q : State). AreNotesOf q (end_of G (servers_said lines) y).ids.epoch on_disk.held.notes) (sym final_is) on_disk.said.notes);
       }
 
   returned_all : AreReturned g lines (servers_said lines) before after (IsStoredBy G g lines log)
@@ -167,15 +181,57 @@ module _ {V D U : Type 0} (G : VaultGhosts V) (g : Ghosts D) (tells : Bool) (tol
     others = λ n out_of. closed.others told n (λ here. out_of (subst (λ (m : ℕ). IsOneOf m n) out.count here)) ∙ same told n out_of;
   }
 
-  pub run_over : IsRunOf G g lines log printed before after
+  many_logs : length log.servers.items ≡ servers_said lines
+  many_logs = log_many G lines last vs text printed log rests rises out kept shows is
+
+  -- each server opened on its disk
+  open_all : OpenOn g lines before 1 (log_of G log).servers
+  open_all = subst (λ (m : ℕ). OpenOn g lines before 1 (list_map (runs.server_log (openings G) m) log.servers.items)) (sym many_logs) (all_open G g lines log before 1 log.servers.items (λ i x at.
+      let less : i < length log.servers.items = there_less log.servers.items i x at in
+      let here : IsOneOf (servers_said lines) (1 + i) = record { first = omega arith; last = omega (arith, less, many_logs) } in
+      let back = returned_all.each (1 + i) here in
+      let minus : 1 + i - 1 ≡ i = omega arith in
+      let one : back.left.server ≡ x = same_there (slice_get log.servers.items i) back.left.server x (ap (slice_get log.servers.items) (sym minus) ∙ back.left.there) at in
+      subst (λ (y : ServerOfLog V). OpensOn g lines (1 + i) (before (1 + i)) (start_of G (servers_said lines) y)) one (opens_by G g lines log before (1 + i) (after (1 + i)) back)))
+
+  -- and its disk is plain behind the run
+  plain_at : BeginsSound (log_of G log) → (n : ℕ) → IsOneOf (servers_said lines) n → (given : D) × (after n ≡ Some given) × IsPlain g (servers_said lines) n given
+  plain_at begins n here =
+      let back = returned_all.each n here in
+      (back.given, back.there, record { home = (start_of G (servers_said lines) back.left.server).sizes.home; held = back.left.stored.held; holds = back.left.stored.finish; clock = back.left.noted begins })
+
+  from_disks : AreFromDisks G g lines log before after
+  from_disks = record {
+    begins = λ together. together (log_of G log) (length-map log.servers.items (runs.server_log (openings G) (length log.servers.items)) ∙ many_logs) open_all;
+    alone = λ one. lone_together g lines one before;
+    fresh = λ none. fresh_together g lines few before none;
+    again = λ begins later same.
+        plain_together g later (omega (arith, same, few)) after (λ n here.
+        let (given, there, plain) = plain_at begins n (subst (λ (m : ℕ). IsOneOf m n) same here) in
+        (given, there, subst (λ (m : ℕ). IsPlain g m n given) (sym same) plain));
+  }
+
+  lone_run : servers_said lines ≡ 1 → IsAlone G lines log
+  lone_run one =
+      is_alone G lines last vs text printed log rests rises out kept shows is all_told one
+      (bare_alone one 1 (record { first = omega arith; last = (let count : length last.all.items ≡ servers_said lines = out.count in let all : length (course_of G last).seats ≡ length last.all.items = many G last out.on in omega (arith, one, count, all)) }))
+
+  pub run_over : IsRunOf G g shows lines log printed before after
   run_over = record {
-    count = log_many G lines last vs text printed log rests rises out kept is;
-    report = tallied G lines last vs text printed log rests rises out kept is all_told;
-    faithful = faithful G lines last vs text printed log rests rises out kept is all_told;
+    count = many_logs;
+    report = tallied G lines last vs text printed log rests rises out kept shows is all_told;
+    faithful = faithful G lines last vs text printed log rests rises out kept shows is all_told;
     stored = returned_all;
-    whole = decided_whole G lines last vs text printed log rests rises out kept is all_told;
-    settled = settled G lines last vs text printed log rests rises out kept is all_told;
-    fresh = λ none. decided_fresh G lines last vs text printed log rests rises out kept is all_told few (bare_fresh none);
-    alone = λ one. is_alone G lines last vs text printed log rests rises out kept is all_told one
-        (bare_alone one 1 (record { first = omega arith; last = (let count : length last.all.items ≡ servers_said lines = out.count in let all : length (course_of G last).seats ≡ length last.all.items = many G last out.on in omega (arith, one, count, all)) }));
+    history = λ sound.
+        let h : AreDecidedSo (log_of G log) = decided_so G lines last vs text printed log rests rises out kept shows is all_told sound in
+        record {
+          serial = h.serial;
+          charged = h.charged;
+          whole = h.whole;
+          kept = promises (log_of G log) (proper_log G lines last vs text printed log rests rises out kept shows is all_told sound) (told_clients G lines last vs text printed log rests rises out kept shows is all_told);
+          counted = counted_for G lines log (faithful G lines last vs text printed log rests rises out kept shows is all_told) sound (shown_as shows);
+        };
+    rest = rest_of;
+    disks = from_disks;
+    alone = lone_run;
   }

@@ -28,7 +28,7 @@ use Rattle.alp_cluster.proofs.GatherLemmas.{played_none}
 use Rattle.alp_cluster.proofs.GoneLemmas.{gone_memory}
 use Rattle.alp_top.specs.Anywhere.{IsPlayedThrough}
 use Rattle.alp_top.specs.Disks.{IsBegunAt, AreBegun, IsOfServer, HaveBegun, HaveBegunSome, AreHeld, AreLeftBy, IsAtRest, AreAtRest, AreClosed}
-use Rattle.alp_top.specs.Endings.{AreRestsOf, IsReportOf}
+use Rattle.alp_top.specs.Endings.{AreRestsOf, IsReportOf, shown_text}
 use Rattle.alp_top.specs.Faults.{of_bay, played}
 use Rattle.alp_top.specs.Headline.{IsRunOf}
 use Rattle.alp_top.specs.Logs.{Log}
@@ -242,13 +242,13 @@ module _ {V D : Type 0} (G : VaultGhosts V) (g : Ghosts D) (tells : Bool) (lines
           over_not s is = cc
 
       -- all went well
-      module _ (vs : List (Vec Item Global)) (text printed : List ℕ) (log : Log V) (rests : Rests V) (rises : RisesFrom 1 lines) (out : HasPlayedOut G (servers_said lines) lines now vs text) (kept : AreRestsOf G now.all.items rests) (is : IsReportOf rests vs text log printed) where
-        pub went_well : IsTrue tells → openings_of now ≡ openings_of first → IsRunOf G g lines log printed before after
+      module _ (vs : List (Vec Item Global)) (text printed : List ℕ) (log : Log V) (rests : Rests V) (rises : RisesFrom 1 lines) (out : HasPlayedOut G (servers_said lines) lines now vs text) (kept : AreRestsOf G now.all.items rests) (shows : Bool) (is : IsReportOf rests vs (shown_text shows text) log printed) where
+        pub went_well : IsTrue tells → openings_of now ≡ openings_of first → IsRunOf G g shows lines log printed before after
         went_well told opens =
-            run_over G g tells told lines before mid after h.nodes h.disks first now h.gathered.stations h.many few h.begun h.others gone u closed opens vs text printed log rests rises out kept is
+            run_over G g tells told lines before mid after h.nodes h.disks first now h.gathered.stations h.many few h.begun h.others gone u closed opens vs text printed log rests rises out kept shows is
 
-        pub went_through : IsPlayedThrough G lines log printed
-        went_through = played_through G lines now vs text printed log rests rises out kept is
+        pub went_through : IsPlayedThrough G shows lines log printed
+        went_through = played_through G lines now vs text printed log rests rises out kept shows is
 
 -- ---- it never began
 

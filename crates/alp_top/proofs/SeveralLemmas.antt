@@ -2,7 +2,7 @@
 use Rattle.std.specs.Prelude.{Vec, Bool, true, false, IsTrue, flat_map, map as list_map, get_or, slice_get, Option, Some}
 use Rattle.std.specs.Global.{Global}
 use Rattle.std.specs.List.{AllByRecursion}
-use Rattle.std.proofs.Common.{inl, inr, ◌≡◌, ℕ, zero, suc, ◌+◌, ◌-◌, ◌<◌, ◌≤◌, List, [], ◌∷◌, ◌++◌, length, refl, sym, ◌∙◌, ap, subst, arith, append_assoc}
+use Rattle.std.proofs.Common.{inl, inr, ◌≡◌, ℕ, zero, suc, ◌+◌, ◌-◌, ◌<◌, ◌≤◌, List, [], ◌∷◌, ◌++◌, length, refl, sym, ◌∙◌, ap, subst, arith}
 use Rattle.std.proofs.lemmas.List.{length-map}
 use Rattle.alp_files.specs.Cells.{Cells}
 use Rattle.alp_journal.specs.Along.{Along, state_after}
@@ -13,22 +13,27 @@ use Rattle.alp_journal.specs.Opening.{Start, start_at}
 use Rattle.alp_journal.specs.State.{State, opened}
 use Rattle.alp_journal.specs.declared.entry.Entry.{Entry}
 use Rattle.alp_journal.specs.declared.log.Item.{Item}
+use Rattle.alp_history.specs.Handed.{AreOfClients}
+use Rattle.alp_history.specs.Items as items
 use Rattle.alp_history.specs.Log as logs
 use Rattle.alp_history.specs.RunLogs as runs
+use Rattle.alp_history.specs.RunLogs.{item_of}
 use Rattle.alp_history.specs.Theorems.{IsProper, IsSettled}
 use Rattle.alp_history.proofs.Merged.{history}
 use Rattle.alp_history.proofs.Agreed.{agreement}
+use Rattle.alp_history.proofs.AtRest.{settling}
 use Rattle.alp_history.proofs.EffectiveActs.{listing}
 use Rattle.alp_history.proofs.Wholes.{wholeness}
 use Rattle.alp_course.proofs.SeatLemmas.{of_seat}
 use Rattle.alp_course.specs.Resting.{AreSpelled}
-use Rattle.alp_course.specs.Courses.{Course, Seat, IsOneOf, IsSeat, no_seat, seat_at, TellAll}
+use Rattle.alp_course.specs.Courses.{Course, Seat, IsSeat, no_seat, seat_at, TellAll}
 use Rattle.alp_course.specs.Links as links
 use Rattle.alp_course.specs.Links.{server_log}
 use Rattle.alp_course.specs.Plays.{ArePlayed}
 use Rattle.alp_course.specs.Settles.{IsUpIn}
 use Rattle.alp_course.specs.Turns.{Turn, lists_in, own_in, turns_of, turns_text}
 use Rattle.alp_course.proofs.LinkLemmas.{linking}
+use Rattle.alp_course.proofs.PlayLemmas.{played_sent}
 use Rattle.alp_course.proofs.TurnLemmas.{turns_are}
 use Rattle.alp_node.specs.Nodes as node
 use Rattle.alp_node.specs.Nodes.{start_in}
@@ -44,21 +49,22 @@ use Rattle.alp_vault.specs.declared.vault.Vault.{Ghosts}
 use Rattle.alp_cluster.specs.Runs.{HasPlayedOut}
 use Rattle.alp_cluster.specs.Servers.{IsOn, IsDone, state_of}
 use Rattle.alp_cluster.specs.Station.{standing, seat_for, seat_of}
-use Rattle.alp_cluster.specs.Stations.{IsManned, course_of}
+use Rattle.alp_cluster.specs.Stations.{IsManned, course_of, state_at}
 use Rattle.alp_cluster.specs.declared.server.Server.{Server}
 use Rattle.alp_cluster.specs.declared.server.Server.TheVariants.{Up, Fallen}
 use Rattle.alp_cluster.specs.declared.station.Station.{Station}
 use Rattle.alp_cluster.specs.declared.stations.Stations.{Stations}
 use Rattle.alp_top.specs.Anywhere.{IsPrintedOf, IsPlayedThrough}
-use Rattle.alp_top.specs.Endings.{AreCellsOf, IsHeldAt, IsLogAt, AreRestsOf, IsReportOf}
-use Rattle.alp_top.specs.Headline.{IsOfScript, IsFaithful, AreDecidedWhole}
+use Rattle.alp_top.specs.Commands.{shown_as}
+use Rattle.alp_top.specs.Endings.{AreCellsOf, IsHeldAt, IsLogAt, AreRestsOf, IsReportOf, shown_text}
+use Rattle.alp_top.specs.Headline.{IsOfScript, IsFaithful, IsSerial, IsCharged, AreDecidedWhole, AreAtRest}
 use Rattle.alp_top.specs.Logs.{Log, ServerOfLog, openings, start_of, log_of, lists_of}
 use Rattle.alp_top.specs.Pairs.{AreMatched}
-use Rattle.alp_top.specs.Reports.{end_of, holding_in, files_text_of, owners_text_of, tallied_text, tallied_report}
+use Rattle.alp_top.specs.Reports.{end_of, holding_in, files_text_of, owners_text_of, tallied_text, shown_lines, tallied_for}
 use Rattle.alp_top.specs.Tallies.{begun_in, committed_in}
+use Rattle.alp_top.specs.Together.{BeginsSound}
 use Rattle.alp_top.specs.declared.finish.Rests.{Rests}
-use Rattle.alp_top.specs.Volumes.{IsBare}
-use Rattle.alp_top.proofs.OpeningLemmas.{IsOpenedWell, sound_openings}
+use Rattle.alp_top.proofs.KeptLemmas.{clients_kept}
 use Rattle.alp_top.proofs.PairLemmas.{matched_many, matched_map, same_there}
 use Rattle.alp_top.proofs.SeatedLemmas.{there_less, seat_on, numbered, of_each, proper_course, many}
 use Rattle.alp_top.proofs.SummaryLemmas.{held_is, owned_is}
@@ -75,6 +81,16 @@ pub all_seat : (P : Seat → Type 0) (ss : List Seat) (i : ℕ) → AllByRecursi
 all_seat P [] i h less = absurd (omega (arith, less))
 all_seat P (s ∷ ss) zero h less = h.0
 all_seat P (s ∷ ss) (suc i) h less = all_seat P ss i h.1 (omega (arith, less))
+
+all_back : {A B : Type 0} (P : B → Type 0) (f : A → B) (xs : List A) → AllByRecursion P (list_map f xs) → AllByRecursion (λ (x : A). P (f x)) xs
+all_back P f [] h = tt
+all_back P f (x ∷ xs) h = (h.0, all_back P f xs h.1)
+
+-- what holds of the decided transactions, of the log alone
+pub record AreDecidedSo (log : logs.Log) : Type 0 where
+  pub serial : IsSerial log
+  pub charged : IsCharged log
+  pub whole : AreDecidedWhole log
 
 module _ {V : Type 0} (G : Ghosts V) (servers : ℕ) where
   -- the log of a server that stands there, as the theorems read it
@@ -159,7 +175,7 @@ module _ {V : Type 0} (G : Ghosts V) (servers : ℕ) where
 -- ---- a run that is over
 
 module _ {V : Type 0} (G : Ghosts V) (lines : List NumberedLine) (last : Stations V) (vs : List (Vec Item Global)) (text printed : List ℕ) (log : Log V) (rests : Rests V) (rises : RisesFrom 1 lines)
-    (out : HasPlayedOut G (servers_said lines) lines last vs text) (kept : AreRestsOf G last.all.items rests) (is : IsReportOf rests vs text log printed) where
+    (out : HasPlayedOut G (servers_said lines) lines last vs text) (kept : AreRestsOf G last.all.items rests) (shows : Bool) (is : IsReportOf rests vs (shown_text shows text) log printed) where
   abbrev servers : ℕ
   servers = servers_said lines
 
@@ -204,8 +220,16 @@ module _ {V : Type 0} (G : Ghosts V) (lines : List NumberedLine) (last : Station
   text_same : text ≡ turns_text (turns_of lines (lists_of G log))
   text_same = out.text ∙ ap turns_text turns_same
 
+  -- the lines that are shown
+  shown_same : shown_text shows text ≡ shown_lines (shown_as shows) G lines log
+  shown_same = go shows
+    where
+      go : (b : Bool) → shown_text b text ≡ shown_lines (shown_as b) G lines log
+      go true = text_same
+      go false = refl
+
   -- what is printed, whatever the vaults tell
-  pub played_through : IsPlayedThrough G lines log printed
+  pub played_through : IsPlayedThrough G shows lines log printed
   played_through = record {
     count = log_many;
     script = of_script;
@@ -217,7 +241,7 @@ module _ {V : Type 0} (G : Ghosts V) (lines : List NumberedLine) (last : Station
         kept.helds);
     committed = is.committed ∙ kept.committed ∙ ap committed_in (sym is.servers);
     aborted = is.aborted ∙ (λ i. kept.begun i - kept.committed i) ∙ ap (λ (xs : List (ServerOfLog V)). begun_in xs - committed_in xs) (sym is.servers);
-    report = is.report ∙ ap (λ (ts : List ℕ). ts ++ printed_of is.summary) text_same;
+    report = is.report ∙ ap (λ (ts : List ℕ). ts ++ printed_of is.summary) shown_same;
   }
 
   -- ---- where all vaults tell
@@ -258,46 +282,53 @@ module _ {V : Type 0} (G : Ghosts V) (lines : List NumberedLine) (last : Station
           (of_each (λ l. Along next IsDone (opened l.opening) l.journal) r (runs.handed_of (lists_of G log)) (numbered G last out.on) (λ n here. (seat_right n here).1) (λ n. tt));
     }
 
-    pub decided_whole : logs.AreSoundOpenings (log_of G log) → AreDecidedWhole (log_of G log)
-    decided_whole sound =
-        let p : IsProper (log_of G log) = subst IsProper log_same
-        (proper_course out.ran.first r out.hs (runs.handed_of (lists_of G log)) out.ran.is_first out.ran.course (numbered G last out.on) (λ n here. (seat_right n here).0) (subst logs.AreSoundOpenings (sym log_same) sound)) in
+    pub proper_log : logs.AreSoundOpenings (log_of G log) → IsProper (log_of G log)
+    proper_log sound = subst IsProper log_same
+        (proper_course out.ran.first r out.hs (runs.handed_of (lists_of G log)) out.ran.is_first out.ran.course (numbered G last out.on) (λ n here. (seat_right n here).0) (subst logs.AreSoundOpenings (sym log_same) sound))
+
+    pub decided_so : logs.AreSoundOpenings (log_of G log) → AreDecidedSo (log_of G log)
+    decided_so sound =
+        let p : IsProper (log_of G log) = proper_log sound in
         let h = history (log_of G log) p in
         record {
-          whole = wholeness (log_of G log) p;
-          listed = listing (log_of G log) p;
-          agree = agreement (log_of G log) p;
           serial = record { replies = h.replies; files = h.files };
           charged = record { each = h.charged; last = h.charged_last };
+          whole = record { whole = wholeness (log_of G log) p; listed = listing (log_of G log) p; agree = agreement (log_of G log) p };
         }
 
+    -- what clients sent and were handed is as their machines and the servers leave it
+    pub told_clients : AreOfClients (log_of G log)
+    told_clients = subst AreOfClients log_same
+        (clients_kept (state_at last) out.played.clients out.ran.first r out.hs out.turns (runs.handed_of (lists_of G log)) out.ran.is_first out.ran.course (played_sent servers lines out.turns out.hs out.played) out.said (λ k. ap (list_map item_of) (lists_are k)) (λ n here. (seat_right n here).0))
+
+    -- a server as the theorems read it
+    pub log_at : (k : ℕ) (seat : IsSeat r k) → logs.of (log_of G log) k ≡ server_log (seat_at r k)
+    log_at k seat = ap (λ (l : logs.Log). logs.of l k) (sym log_same) ∙ of_seat r (runs.handed_of (lists_of G log)) k (numbered G last out.on) seat
+
     -- behind it all they are at rest
-    pub settled : logs.AreSoundOpenings (log_of G log) → ((n : ℕ) → IsOneOf servers n → AreSpelled (logs.opening_of (log_of G log) n)) → (n : ℕ) → IsOneOf servers n → IsSettled (logs.final (log_of G log) n)
-    settled sound spelled n one =
-        let handed = runs.handed_of (lists_of G log) in
-        let seats : length r.seats ≡ servers = many G last out.on ∙ out.count in
-        let here : IsSeat r n = record { first = one.first; last = (let high : n ≤ servers = one.last in omega (arith, high, seats)) } in
-        let there : (k : ℕ) (seat : IsSeat r k) → logs.of (log_of G log) k ≡ server_log (seat_at r k) = (λ k seat. ap (λ (l : logs.Log). logs.of l k) (sym log_same) ∙ of_seat r handed k (numbered G last out.on) seat) in
-        let rested : IsSettled (seat_at r n).stand.state = out.rested handed told (subst logs.AreSoundOpenings (sym log_same) sound)
-        (λ k seat. subst (λ (l : logs.ServerLog). AreSpelled l.opening) (there k seat) (spelled k (record { first = seat.first; last = (let high : k ≤ length r.seats = seat.last in omega (arith, high, seats)) }))) n here in
-        let (x, at, m, same) = seat_on G last out.on n here in
-        let ends : (seat_at r n).stand.state ≡ state_after next (opened (seat_at r n).opening) (seat_at r n).journal = subst (λ (z : Seat). z.stand.state ≡ state_after next (opened z.opening) z.journal) (sym same) refl in
-        subst IsSettled (ends ∙ ap (λ (l : logs.ServerLog). state_after next (opened l.opening) l.journal) (sym (there n here))) rested
+    pub at_rest : BeginsSound (log_of G log) → AreAtRest (log_of G log)
+    at_rest begins = record { settled = all; ends = settling (log_of G log) (proper_log begins.sound) all }
+      where
+        handed : items.Handed
+        handed = runs.handed_of (lists_of G log)
 
-    -- where the servers opened with nothing, what they opened on is sound
-    module _ (few : servers_said lines ≤ 8) (bare : (n : ℕ) → IsSeat r n → IsBare (seat_at r n).opening) where
-      seat_well : (n : ℕ) → IsSeat r n → IsOpenedWell (seat_at r n)
-      seat_well n here =
-          let (x, at, m, same) = seat_on G last out.on n here in
-          let tells : IsTrue (G.tells m.node.kept.vault) = subst (λ (s : Seat). IsTrue s.tells) same (seat_told n here) in
-          let right : node.IsRight (start_in G m.node) (G.held m.node.kept.vault) m.node = m.keeps.on.kept.right tells in
-          let all : (start_in G m.node).servers ≡ servers_said lines = m.keeps.on.all ∙ m.count_is ∙ out.count in
-          subst IsOpenedWell (sym same) (record { few = omega (arith, all, few); files = right.opening.parts.sound [] refl; sizes = right.opening.parts.sized; bare = subst (λ (s : Seat). IsBare s.opening) same (bare n here) })
+        spelled : AllByRecursion (λ (s : Seat). AreSpelled s.opening) r.seats
+        spelled = all_back (λ (x : logs.ServerLog). AreSpelled x.opening) server_log r.seats (subst (λ (xs : List logs.ServerLog). AllByRecursion (λ (x : logs.ServerLog). AreSpelled x.opening) xs) (sym server_logs) begins.spelled)
 
-      pub decided_fresh : AreDecidedWhole (log_of G log)
-      decided_fresh = decided_whole (subst logs.AreSoundOpenings log_same (sound_openings r (runs.handed_of (lists_of G log)) (numbered G last out.on) seat_well))
+        rested : (n : ℕ) → IsSeat r n → IsSettled (seat_at r n).stand.state
+        rested n here = out.rested handed told (subst logs.AreSoundOpenings (sym log_same) begins.sound) (λ k seat. all_seat (λ (s : Seat). AreSpelled s.opening) r.seats (k - 1) spelled (omega (arith, seat.first, seat.last))) n here
 
-    pub tallied : printed ≡ tallied_report G lines log
+        settled_seat : (n : ℕ) → IsSeat r n → IsSettled (state_after next (opened (seat_at r n).opening) (seat_at r n).journal)
+        settled_seat n here =
+            let (x, at, m, same) = seat_on G last out.on n here in
+            let ends : (seat_at r n).stand.state ≡ state_after next (opened (seat_at r n).opening) (seat_at r n).journal = subst (λ (z : Seat). z.stand.state ≡ state_after next (opened z.opening) z.journal) (sym same) refl in
+            subst IsSettled ends (rested n here)
+
+        all : (n : ℕ) → IsSettled (logs.final (log_of G log) n)
+        all n = subst (λ (l : logs.Log). IsSettled (logs.final l n)) log_same
+            (of_each (λ l. IsSettled (state_after next (opened l.opening) l.journal)) r handed (numbered G last out.on) settled_seat (λ k. record { parts = λ t. refl; ready = λ j. refl; decisions = λ x. refl }) n)
+
+    pub tallied : printed ≡ tallied_for (shown_as shows) G lines log
     tallied =
         let said : AreMatched (IsSaidBy G servers) is.summary.servers.now rests.logs.items =
         subst (λ (ds : List Held). AreMatched (IsSaidBy G servers) ds rests.logs.items) (sym is.helds) (all_said G servers last.all.items rests.helds.items rests.logs.items seat_up kept.helds kept.logs) in
@@ -306,11 +337,6 @@ module _ {V : Type 0} (G : Ghosts V) (lines : List NumberedLine) (last : Station
         let ends : printed_of is.summary ≡ flat_map (λ x. files_text_of (end_of G servers x)) rests.logs.items ++ flat_map (λ x. owners_text_of (end_of G servers x)) rests.logs.items ++ tallied_text log.servers.items =
         (λ i. files_same G servers is.summary.servers.now rests.logs.items said i ++ owners_same G servers is.summary.servers.now rests.logs.items said i
         ++ count_text ((is.committed ∙ committed) i) ((is.aborted ∙ (λ j. begun j - committed j)) i)) in
-        let shown : List ℕ = turns_text (turns_of lines (lists_of G log)) in
-        let files : List ℕ = flat_map (λ x. files_text_of (end_of G servers x)) rests.logs.items in
-        let owners : List ℕ = flat_map (λ x. owners_text_of (end_of G servers x)) rests.logs.items in
-        is.report ∙ (λ i. text_same i ++ ends i)
-        ∙ sym (append_assoc shown (files ++ owners) (tallied_text log.servers.items))
-        ∙ ap (λ (zs : List ℕ). zs ++ tallied_text log.servers.items) (sym (append_assoc shown files owners))
-        ∙ (λ i. turns_text (turns_of lines (lists_of G log)) ++ flat_map (λ x. files_text_of (end_of G (sym log_many i) x)) (sym is.servers i) ++ flat_map (λ x. owners_text_of (end_of G (sym log_many i) x)) (sym is.servers i)
-        ++ tallied_text log.servers.items)
+        is.report ∙ (λ i. shown_same i ++ ends i)
+        ∙ (λ i. shown_lines (shown_as shows) G lines log
+        ++ (flat_map (λ x. files_text_of (end_of G (sym log_many i) x)) (sym is.servers i) ++ flat_map (λ x. owners_text_of (end_of G (sym log_many i) x)) (sym is.servers i) ++ tallied_text log.servers.items))

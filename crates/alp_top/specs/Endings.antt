@@ -1,5 +1,5 @@
 -- Servers at the end of their run: their numbers, their logs, and what their vaults hold.
-use Rattle.std.specs.Prelude.{◌≡◌, ℕ, ◌-◌, IsTrue, List, [], ◌∷◌, ◌++◌, Vec}
+use Rattle.std.specs.Prelude.{◌≡◌, ℕ, ◌-◌, Bool, true, false, IsTrue, List, [], ◌∷◌, ◌++◌, Vec}
 use Rattle.std.specs.Global.{Global}
 use Rattle.alp_files.specs.Cells.{Cells, owners_of}
 use Rattle.alp_files.specs.Counts.{file_count_of}
@@ -86,6 +86,11 @@ pub record AreRestsOf {V : Type 0} (G : Ghosts V) (ss : List (Station V)) (r : R
   pub committed : r.committed ≡ committed_in r.logs.items
 
 -- ---- the report
+
+-- the lines of the clients, where they are shown
+abbrev pub shown_text : Bool → List ℕ → List ℕ
+shown_text true text = text
+shown_text false text = []
 
 -- a log of these, with the clients' lists, and behind the text so far the summary of them
 pub record IsReportOf {V : Type 0} (r : Rests V) (lists : List (Vec Item Global)) (text : List ℕ) (log : Log V) (printed_text : List ℕ) : Type 0 where

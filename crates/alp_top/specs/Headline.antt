@@ -3,6 +3,7 @@ use Rattle.std.specs.Prelude.{◌≡◌, ◌-◌, Bool, true, false, ℕ, List, 
 use Rattle.std.specs.Io.KnownBytes.{Appends}
 use Rattle.alp_base.specs.declared.ids.TransId.{TransId}
 use Rattle.alp_disk.specs.declared.disk.Disk.{Ghosts as DiskGhosts}
+use Rattle.alp_fields.specs.ClockNote.{AreClockNotes}
 use Rattle.alp_files.specs.Sound.{AreSound}
 use Rattle.alp_journal.specs.Along.{Along}
 use Rattle.alp_journal.specs.Laws.{IsLawful}
@@ -10,24 +11,26 @@ use Rattle.alp_journal.specs.Moves.{next}
 use Rattle.alp_journal.specs.State.{opened}
 use Rattle.alp_history.specs.Handed.{ArePromisesKept}
 use Rattle.alp_history.specs.Log as logs
-use Rattle.alp_history.specs.Theorems.{AreWhole, AreListed, DoAgreeOnEnds, IsSettled}
+use Rattle.alp_history.specs.Theorems.{AreWhole, AreListed, DoAgreeOnEnds, IsSettled, EndsInCells}
 use Rattle.alp_script.specs.Accepted.{servers_said}
-use Rattle.alp_script.specs.Reading.{GaveScript}
 use Rattle.alp_script.specs.Volumes.{sizes_said}
 use Rattle.alp_script.specs.declared.numbered.NumberedLine.{NumberedLine}
 use Rattle.alp_vault.specs.declared.vault.Vault.{Ghosts}
+use Rattle.alp_words.specs.Words.{IsNamedBy}
+use Rattle.alp_words.specs.declared.command.Command.{Command}
 use Rattle.alp_course.specs.Happens.{Stand, first_stand, AreRecorded}
 use Rattle.alp_course.specs.Courses.{Course, Occurrence, IsOneOf, TellAll, AreCourse, ranks_from}
 use Rattle.alp_course.specs.Links.{IsFirst, AreNumbered, server_log}
 use Rattle.alp_course.specs.Lone.{happenings_of}
 use Rattle.alp_course.specs.Plays.{ArePlayed}
-use Rattle.alp_course.specs.Resting.{AreSpelled}
 use Rattle.alp_course.specs.Settles.{AreUp, AreTaken}
 use Rattle.alp_course.specs.Turns.{turns_of, own_in}
 use Rattle.alp_cluster.specs.Runs.{StopNone}
 use Rattle.alp_cluster.specs.Servers.{IsDone}
+use Rattle.alp_top.specs.Commands.{AreToPlay, HasLines, shows_lines, shown_as}
 use Rattle.alp_top.specs.Logs.{Log, ServerOfLog, openings, start_of, log_of, lists_of}
-use Rattle.alp_top.specs.Reports.{end_of, report_of, tallied_report}
+use Rattle.alp_top.specs.Reports.{Shown, end_of, report_for, tallied_for}
+use Rattle.alp_top.specs.Together.{BeginsSound, GoTogether}
 use Rattle.alp_top.specs.Volumes.{IsBare, HasNoPart, IsStored, AreReturned, HasRunCause, StartsOn}
 use Rattle.alp_top.specs.declared.fault.NoReport.{NoReport}
 
@@ -64,12 +67,16 @@ pub record IsFaithful {V : Type 0} (G : Ghosts V) (lines : List NumberedLine) (l
   pub lawful : logs.AreLawful (log_of G log)
   pub caused : (n : ℕ) → Along next IsDone (opened (logs.opening_of (log_of G log) n)) (logs.journal_of (log_of G log) n)
 
--- what the disk of this server holds is what its journal says; without a line that stops one, it did not fail
+-- What the disk of this server holds is what its journal says; without a line that stops one, it did not fail. Where what the servers opened
+-- on is sound, it holds the files that the history of the decided transactions ends in, and no note but that of the epoch and the clock: no
+-- part is ready there, and no decision stands.
 pub record IsStoredBy {V D : Type 0} (G : Ghosts V) (g : DiskGhosts D) (lines : List NumberedLine) (log : Log V) (n : ℕ) (taken given : D) : Type 0 where
   pub server : ServerOfLog V
   pub there : slice_get log.servers.items (n - 1) ≡ Some server
   pub number : server.server ≡ n
   pub stored : IsStored g (StopNone lines) n (servers_said lines) (sizes_said lines n) (start_of G (servers_said lines) server) ((openings G).notes server.opening) (end_of G (servers_said lines) server) taken given
+  pub ends : BeginsSound (log_of G log) → stored.held.cells ≡ logs.finish_of (log_of G log) n
+  pub noted : BeginsSound (log_of G log) → AreClockNotes stored.held.notes
 
 -- ---- the decided transactions
 
@@ -79,25 +86,35 @@ pub record IsSerial (log : logs.Log) : Type 0 where
   pub replies : logs.IsSerial log (logs.starting_all log) (logs.decided log)
   pub files : (n : ℕ) → (logs.serial_end log (logs.starting_all log) (logs.decided log) n).files ≡ logs.finish_of log n
 
--- Each stamp that a client was told is of a decided transaction, and a decided transaction has a stamp above all that its client was
--- told before it began. The decided transactions are just those that the servers committed.
-pub record IsKept (log : logs.Log) : Type 0 where
-  pub told : ArePromisesKept log
-  pub whole : AreWhole log
-
 -- the files are well formed and each owner is charged the sizes of its files, after each transaction and at the end
 pub record IsCharged (log : logs.Log) : Type 0 where
   pub each : logs.IsChargedAfterEach log (logs.starting_all log) (logs.decided log)
   pub last : (n : ℕ) → AreSound (logs.finish_of log n)
 
 -- The decided transactions are just those that an entry decided with effect, at the server that began each, and that the servers committed with
--- all of its parts: no part of one is aborted, and none is applied of another one. They are one thread's history, with charges.
+-- all of its parts: no part of one is aborted, and none is applied of another one.
 pub record AreDecidedWhole (log : logs.Log) : Type 0 where
   pub whole : AreWhole log
   pub listed : AreListed log
   pub agree : DoAgreeOnEnds log
-  pub serial : IsSerial log
-  pub charged : IsCharged log
+
+-- All that holds of the decided transactions: they are one thread's history, with charges, and each is whole; what clients were told of them is
+-- kept; and the counts of the report are theirs.
+pub record IsHistory {V : Type 0} (G : Ghosts V) (shown : Shown) (lines : List NumberedLine) (log : Log V) : Type 0 where
+  pub serial : IsSerial (log_of G log)
+  pub charged : IsCharged (log_of G log)
+  pub whole : AreDecidedWhole (log_of G log)
+  -- Each stamp that a client was told is of a decided transaction, but in replies that were kept for a number which a raw line sent first, and a
+  -- decided transaction has a stamp above all that its client was told before it began.
+  pub kept : ArePromisesKept (log_of G log)
+  -- the report with the numbers that the entries of the servers count is the one with those of the decided transactions
+  pub counted : tallied_for shown G lines log ≡ report_for shown G lines log
+
+-- Behind it all no part lives at any server, none is ready, and no decision stands. So the history ends in the cells that the servers hold, and
+-- each part of a decided transaction was applied, at its stamp.
+pub record AreAtRest (log : logs.Log) : Type 0 where
+  pub settled : (n : ℕ) → IsSettled (logs.final log n)
+  pub ends : EndsInCells log
 
 -- ---- a run of one server
 
@@ -120,77 +137,90 @@ pub record IsAloneFaithful {V : Type 0} (G : Ghosts V) (lines : List NumberedLin
   pub bare : IsBare (start_of G 1 x)
   pub rests : (t : TransId) → (end_of G 1 x).holder.lives t ≡ None
 
--- What holds of the only server of a run, which left this log: the report is of what its journal says, all decided transactions are one
--- thread's history, and what clients were told is kept.
+-- What holds besides of the only server of a run, which left this log.
 pub record IsAlone {V : Type 0} (G : Ghosts V) (lines : List NumberedLine) (log : Log V) : Type 0 where
   pub server : ServerOfLog V
   pub one : log.servers.items ≡ server ∷ []
   pub number : server.server ≡ 1
-  pub counted : tallied_report G lines log ≡ report_of G lines log
   pub faithful : IsAloneFaithful G lines log server
-  pub serial : IsSerial (log_of G log)
-  pub kept : IsKept (log_of G log)
-  pub charged : IsCharged (log_of G log)
+
+-- ---- the disks of a run
+
+-- Which disks meet what a run asks of the openings: those that go together. Where there is one server its disk does by itself, and so do new
+-- disks and such that have no part and no decision. The disks that are given back go together once more, for each script of as many servers.
+pub record AreFromDisks {V D : Type 0} (G : Ghosts V) (g : DiskGhosts D) (lines : List NumberedLine) (log : Log V) (before after : ℕ → Option D) : Type 0 where
+  pub begins : GoTogether g lines before → BeginsSound (log_of G log)
+  pub alone : servers_said lines ≡ 1 → GoTogether g lines before
+  pub fresh : ((n : ℕ) → IsOneOf (servers_said lines) n → HasNoPart g lines n (before n)) → GoTogether g lines before
+  pub again : BeginsSound (log_of G log) → (later : List NumberedLine) → servers_said later ≡ servers_said lines → GoTogether g later after
 
 -- ---- a run
 
--- a run of these lines on the disks of a bay left the log, and the text is its report
-pub record IsRunOf {V D : Type 0} (G : Ghosts V) (g : DiskGhosts D) (lines : List NumberedLine) (log : Log V) (text : List ℕ) (before after : ℕ → Option D) : Type 0 where
+-- a run of these lines on the disks of a bay left the log, and the text is its report, with the lines of the clients or without
+pub record IsRunOf {V D : Type 0} (G : Ghosts V) (g : DiskGhosts D) (shows : Bool) (lines : List NumberedLine) (log : Log V) (text : List ℕ) (before after : ℕ → Option D) : Type 0 where
   pub count : length log.servers.items ≡ servers_said lines
-  pub report : text ≡ tallied_report G lines log
+  pub report : text ≡ tallied_for (shown_as shows) G lines log
   pub faithful : IsFaithful G lines log
   pub stored : AreReturned g lines (servers_said lines) before after (IsStoredBy G g lines log)
-  pub whole : logs.AreSoundOpenings (log_of G log) → AreDecidedWhole (log_of G log)
-  pub fresh : ((n : ℕ) → IsOneOf (servers_said lines) n → HasNoPart g lines n (before n)) → AreDecidedWhole (log_of G log)
-  pub settled : logs.AreSoundOpenings (log_of G log) → ((n : ℕ) → IsOneOf (servers_said lines) n → AreSpelled (logs.opening_of (log_of G log) n)) → (n : ℕ) → IsOneOf (servers_said lines) n → IsSettled (logs.final (log_of G log) n)
+  pub history : logs.AreSoundOpenings (log_of G log) → IsHistory G (shown_as shows) lines log
+  pub rest : BeginsSound (log_of G log) → AreAtRest (log_of G log)
+  pub disks : AreFromDisks G g lines log before after
   pub alone : servers_said lines ≡ 1 → IsAlone G lines log
 
 -- ---- the headline
 
--- where there is one server, it is promised of it in six points: what was written is of the report of its journal
-pub record IsPromisedAlone {V : Type 0} (G : Ghosts V) (lines : List NumberedLine) (Written : List ℕ → Type 0) (log : Log V) : Type 0 where
-  pub is : IsAlone G lines log
-  pub output : Written (report_of G lines log)
-
--- What holds of a run of a script that the source gave, which left this log, and of what was written of its report. A run of one server
--- has six points (`alone`). Of several servers these stand: output; faithful; stored; and that each decided transaction is whole, where what the
--- servers opened on is sound (`whole`), or no disk had a part or a decision (`fresh`).
-pub record IsPromised {V D : Type 0} (G : Ghosts V) (g : DiskGhosts D) (old new : Option (List ℕ)) (Written : List ℕ → Type 0) (before after : ℕ → Option D) (log : Log V) : Type 0 where
+-- What holds of a run of the lines that the command plays, which left this log, and of what was written of its report: output; faithful;
+-- stored; and, where what the servers opened on is sound, the history of the decided transactions: serial, charged, whole and kept. Which disks
+-- are such is said of the disks themselves (`disks`).
+pub record IsPromised {V D : Type 0} (G : Ghosts V) (g : DiskGhosts D) (words : List (List ℕ)) (old new : Option (List ℕ)) (Written : List ℕ → Type 0) (before after : ℕ → Option D) (log : Log V) : Type 0 where
+  pub command : Command
+  pub named : IsNamedBy words command
   pub lines : List NumberedLine
-  pub script : GaveScript old new lines
+  pub script : AreToPlay command old new lines
   pub count : length log.servers.items ≡ servers_said lines
   -- what was written is of the report of both, and nothing else
-  pub output : Written (tallied_report G lines log)
+  pub output : Written (tallied_for (shown_as (shows_lines command)) G lines log)
   -- the calls are the script's and nothing else occurred; what a client was handed is what the lawful journals say
   pub faithful : IsFaithful G lines log
   -- the disks were taken from the bay and are given back with what the servers hold in the end
   pub stored : AreReturned g lines (servers_said lines) before after (IsStoredBy G g lines log)
-  -- each decided transaction is whole: on sound openings, and on disks without parts and decisions, as new ones are
-  pub whole : logs.AreSoundOpenings (log_of G log) → AreDecidedWhole (log_of G log)
-  pub fresh : ((n : ℕ) → IsOneOf (servers_said lines) n → HasNoPart g lines n (before n)) → AreDecidedWhole (log_of G log)
-  -- and behind it all no part lives, none is ready, and no decision stands, on sound openings whose notes name ids that are such
-  pub settled : logs.AreSoundOpenings (log_of G log) → ((n : ℕ) → IsOneOf (servers_said lines) n → AreSpelled (logs.opening_of (log_of G log) n)) → (n : ℕ) → IsOneOf (servers_said lines) n → IsSettled (logs.final (log_of G log) n)
-  -- and of one server all six
-  pub alone : servers_said lines ≡ 1 → IsPromisedAlone G lines Written log
+  -- the decided transactions, on sound openings
+  pub history : logs.AreSoundOpenings (log_of G log) → IsHistory G (shown_as (shows_lines command)) lines log
+  -- and behind it all the servers are at rest, on sound openings whose notes name ids that a server draws
+  pub rest : BeginsSound (log_of G log) → AreAtRest (log_of G log)
+  -- of disks that go together the openings are such
+  pub disks : AreFromDisks G g lines log before after
+  -- and of one server this besides
+  pub alone : servers_said lines ≡ 1 → IsAlone G lines log
 
 -- the report is written
-abbrev pub IsPlayed : {V D : Type 0} → Ghosts V → DiskGhosts D → (old new written_before written : Option (List ℕ)) → (before after : ℕ → Option D) → Log V → Type 0
-IsPlayed G g old new written_before written before after log = IsPromised G g old new (λ text. Appends written_before written text) before after log
+abbrev pub IsPlayed : {V D : Type 0} → Ghosts V → DiskGhosts D → (words : List (List ℕ)) → (old new written_before written : Option (List ℕ)) → (before after : ℕ → Option D) → Log V → Type 0
+IsPlayed G g words old new written_before written before after log = IsPromised G g words old new (λ text. Appends written_before written text) before after log
 
 -- or a prefix of it was
-abbrev pub IsCutOff : {V D : Type 0} → Ghosts V → DiskGhosts D → (old new written_before written : Option (List ℕ)) → (before after : ℕ → Option D) → Log V → Type 0
-IsCutOff G g old new written_before written before after log = IsPromised G g old new (λ text. (count : ℕ) × Appends written_before written (take count text)) before after log
+abbrev pub IsCutOff : {V D : Type 0} → Ghosts V → DiskGhosts D → (words : List (List ℕ)) → (old new written_before written : Option (List ℕ)) → (before after : ℕ → Option D) → Log V → Type 0
+IsCutOff G g words old new written_before written before after log = IsPromised G g words old new (λ text. (count : ℕ) × Appends written_before written (take count text)) before after log
 
--- It ended before its report: a script of the source was to be played, and the bay or a disk was the cause.
-pub record HasCause {D : Type 0} (g : DiskGhosts D) (old new : Option (List ℕ)) (before after : ℕ → Option D) (bay_before bay_after : ℕ) (f : NoReport) : Type 0 where
+-- It ended before its report: lines of a command were to be played, and the bay or a disk was the cause.
+pub record HasCause {D : Type 0} (g : DiskGhosts D) (words : List (List ℕ)) (old new : Option (List ℕ)) (before after : ℕ → Option D) (bay_before bay_after : ℕ) (f : NoReport) : Type 0 where
+  pub command : Command
+  pub named : IsNamedBy words command
   pub lines : List NumberedLine
-  pub script : GaveScript old new lines
+  pub script : AreToPlay command old new lines
   pub cause : HasRunCause g lines before after bay_before bay_after f
 
--- the disks are some that a run of the script starts on, and none failed
-abbrev pub StartsHere : {D : Type 0} → DiskGhosts D → (old new : Option (List ℕ)) → (before after : ℕ → Option D) → Type 0
-StartsHere g old new before after = (lines : List NumberedLine) → GaveScript old new lines → StartsOn g lines before after
+-- what holds of all lines that a command with these words plays
+abbrev pub OfAllToPlay : (words : List (List ℕ)) → (old new : Option (List ℕ)) → (List NumberedLine → Type 0) → Type 0
+OfAllToPlay words old new P = (command : Command) → IsNamedBy words command → (lines : List NumberedLine) → AreToPlay command old new lines → P lines
 
--- what the source gave is a script of one server
-abbrev pub IsOfOne : (old new : Option (List ℕ)) → Type 0
-IsOfOne old new = (lines : List NumberedLine) → GaveScript old new lines → servers_said lines ≡ 1
+-- the disks are some that a run of the lines starts on, and none failed
+abbrev pub StartsHere : {D : Type 0} → DiskGhosts D → (words : List (List ℕ)) → (old new : Option (List ℕ)) → (before after : ℕ → Option D) → Type 0
+StartsHere g words old new before after = OfAllToPlay words old new (λ lines. StartsOn g lines before after)
+
+-- the lines declare one server
+abbrev pub IsOfOne : (words : List (List ℕ)) → (old new : Option (List ℕ)) → Type 0
+IsOfOne words old new = OfAllToPlay words old new (λ lines. servers_said lines ≡ 1)
+
+-- there are lines to play, as far as the source says
+abbrev pub HasLinesFor : (words : List (List ℕ)) → Option (List ℕ) → Type 0
+HasLinesFor words has = (command : Command) → IsNamedBy words command → HasLines command has

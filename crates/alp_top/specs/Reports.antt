@@ -1,5 +1,5 @@
 -- The report of a run, by its script and its log.
-use Rattle.std.specs.Prelude.{ℕ, ◌-◌, List, ◌++◌, length, sum, flat_map, map as list_map}
+use Rattle.std.specs.Prelude.{ℕ, ◌-◌, List, [], ◌++◌, length, sum, flat_map, map as list_map}
 use Rattle.alp_journal.specs.Along.{state_after}
 use Rattle.alp_journal.specs.State.{State, opened}
 use Rattle.alp_journal.specs.Moves.{next}
@@ -36,18 +36,42 @@ counts_text G log =
     count_text (length (decided (log_of G log)))
     (sum (list_map (begun_at G (length log.servers.items)) log.servers.items) - length (decided (log_of G log)))
 
--- the lines of the clients, the files of each server, then the owners of each, and how the transactions ended
+-- what the servers hold: the files of each, then the owners of each
+abbrev pub held_said : {V : Type 0} → Ghosts V → Log V → List ℕ
+held_said G log =
+    flat_map (λ x. files_text_of (end_of G (length log.servers.items) x)) log.servers.items
+    ++ flat_map (λ x. owners_text_of (end_of G (length log.servers.items) x)) log.servers.items
+
+-- the summary of a run: what the servers hold, and how the transactions ended
+abbrev pub summary_said : {V : Type 0} → Ghosts V → Log V → List ℕ
+summary_said G log = held_said G log ++ counts_text G log
+
+-- A report is of a script that is played, with a line for each line of a client, or of a drill, which shows none of its lines.
+pub data Shown : Type 0 where
+  Played Drilled : Shown
+
+abbrev pub shown_lines : {V : Type 0} → Shown → Ghosts V → List NumberedLine → Log V → List ℕ
+shown_lines Played G lines log = turns_text (turns_of lines (lists_of G log))
+shown_lines Drilled G lines log = []
+
+-- the lines of the clients, where they are shown, and the summary
+abbrev pub report_for : {V : Type 0} → Shown → Ghosts V → List NumberedLine → Log V → List ℕ
+report_for shown G lines log = shown_lines shown G lines log ++ summary_said G log
+
+-- of a script that is played
 abbrev pub report_of : {V : Type 0} → Ghosts V → List NumberedLine → Log V → List ℕ
-report_of G lines log =
-    turns_text (turns_of lines (lists_of G log)) ++ flat_map (λ x. files_text_of (end_of G (length log.servers.items) x)) log.servers.items
-    ++ flat_map (λ x. owners_text_of (end_of G (length log.servers.items) x)) log.servers.items ++ counts_text G log
+report_of G lines log = report_for Played G lines log
 
 -- how the transactions ended, as the entries of the servers count them
 abbrev pub tallied_text : {V : Type 0} → List (ServerOfLog V) → List ℕ
 tallied_text xs = count_text (committed_in xs) (begun_in xs - committed_in xs)
 
--- the report with those numbers
+-- the summary and the report with those numbers
+abbrev pub tallied_summary : {V : Type 0} → Ghosts V → Log V → List ℕ
+tallied_summary G log = held_said G log ++ tallied_text log.servers.items
+
+abbrev pub tallied_for : {V : Type 0} → Shown → Ghosts V → List NumberedLine → Log V → List ℕ
+tallied_for shown G lines log = shown_lines shown G lines log ++ tallied_summary G log
+
 abbrev pub tallied_report : {V : Type 0} → Ghosts V → List NumberedLine → Log V → List ℕ
-tallied_report G lines log =
-    turns_text (turns_of lines (lists_of G log)) ++ flat_map (λ x. files_text_of (end_of G (length log.servers.items) x)) log.servers.items
-    ++ flat_map (λ x. owners_text_of (end_of G (length log.servers.items) x)) log.servers.items ++ tallied_text log.servers.items
+tallied_report G lines log = tallied_for Played G lines log

@@ -22,6 +22,7 @@ use Rattle.alp_journal.specs.Moves.{next}
 use Rattle.alp_journal.specs.State.{State, opened}
 use Rattle.alp_node.specs.Downs.{IsLeftOf}
 use Rattle.alp_node.specs.Durable.{IsSaid, IsSaidThen}
+use Rattle.alp_node.specs.Nodes.{IsSoundStart}
 use Rattle.alp_node.specs.Starts.{raised, epoch_after}
 use Rattle.alp_regain.specs.Together.{AreTogether}
 use Rattle.alp_node.specs.declared.start.StartFault.TheVariants.{EpochEnd}
@@ -94,8 +95,8 @@ pub record IsSoundAlone (o : Start) (held : Contents) : Type 0 where
   pub clock : AreClockNotes held.notes
   pub bare : IsBare (start_at 1 1 o.sizes held.cells held.notes)
 
--- What the server holds in the end by its journal is what the disk that was given back holds, and what a crash leaves of it. Where this
--- holds, the disk did not fail.
+-- What the server holds in the end by its journal is what the disk that was given back holds, and what a crash leaves of it. What its notes
+-- said of its own files was sound. Where this holds, the disk did not fail.
 pub record IsStored {D : Type 0} (g : Ghosts D) (P : Type 0) (server servers : ℕ) (sizes : Sizes) (o : Start) (notes : Notes) (m : State) (taken given : D) : Type 0 where
   pub new : IsNew sizes (g.size taken) (g.seen taken) → IsOpenedNew sizes o notes
   pub found : (IsNew sizes (g.size taken) (g.seen taken) → ⊥) → IsOpenedOn server servers (g.size taken) (g.seen taken) o notes
@@ -106,6 +107,7 @@ pub record IsStored {D : Type 0} (g : Ghosts D) (P : Type 0) (server servers : �
   pub sized : AreSized (map.get held.cells)
   pub durable : Only (g.seen given) (g.may_leave given)
   pub alone : servers ≡ 1 → IsSoundAlone o held
+  pub sound : IsSoundStart o
   pub unfailed : P → g.faults given ≡ g.faults taken
 
 -- ---- how the bay stands behind the run
@@ -150,8 +152,8 @@ pub record IsRightAt (last : Course) (n : ℕ) : Type 0 where
 
 -- The run of these lines ended for that fault where its servers stood so: a line had more to send or to bring about, or the settling behind
 -- the lines had (`stopped`). The journals are those of what occurred by then, each reply is the one that was handed, and they are lawful. Where
--- what the servers opened on is sound the decided transactions are one thread's history, each with all of its parts. Of a server that runs
--- alone all this holds, and what the clients are promised is kept too.
+-- what the servers opened on is sound the decided transactions are one thread's history, each with all of its parts, and what the clients are
+-- promised is kept. Of a server that runs alone it is.
 pub record IsCutShort (lines : List NumberedLine) (f : RunFault) (last : Course) : Type 0 where
   pub first : Course
   pub begins : IsFirst first
@@ -164,14 +166,16 @@ pub record IsCutShort (lines : List NumberedLine) (f : RunFault) (last : Course)
   pub stopped : StopsInLine (servers_said lines) lines turns happened due ⊎ StopsBehindLines (servers_said lines) lines turns happened due
   pub ends : IsEndFor f last due
   pub right : (n : ℕ) → IsSeat last n → IsRightAt last n
-  pub several : logs.AreSoundOpenings (log_of last (handed_of (λ k. own_in k turns))) → IsOneThread (log_of last (handed_of (λ k. own_in k turns))) × AreWhole (log_of last (handed_of (λ k. own_in k turns)))
-  pub alone : servers_said lines ≡ 1
+  pub history : logs.AreSoundOpenings (log_of last (handed_of (λ k. own_in k turns)))
       → IsOneThread (log_of last (handed_of (λ k. own_in k turns))) × AreWhole (log_of last (handed_of (λ k. own_in k turns))) × ArePromisesKept (log_of last (handed_of (λ k. own_in k turns)))
+  pub alone : servers_said lines ≡ 1 → logs.AreSoundOpenings (log_of last (handed_of (λ k. own_in k turns)))
 
 -- Where the servers stand so, this one was started on the disk, and what a crash leaves of the disk that is given back is what its journal
 -- says; of a server that is down, it is that or what its last write makes of that.
 pub record IsLeftBy {D : Type 0} (g : Ghosts D) (lines : List NumberedLine) (last : Course) (server : ℕ) (taken given : D) : Type 0 where
   pub notes : Notes
+  pub started : (seat_at last server).opening ≡ start_at server (servers_said lines) (seat_at last server).opening.sizes (seat_at last server).opening.cells notes
+  pub sound : IsSoundStart (seat_at last server).opening
   pub new : IsNew (sizes_said lines server) (g.size taken) (g.seen taken) → IsOpenedNew (sizes_said lines server) (seat_at last server).opening notes
   pub found : (IsNew (sizes_said lines server) (g.size taken) (g.seen taken) → ⊥) → IsOpenedOn server (servers_said lines) (g.size taken) (g.seen taken) (seat_at last server).opening notes
   pub left : (image : Image) → g.may_leave given image
@@ -196,6 +200,7 @@ pub record HasUsedUp {D : Type 0} (g : Ghosts D) (lines : List NumberedLine) (la
   pub started : (seat_at last server).opening ≡ start_at server (servers_said lines) (seat_at last server).opening.sizes (seat_at last server).opening.cells notes
   pub new : IsNew (sizes_said lines server) (g.size taken) (g.seen taken) → IsOpenedNew (sizes_said lines server) (seat_at last server).opening notes
   pub found : (IsNew (sizes_said lines server) (g.size taken) (g.seen taken) → ⊥) → IsOpenedOn server (servers_said lines) (g.size taken) (g.seen taken) (seat_at last server).opening notes
+  pub sound : IsSoundStart (seat_at last server).opening
   pub left : (image : Image) → g.may_leave given image
       → (c : Contents) × Holds server (servers_said lines) (g.size given) (seat_at last server).opening.sizes.home image c × IsLeftOf (state_after next (opened (seat_at last server).opening) (seat_at last server).journal) c
   pub read : g.may_leave given (g.seen given)
@@ -245,12 +250,29 @@ pub record StopsAt {D : Type 0} (g : Ghosts D) (lines : List NumberedLine) (serv
   pub among : IsOneOf (servers_said lines) server
   pub returned : AreReturned g lines server before after (λ n taken given. (n ≡ server → P taken given) × ((n ≡ server → ⊥) → IsUnplayed g lines n taken given))
 
--- the disks of so many servers were taken, and each is given back; this one's is the cause
-pub record AreLeft {D : Type 0} (g : Ghosts D) (lines : List NumberedLine) (server : ℕ) (before after : ℕ → Option D) (P : ℕ → D → D → Type 0) : Type 0 where
+-- A server was started on this disk. What the disk that is given back reads, and whatever a crash leaves of it, is a volume of the server.
+pub record IsLeftWhole {D : Type 0} (g : Ghosts D) (lines : List NumberedLine) (server : ℕ) (taken given : D) : Type 0 where
+  pub opening : Start
+  pub notes : Notes
+  pub new : IsNew (sizes_said lines server) (g.size taken) (g.seen taken) → IsOpenedNew (sizes_said lines server) opening notes
+  pub found : (IsNew (sizes_said lines server) (g.size taken) (g.seen taken) → ⊥) → IsOpenedOn server (servers_said lines) (g.size taken) (g.seen taken) opening notes
+  pub left : (image : Image) → g.may_leave given image → (c : Contents) × Holds server (servers_said lines) (g.size given) opening.sizes.home image c
+  pub read : g.may_leave given (g.seen given)
+
+-- Memory was wanting. The disks of so many servers were taken, and each is given back and is whole; only the last one's may be as its server, which did not
+-- start, left it. Without a line that stops a disk none failed.
+pub record AreLeftWanting {D : Type 0} (g : Ghosts D) (lines : List NumberedLine) (before after : ℕ → Option D) : Type 0 where
+  pub count : ℕ
+  pub few : count ≤ servers_said lines
+  pub returned : AreReturned g lines count before after (λ n taken given. (StopNone lines → g.faults given ≡ g.faults taken) × (IsLeftWhole g lines n taken given ⊎ (n ≡ count)))
+
+-- The disk of this server failed. Those of so many were taken, and each is given back and is whole; only this one's, if it was the last, may be as its
+-- server, which did not start, left it. Without a line that stops a disk no other one failed.
+pub record AreLeftFailing {D : Type 0} (g : Ghosts D) (lines : List NumberedLine) (server : ℕ) (before after : ℕ → Option D) : Type 0 where
   pub count : ℕ
   pub few : count ≤ servers_said lines
   pub cause : IsOneOf count server
-  pub returned : AreReturned g lines count before after P
+  pub returned : AreReturned g lines count before after (λ n taken given. (n ≡ server → Rose (g.faults taken) (g.faults given)) × ((n ≡ server → ⊥) → StopNone lines → g.faults given ≡ g.faults taken) × (IsLeftWhole g lines n taken given ⊎ ((n ≡ server) × (n ≡ count))))
 
 -- why a disk is none to start on, of those that name it
 abbrev pub IsNoVolume : {D : Type 0} → Ghosts D → List NumberedLine → (server : ℕ) → List ℕ → D → D → Type 0
@@ -266,18 +288,16 @@ IsAtItsEnd g lines server taken given = IsLeftAlone g (sizes_said lines server) 
 
 -- Why a run ended before its report, and how the bay stands then. Where the bay failed, so many servers were started, and the next disk was not
 -- taken. A disk that is none to start on is the first one that is not. Where a disk failed it is one that was taken, and where memory was
--- wanting all that were taken are given back; without a line that stops a disk none failed then. A full journal, and an epoch that is the
--- last one of a server in the run, come when all were started, and each disk comes back as its server's journal says. A server of several
--- that starts again in the run may find that its notes do not go together.
+-- wanting all that were taken are given back. A full journal, and an epoch that is the last one of a server in the run, come when all were
+-- started, and each disk comes back as its server's journal says. A server of several that starts again in the run may find that its notes do
+-- not go together.
 abbrev pub HasRunCause : {D : Type 0} → Ghosts D → List NumberedLine → (before after : ℕ → Option D) → (bay_before bay_after : ℕ) → NoReport → Type 0
 HasRunCause g lines before after bay_before bay_after fault.Bay = (count : ℕ) × (count < servers_said lines) × AreReturned g lines count before after (IsUnplayed g lines) × Rose bay_before bay_after
-HasRunCause g lines before after bay_before bay_after fault.OutOfMemory =
-    (count : ℕ) × (count ≤ servers_said lines) × AreReturned g lines count before after (λ n taken given. StopNone lines → g.faults given ≡ g.faults taken)
+HasRunCause g lines before after bay_before bay_after fault.OutOfMemory = AreLeftWanting g lines before after
 HasRunCause g lines before after bay_before bay_after fault.JournalFull =
     (last : Course) × IsCutShort lines run_fault.JournalFull last × (server : ℕ) × IsOneOf (servers_said lines) server
     × AreReturned g lines (servers_said lines) before after (λ n taken given. IsLeftBy g lines last n taken given × (n ≡ server → HasFilled g lines last n taken given))
-HasRunCause g lines before after bay_before bay_after (fault.Disk server) =
-    AreLeft g lines server before after (λ n taken given. (n ≡ server → Rose (g.faults taken) (g.faults given)) × ((n ≡ server → ⊥) → StopNone lines → g.faults given ≡ g.faults taken))
+HasRunCause g lines before after bay_before bay_after (fault.Disk server) = AreLeftFailing g lines server before after
 HasRunCause g lines before after bay_before bay_after (fault.EpochEnd server) =
     StopsAt g lines server before after (IsAtItsEnd g lines server)
     ⊎ ((last : Course) × IsCutShort lines (run_fault.Start server EpochEnd) last × IsOneOf (servers_said lines) server
@@ -285,7 +305,8 @@ HasRunCause g lines before after bay_before bay_after (fault.EpochEnd server) =
 HasRunCause g lines before after bay_before bay_after (fault.NotAVolume server found) = StopsAt g lines server before after (IsNoVolume g lines server found)
 HasRunCause g lines before after bay_before bay_after (fault.Damaged server place) =
     StopsAt g lines server before after (IsDamaged g lines server place)
-    ⊎ ((place ≡ 0) × (servers_said lines ≡ 1 → ⊥) × IsOneOf (servers_said lines) server × AreReturned g lines (servers_said lines) before after (λ n taken given. StopNone lines → g.faults given ≡ g.faults taken))
+    ⊎ ((place ≡ 0) × (servers_said lines ≡ 1 → ⊥) × IsOneOf (servers_said lines) server
+    × AreReturned g lines (servers_said lines) before after (λ n taken given. (StopNone lines → g.faults given ≡ g.faults taken) × IsLeftWhole g lines n taken given))
 
 -- ---- which disks a run starts on
 

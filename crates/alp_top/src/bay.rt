@@ -12,7 +12,7 @@ ghost use Rattle.alp_top.specs.Volumes.{HasRunCause, IsBayTold, IsFolderChosen, 
 ghost use Rattle.alp_vault.specs.Vault.{AreSizes};
 
 use crate::fault::NoReport;
-use crate::finish::{Ended, Rests, disk_in, end_node, report, vault_of};
+use crate::finish::{Ended, Rests, disk_in, end_node, report, shown, vault_of};
 use crate::start::start;
 use alp_base::{OutOfMemory, Sizes};
 use alp_bay::Bay;
@@ -220,16 +220,17 @@ fn close_all<B: Bay>(
 // ---- the run
 
 /// Plays the lines on the servers that they declare, each on its disk, in the folder that is named, or in memory where none is. All disks
-/// that were taken are given back however the run ends.
+/// that were taken are given back however the run ends. The report begins with a line for each line of a client, where these are shown.
 pub fn run_bay<B: Bay>(
     alloc: Global,
     lines: &[NumberedLine],
+    shows: bool,
     folder: Option<&str>,
     bay: &mut B,
 ) -> Result<Ended<Store<Fuse<B::Device>>>, NoReport>
     requires accepted { IsAccepted lines.now }
-    ensures ran { (folder.entry ≡ None) ⊎ IsTrue (B.tells bay.new) → IfOk result (λ e. IsRunOf ⟦<Store<Fuse<B::Device>> as Vault>⟧ B.Device.Disk lines.now e.log e.text.items (B.at bay.old) (B.at bay.new)) }
-    ensures through { IfOk result (λ e. IsPlayedThrough ⟦<Store<Fuse<B::Device>> as Vault>⟧ lines.now e.log e.text.items) }
+    ensures ran { (folder.entry ≡ None) ⊎ IsTrue (B.tells bay.new) → IfOk result (λ e. IsRunOf ⟦<Store<Fuse<B::Device>> as Vault>⟧ B.Device.Disk shows lines.now e.log e.text.items (B.at bay.old) (B.at bay.new)) }
+    ensures through { IfOk result (λ e. IsPlayedThrough ⟦<Store<Fuse<B::Device>> as Vault>⟧ shows lines.now e.log e.text.items) }
     ensures cause { (folder.entry ≡ None) ⊎ IsTrue (B.tells bay.new) → IfErr result (HasRunCause B.Device.Disk lines.now (B.at bay.old) (B.at bay.new) (B.faults bay.old) (B.faults bay.new)) }
     ensures chosen { IsFolderChosen result (B.chosen bay.old) (B.chosen bay.new) (option_map (λ name. name.now) folder.entry) }
     ensures counted { IfErr result (IsOfServers B.Device.Disk (servers_said lines.now)) }
@@ -249,5 +250,5 @@ pub fn run_bay<B: Bay>(
     }
     let (stations, lists, text) = cluster.into_parts();
     let rests = close_all(alloc, stations, bay)?;
-    Ok(report(rests, lists, text)?)
+    Ok(report(rests, lists, shown(alloc, text, shows))?)
 }

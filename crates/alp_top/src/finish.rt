@@ -4,7 +4,7 @@ ghost use Rattle.alp_base.specs.declared.allowance.Allowance.TheVariants.{Free};
 ghost use Rattle.alp_cluster.specs.Servers.{IsOn, HasGoneBy};
 ghost use Rattle.alp_cluster.specs.Station.{HasVault};
 ghost use Rattle.alp_top.specs.Disks.{IsGiven};
-ghost use Rattle.alp_top.specs.Endings.{AreNoRests, ArePutFirst, IsHeldOf, IsRestPut, IsReportOf, AreCellsOf};
+ghost use Rattle.alp_top.specs.Endings.{AreNoRests, ArePutFirst, IsHeldOf, IsRestPut, IsReportOf, AreCellsOf, shown_text};
 ghost use Rattle.alp_top.specs.Looks.{HasLooked};
 
 use crate::owners::owner_records;
@@ -152,6 +152,13 @@ pub fn disk_in<D: Disk>(vault: Store<D>) -> D
 {
     vault.knows();
     vault.into_disk()
+}
+
+/// The lines of the clients, where they are shown.
+pub fn shown(alloc: Global, text: Vec<u8>, shows: bool) -> Vec<u8>
+    ensures { result.items ≡ shown_text shows text.items }
+{
+    if shows { text } else { Vec::new(alloc) }
 }
 
 /// The log and the report of a run, behind the lines of its clients.

@@ -1,11 +1,13 @@
 //! A whole run, from the words of the program to the bytes of the report and the disks that are given back.
-ghost use Rattle.std.specs.Prelude.{◌≡◌, ℕ, false, take, map, string_bytes};
+ghost use Rattle.std.specs.Prelude.{◌≡◌, ℕ, false, take, map, string_bytes, IfOk, IfErr};
 ghost use Rattle.std.specs.Io.KnownBytes.{Appends};
 ghost use Rattle.std.specs.Option.{option_map};
 ghost use Rattle.alp_base.specs.Causes.{Rose};
-ghost use Rattle.alp_script.specs.Reading.{GaveFlaw, GaveGoodLines, SaysScript};
+ghost use Rattle.alp_script.specs.Accepted.{IsAccepted};
+ghost use Rattle.alp_script.specs.Reading.{GaveFlaw, GaveGoodLines, HasReadCause};
 ghost use Rattle.alp_top.specs.Anywhere.{IsToldAnywhere};
-ghost use Rattle.alp_top.specs.Headline.{IsPlayed, IsCutOff, HasCause, StartsHere, IsOfOne};
+ghost use Rattle.alp_top.specs.Commands.{AreToPlay, HasNoLines, shows_lines};
+ghost use Rattle.alp_top.specs.Headline.{IsPlayed, IsCutOff, HasCause, StartsHere, IsOfOne, HasLinesFor};
 ghost use Rattle.alp_top.specs.Statuses.{AreWordsTold, IsTold, OnDone, OnBadWords, OnFlaw, OnReadFault, OnWriteFault, OnCutShort, OnUntaken, folder_in, IsReadFaultTold, IsWriteFaultTold, IsBayFaultTold, IsFolderTold, OnUnwritten, IsPlayedOrMemory, IsHandedOver};
 ghost use Rattle.alp_words.specs.Words.{are_bad, folder_named};
 
@@ -29,6 +31,32 @@ fn folder_of(command: &Command) -> Option<&str>
 {
     match command {
         Command::Play { folder } => folder.as_deref(),
+    }
+}
+
+// Whether the command shows a line for each line of a client.
+fn shows(command: &Command) -> bool
+    ensures { result ≡ shows_lines command.now }
+{
+    match command {
+        Command::Play { folder: _ } => true,
+    }
+}
+
+// The lines that the command plays.
+fn lines_of<S: Source>(
+    alloc: Global,
+    command: &Command,
+    script: &mut S,
+) -> Result<Vec<NumberedLine>, ScriptFault>
+    ensures lines { IfOk result (λ lines. AreToPlay command.now (S.left script.old) (S.left script.new) lines.items) }
+    ensures accepted { IfOk result (λ lines. IsAccepted lines.items) }
+    ensures none { IfErr result (HasNoLines command.now (S.left script.old) (S.left script.new)) }
+    ensures cause { HasReadCause (S.faults script.old) (S.faults script.new) result }
+{
+    accepted_lines();
+    match command {
+        Command::Play { folder: _ } => read_script(alloc, script),
     }
 }
 
@@ -59,11 +87,11 @@ pub fn run_alpine<S: Source, K: Sink, B: Bay>(
     out: &mut K,
     bay: &mut B,
 ) -> Status<B::Device>
-    // The headline: what is written is the report of a run of the script; each decided transaction is everywhere or nowhere; and the
-    // disks are given back with what the servers hold in the end. Of one server the committed transactions are one thread's history.
-    ensures headline { IsTold (map string_bytes words.now) (B.tells bay.new) → OnDone result (IsPlayed ⟦<Store<Fuse<B::Device>> as Vault>⟧ B.Device.Disk (S.left script.old) (S.left script.new) (K.written out.old) (K.written out.new) (B.at bay.old) (B.at bay.new)) }
+    // The headline: what is written is the report of a run of the script; the committed transactions are one thread's history, each
+    // everywhere or nowhere; and the disks are given back with what that ends in.
+    ensures headline { IsTold (map string_bytes words.now) (B.tells bay.new) → OnDone result (IsPlayed ⟦<Store<Fuse<B::Device>> as Vault>⟧ B.Device.Disk (map string_bytes words.now) (S.left script.old) (S.left script.new) (K.written out.old) (K.written out.new) (B.at bay.old) (B.at bay.new)) }
     // After a write fault the log is of a run of the script too, and a prefix of its report is written.
-    ensures cut_off { IsTold (map string_bytes words.now) (B.tells bay.new) → OnWriteFault result (IsCutOff ⟦<Store<Fuse<B::Device>> as Vault>⟧ B.Device.Disk (S.left script.old) (S.left script.new) (K.written out.old) (K.written out.new) (B.at bay.old) (B.at bay.new)) }
+    ensures cut_off { IsTold (map string_bytes words.now) (B.tells bay.new) → OnWriteFault result (IsCutOff ⟦<Store<Fuse<B::Device>> as Vault>⟧ B.Device.Disk (map string_bytes words.now) (S.left script.old) (S.left script.new) (K.written out.old) (K.written out.new) (B.at bay.old) (B.at bay.new)) }
     // The words are told bad just where the program's command line has no such words, and then nothing is read.
     ensures words { AreWordsTold (are_bad (map string_bytes words.now)) result × OnBadWords result (script.new ≡ script.old) }
     // That line of what the source gave is the first outside the language, or the lines are too many.
@@ -73,10 +101,10 @@ pub fn run_alpine<S: Source, K: Sink, B: Bay>(
     // A fault of a stream or of the bay is told just where it came in this call.
     ensures faults { IsReadFaultTold result (S.faults script.old) (S.faults script.new) × IsWriteFaultTold result (K.faults out.old) (K.faults out.new) × IsBayFaultTold result (B.faults bay.old) (B.faults bay.new) }
     // The bay or a disk ended the run: it failed in this call, or the disk is not one of its server's. Or memory was wanting.
-    ensures disk { IsTold (map string_bytes words.now) (B.tells bay.new) → OnCutShort result (bay.new ≡ bay.old) (HasCause B.Device.Disk (S.left script.old) (S.left script.new) (B.at bay.old) (B.at bay.new) (B.faults bay.old) (B.faults bay.new)) }
+    ensures disk { IsTold (map string_bytes words.now) (B.tells bay.new) → OnCutShort result (bay.new ≡ bay.old) (HasCause B.Device.Disk (map string_bytes words.now) (S.left script.old) (S.left script.new) (B.at bay.old) (B.at bay.new) (B.faults bay.old) (B.faults bay.new)) }
     // Of any bay, also of one that does not tell what stands in it: what is written is the report of a run of the script, limits and
     // servers are what they may be, and a fault of a disk is told only of one that failed in this call.
-    ensures any_bay { IsToldAnywhere ⟦<Store<Fuse<B::Device>> as Vault>⟧ (S.left script.old) (S.left script.new) (K.written out.old) (K.written out.new) result }
+    ensures any_bay { IsToldAnywhere ⟦<Store<Fuse<B::Device>> as Vault>⟧ (map string_bytes words.now) (S.left script.old) (S.left script.new) (K.written out.old) (K.written out.new) result }
     // The disks are those of the folder that the words name, or in memory where they name none.
     ensures folder { IsFolderTold result (B.chosen bay.old) (B.chosen bay.new) (folder_named (map string_bytes words.now)) }
     // No disk is asked for before the script is read.
@@ -84,8 +112,8 @@ pub fn run_alpine<S: Source, K: Sink, B: Bay>(
     // A script of the language is played to its end on disks that are new or their servers', where nothing fails, unless memory is
     // wanting, a journal is full or a server has come to the last epoch; or, in a run of several servers, one starts again whose notes do
     // not go together.
-    ensures complete { are_bad (map string_bytes words.now) ≡ false → SaysScript (S.left script.old) → (Rose (S.faults script.old) (S.faults script.new) → ⊥) → (Rose (K.faults out.old) (K.faults out.new) → ⊥)
-        → (Rose (B.faults bay.old) (B.faults bay.new) → ⊥) → IsTold (map string_bytes words.now) (B.tells bay.new) → StartsHere B.Device.Disk (S.left script.old) (S.left script.new) (B.at bay.old) (B.at bay.new) → IsPlayedOrMemory (IsOfOne (S.left script.old) (S.left script.new) → ⊥) result }
+    ensures complete { are_bad (map string_bytes words.now) ≡ false → HasLinesFor (map string_bytes words.now) (S.left script.old) → (Rose (S.faults script.old) (S.faults script.new) → ⊥) → (Rose (K.faults out.old) (K.faults out.new) → ⊥)
+        → (Rose (B.faults bay.old) (B.faults bay.new) → ⊥) → IsTold (map string_bytes words.now) (B.tells bay.new) → StartsHere B.Device.Disk (map string_bytes words.now) (S.left script.old) (S.left script.new) (B.at bay.old) (B.at bay.new) → IsPlayedOrMemory (IsOfOne (map string_bytes words.now) (S.left script.old) (S.left script.new) → ⊥) result }
     // Nothing is written but the report.
     ensures unwritten { OnUnwritten result (out.new ≡ out.old) }
 {
@@ -94,7 +122,7 @@ pub fn run_alpine<S: Source, K: Sink, B: Bay>(
         Err(WordsFault::Bad) => return Status::BadWords,
         Err(WordsFault::OutOfMemory) => return Status::OutOfMemory,
     };
-    let lines = match read_script(alloc, script) {
+    let lines = match lines_of(alloc, &command, script) {
         Ok(lines) => lines,
         Err(ScriptFault::Bad { line }) => return Status::BadScript { line },
         Err(ScriptFault::TooLong) => {
@@ -105,9 +133,8 @@ pub fn run_alpine<S: Source, K: Sink, B: Bay>(
         Err(ScriptFault::ReadFault) => return Status::ReadFault,
         Err(ScriptFault::OutOfMemory) => return Status::OutOfMemory,
     };
-    accepted_lines();
     let played: &[NumberedLine] = &lines;
-    match run_bay(alloc, played, folder_of(&command), bay) {
+    match run_bay(alloc, played, shows(&command), folder_of(&command), bay) {
         Ok(ended) => hand_over(&ended, out),
         Err(fault) => ended_by(fault),
     }

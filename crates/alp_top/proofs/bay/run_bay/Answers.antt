@@ -7,7 +7,7 @@ use Rattle.alp_store.specs.contracts.store.StoreVault.TheImpl as store_vault
 use Rattle.alp_script.specs.Accepted.{servers_said}
 use Rattle.alp_top.specs.Disks.{HaveBegun, HaveBegunSome, AreClosed}
 use Rattle.alp_top.specs.Faults.{played}
-use Rattle.alp_top.specs.Headline.{IsRunOf}
+use Rattle.alp_top.specs.Endings.{shown_text}
 use Rattle.alp_top.specs.Headline.{IsRunOf}
 use Rattle.alp_top.specs.Volumes.{HasRunCause, IsOfServers, IsBayFault}
 use Rattle.alp_top.specs.declared.fault.NoReport.TheVariants as fault
@@ -228,6 +228,14 @@ returns-in_err-report-clause-cause g c asked =
     (closed_moved G g.B.Device.Disk (g.B.Bay.tells c.start_all.new.bay) t c.into_parts-stations-2.result.0.items c.play_out.new.self.parties.stations.all.items two three _ c.start_all.ensures.tells (ap (λ v. v.items) c.into_parts-stations-2.ensures.stations) c.in_ok-rests.ensures.closed)
     told (g.B.Bay.faults c.args.bay.now) (g.B.Bay.faults c.close_all.new.bay)))
 
+pub returns-in_err-report-clause-chosen : goal.returns-in_err-report-clause-chosen
+returns-in_err-report-clause-chosen g c = folder_taken c.from_residual-in_err-report.result _ _ _ (c.close_all.ensures.chosen ∙ c.start_all.ensures.chosen ∙ c.in_ok-choose.ensures.named)
+
+pub returns-in_err-report-clause-bay : goal.returns-in_err-report-clause-bay
+returns-in_err-report-clause-bay g c =
+    told_of _ _ fault.OutOfMemory c.from_residual-in_err-report.result c.from_residual-in_err-report.ensures.0 c.from_residual-in_err-report.ensures.1
+    (c.close_all.ensures.faults ∙ c.in_default.ensures.bay ∙ c.in_ok-choose.ensures.cause.still)
+
 pub returns-clause-ran : goal.returns-clause-ran
 returns-clause-ran g c asked =
     let G = store_vault.ghosts (the_row g.row.B-Device g.B.Device.Disk) (fuse_disk.ghosts g.row.B-Device g.B.Device.Disk g.B.Device.Disk-dict g.B.Device.Destruct-dict) fuse_disk.no_dict fuse_disk.no_dict in
@@ -242,13 +250,14 @@ returns-clause-ran g c asked =
       | inl none ↦ g.met.B.Bay.told c.choose.new.self (c.in_ok-choose.ensures.named ∙ ap (option_map (λ (name : _). name.now)) none)
       | inr tells ↦ subst IsTrue (c.close_all.ensures.tells ∙ c.start_all.ensures.tells) tells
     ] in
-    subst (λ (b : ℕ → Option g.row.B-Device.Denot). IsRunOf G g.B.Device.Disk c.args.lines.now c.in_ok-report.field-0.log c.in_ok-report.field-0.text.items b three) c.choose.ensures.places
+    subst (λ (b : ℕ → Option g.row.B-Device.Denot). IsRunOf G g.B.Device.Disk c.args.shows c.args.lines.now c.in_ok-report.field-0.log c.in_ok-report.field-0.text.items b three) c.choose.ensures.places
     (went_well G g.B.Device.Disk t c.args.lines.now c.requires.accepted.least c.requires.accepted.most one two three old begun last.parties.stations c.in_default-play_out.ensures.gone c.in_ok-rests.rests
     (closed_moved G g.B.Device.Disk (g.B.Bay.tells c.start_all.new.bay) t c.into_parts-stations-2.result.0.items last.parties.stations.all.items two three _ c.start_all.ensures.tells (ap (λ v. v.items) c.into_parts-stations-2.ensures.stations) c.in_ok-rests.ensures.closed)
     last.lists.items last.text.items c.in_ok-report.field-0.text.items c.in_ok-report.field-0.log c.in_ok-rests.rests c.requires.accepted.rises c.in_default-play_out.ensures.played
     (rests_moved G c.into_parts-stations-2.result.0.items last.parties.stations.all.items c.in_ok-rests.rests (ap (λ v. v.items) c.into_parts-stations-2.ensures.stations) c.in_ok-rests.ensures.rests)
-    (report_moved c.in_ok-rests.rests c.into_parts-stations-2.result.1.items last.lists.items c.into_parts-stations-2.result.2.items last.text.items c.in_ok-report.field-0.log c.in_ok-report.field-0.text.items (ap (λ v. v.items) c.into_parts-stations-2.ensures.parts.0)
-    (ap (λ v. v.items) c.into_parts-stations-2.ensures.parts.1) c.in_ok-report.ensures)
+    c.args.shows
+    (report_moved c.in_ok-rests.rests c.into_parts-stations-2.result.1.items last.lists.items c.shown.result.items (shown_text c.args.shows last.text.items) c.in_ok-report.field-0.log c.in_ok-report.field-0.text.items (ap (λ v. v.items) c.into_parts-stations-2.ensures.parts.0)
+    (c.shown.ensures ∙ ap (λ v. shown_text c.args.shows v.items) c.into_parts-stations-2.ensures.parts.1) c.in_ok-report.ensures)
     told c.in_default-play_out.ensures.openings)
 
 pub returns-clause-through : goal.returns-clause-through
@@ -265,8 +274,9 @@ returns-clause-through g c =
     (closed_moved G g.B.Device.Disk (g.B.Bay.tells c.start_all.new.bay) t c.into_parts-stations-2.result.0.items last.parties.stations.all.items two three _ c.start_all.ensures.tells (ap (λ v. v.items) c.into_parts-stations-2.ensures.stations) c.in_ok-rests.ensures.closed)
     last.lists.items last.text.items c.in_ok-report.field-0.text.items c.in_ok-report.field-0.log c.in_ok-rests.rests c.requires.accepted.rises c.in_default-play_out.ensures.played
     (rests_moved G c.into_parts-stations-2.result.0.items last.parties.stations.all.items c.in_ok-rests.rests (ap (λ v. v.items) c.into_parts-stations-2.ensures.stations) c.in_ok-rests.ensures.rests)
-    (report_moved c.in_ok-rests.rests c.into_parts-stations-2.result.1.items last.lists.items c.into_parts-stations-2.result.2.items last.text.items c.in_ok-report.field-0.log c.in_ok-report.field-0.text.items (ap (λ v. v.items) c.into_parts-stations-2.ensures.parts.0)
-    (ap (λ v. v.items) c.into_parts-stations-2.ensures.parts.1) c.in_ok-report.ensures)
+    c.args.shows
+    (report_moved c.in_ok-rests.rests c.into_parts-stations-2.result.1.items last.lists.items c.shown.result.items (shown_text c.args.shows last.text.items) c.in_ok-report.field-0.log c.in_ok-report.field-0.text.items (ap (λ v. v.items) c.into_parts-stations-2.ensures.parts.0)
+    (c.shown.ensures ∙ ap (λ v. shown_text c.args.shows v.items) c.into_parts-stations-2.ensures.parts.1) c.in_ok-report.ensures)
 
 pub returns-clause-chosen : goal.returns-clause-chosen
 returns-clause-chosen g c = c.close_all.ensures.chosen ∙ c.start_all.ensures.chosen ∙ c.in_ok-choose.ensures.named
