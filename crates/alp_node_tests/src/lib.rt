@@ -1,4 +1,4 @@
-//! Tests of servers: what crosses threads, how often they write, and messages that come from nowhere.
+//! Tests of servers: what crosses threads.
 #![tactic(auto)]
 
 #[cfg(test)]

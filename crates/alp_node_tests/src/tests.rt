@@ -1,7 +1,5 @@
-//! What crosses threads of a server, and what servers of one run say to one another.
+//! What crosses threads of a server.
 ghost use Rattle.alp_vault.specs.Vault.{IsServer};
-
-mod several;
 
 use alp_base::Sizes;
 use alp_journal::Journal;
