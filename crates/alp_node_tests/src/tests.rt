@@ -1,5 +1,7 @@
-//! What crosses threads of a server.
+//! What crosses threads of a server, and what servers of one run say to one another.
 ghost use Rattle.alp_vault.specs.Vault.{IsServer};
+
+mod several;
 
 use alp_base::Sizes;
 use alp_journal::Journal;
