@@ -1,3 +1,5 @@
 mod Matches
 mod Refusals
 mod TopLevel
+mod Numbers
+mod Named

@@ -1,0 +1,6 @@
+mod WordLemmas
+mod RollLemmas
+mod BoundLemmas
+mod SteadyLemmas
+mod RoundLemmas
+mod AcceptLemmas

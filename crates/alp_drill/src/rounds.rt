@@ -1,0 +1,236 @@
+//! The rounds: stops, restarts, and a transaction each.
+ghost use Rattle.std.specs.Prelude.{◌≡◌, ◌≤◌, ◌<◌, ◌+◌, ◌++◌, ◌∷◌, [], OnOk, min as lesser_said};
+ghost use Rattle.alp_drill.specs.Adds.{Adds};
+ghost use Rattle.alp_drill.specs.Files.{AreFiles};
+ghost use Rattle.alp_drill.specs.Rounds.{is_stop as is_stop_said, is_restart as is_restart_said, stopping, restarting, beginning, writing, visit as visit_said, visits as visits_said, ending, transaction as transaction_said, round as round_said, rounds as rounds_said};
+
+use crate::adding::add;
+use crate::dice::Dice;
+use crate::files::{FILES, client_of};
+use crate::setup::SERVERS;
+use crate::words::{name, text};
+use alp_base::{Access, Choice, OutOfMemory, Run};
+use alp_lines::{FileWord, Line};
+use alp_modes::Mode;
+use std::alloc::Global;
+
+// A server stops in each round that is a multiple of this many, but in none before.
+const STOPS: u32 = 6;
+
+// So many rounds behind the round of a stop the server is started again.
+const DOWN: u32 = 3;
+
+fn lesser(a: u32, b: u32) -> u32
+    ensures { result ≡ lesser_said a b }
+{
+    if a < b { a } else { b }
+}
+
+fn is_stop(period: u32, number: u32) -> bool
+    requires { 0 < period }
+    ensures { result ≡ is_stop_said period number }
+{
+    0 < number && number % period == 0
+}
+
+fn is_restart(period: u32, number: u32) -> bool
+    requires { 0 < period }
+    ensures { result ≡ is_restart_said period number }
+{
+    period < number && number % period == DOWN
+}
+
+// In some rounds a server is to stop.
+#[tactic(auto, unfolding(crate::specs::Rounds::stopping))]
+fn stop(
+    script: &mut Vec<Line>,
+    dice: &mut Dice,
+    period: u32,
+    number: u32,
+) -> Result<(), OutOfMemory>
+    requires { 0 < period }
+    ensures { OnOk result (Adds script.old.items script.new.items dice.new (stopping period number dice.old)) }
+{
+    if !is_stop(period, number) {
+        return Ok(());
+    }
+    let server = 1 + dice.roll(u32::from(SERVERS)) as u8;
+    let calls = dice.roll(16);
+    dice.stopped = server;
+    add(script, Line::Stop { server, calls })
+}
+
+// In some rounds the server that was stopped last starts again.
+#[tactic(auto, unfolding(crate::specs::Rounds::restarting))]
+fn restart(
+    script: &mut Vec<Line>,
+    dice: &mut Dice,
+    period: u32,
+    number: u32,
+) -> Result<(), OutOfMemory>
+    requires { 0 < period }
+    ensures { OnOk result (Adds script.old.items script.new.items dice.new (restarting period number dice.old)) }
+{
+    if !is_restart(period, number) {
+        return Ok(());
+    }
+    let pick = u64::from(dice.roll(8));
+    let server = dice.stopped;
+    add(script, Line::Restart { server, pick })?;
+    add(script, Line::Settle)
+}
+
+#[tactic(auto, unfolding(crate::specs::Rounds::beginning))]
+fn begin(script: &mut Vec<Line>, dice: &mut Dice, number: u32) -> Result<(), OutOfMemory>
+    ensures { OnOk result (Adds script.old.items script.new.items dice.new (beginning number dice.old)) }
+{
+    let server = 1 + dice.roll(u32::from(SERVERS)) as u8;
+    let client = client_of(number);
+    add(script, Line::Begin { client, server })
+}
+
+// Maybe the pages that were read are written.
+#[tactic(auto, unfolding(crate::specs::Rounds::writing))]
+fn write(
+    alloc: Global,
+    script: &mut Vec<Line>,
+    dice: &mut Dice,
+    number: u32,
+    file: FileWord,
+    run: Run,
+) -> Result<(), OutOfMemory>
+    ensures { OnOk result (Adds script.old.items script.new.items dice.new (writing number file run dice.old)) }
+{
+    if dice.roll(2) != 0 {
+        return Ok(());
+    }
+    let text = text(alloc, "t", number)?;
+    let line = Line::WritePages {
+        client: client_of(number),
+        file,
+        run,
+        text,
+        choice: Choice::Fail,
+    };
+    add(script, line)
+}
+
+// Opens a file and reads some of its pages.
+#[tactic(auto, unfolding(crate::specs::Rounds::visit))]
+fn visit(
+    alloc: Global,
+    script: &mut Vec<Line>,
+    dice: &mut Dice,
+    pages: &[u32],
+    number: u32,
+) -> Result<(), OutOfMemory>
+    requires { AreFiles pages.now }
+    ensures { OnOk result (Adds script.old.items script.new.items dice.new (visit_said pages.now number dice.old)) }
+{
+    let client = client_of(number);
+    let place = dice.roll(FILES);
+    let file = FileWord::Word(name(alloc, "f", place)?);
+    let size = pages[place as usize];
+    let first = dice.roll(size);
+    let count = 1 + lesser(dice.roll(4), size - first - 1) as u8;
+    let run = Run { first, count };
+    let open_line = Line::OpenFile {
+        client,
+        file,
+        access: Access::Change,
+        mode: Mode::IntendWrite,
+        choice: Choice::Fail,
+    };
+    let read_line = Line::ReadPages {
+        client,
+        file,
+        run,
+        mode: Mode::Read,
+        choice: Choice::Fail,
+    };
+    add(script, open_line)?;
+    add(script, read_line)?;
+    write(alloc, script, dice, number, file, run)
+}
+
+#[tactic(auto, unfolding(crate::specs::Rounds::visits))]
+fn visits(
+    alloc: Global,
+    script: &mut Vec<Line>,
+    dice: &mut Dice,
+    pages: &[u32],
+    number: u32,
+) -> Result<(), OutOfMemory>
+    requires { AreFiles pages.now }
+    ensures { OnOk result (Adds script.old.items script.new.items dice.new (visits_said pages.now number dice.old)) }
+{
+    let count = 1 + dice.roll(3);
+    for _visit in 0..count {
+        visit(alloc, script, dice, pages, number)?;
+    }
+    Ok(())
+}
+
+#[tactic(auto, unfolding(crate::specs::Rounds::ending))]
+fn end(script: &mut Vec<Line>, dice: &mut Dice, number: u32) -> Result<(), OutOfMemory>
+    ensures { OnOk result (Adds script.old.items script.new.items dice.new (ending number dice.old)) }
+{
+    let client = client_of(number);
+    if dice.roll(20) == 0 {
+        return add(script, Line::Abort { client });
+    }
+    add(script, Line::Commit { client })
+}
+
+#[tactic(auto, using(crate::proofs::RollLemmas::adds_both))]
+fn transaction(
+    alloc: Global,
+    script: &mut Vec<Line>,
+    dice: &mut Dice,
+    pages: &[u32],
+    number: u32,
+) -> Result<(), OutOfMemory>
+    requires { AreFiles pages.now }
+    ensures { OnOk result (Adds script.old.items script.new.items dice.new (transaction_said pages.now number dice.old)) }
+{
+    begin(script, dice, number)?;
+    visits(alloc, script, dice, pages, number)?;
+    end(script, dice, number)
+}
+
+#[tactic(auto, using(crate::proofs::RollLemmas::adds_both))]
+fn round(
+    alloc: Global,
+    script: &mut Vec<Line>,
+    dice: &mut Dice,
+    pages: &[u32],
+    period: u32,
+    number: u32,
+) -> Result<(), OutOfMemory>
+    requires files { AreFiles pages.now }
+    requires period { 0 < period }
+    ensures { OnOk result (Adds script.old.items script.new.items dice.new (round_said pages.now period number dice.old)) }
+{
+    stop(script, dice, period, number)?;
+    restart(script, dice, period, number)?;
+    transaction(alloc, script, dice, pages, number)
+}
+
+/// So many rounds.
+#[tactic(auto, unfolding(crate::specs::Rounds::rounds))]
+pub(crate) fn rounds(
+    alloc: Global,
+    script: &mut Vec<Line>,
+    dice: &mut Dice,
+    pages: &[u32],
+    size: u32,
+) -> Result<(), OutOfMemory>
+    requires { AreFiles pages.now }
+    ensures { OnOk result (Adds script.old.items script.new.items dice.new (rounds_said pages.now size dice.old)) }
+{
+    let period = size / STOPS + 1;
+    for number in 0..size {
+        round(alloc, script, dice, pages, period, number)?;
+    }
+    Ok(())
+}
