@@ -1,7 +1,7 @@
 -- along the course of a run: what a client sends has its entry at its server, and each call in a journal was sent
-use Rattle.std.specs.Prelude.{◌==◌, ◌≢◌, Bool, true, false, cond, slice_get, slice_set, Option, None, Some}
+use Rattle.std.specs.Prelude.{◌==◌, Bool, true, false, cond, slice_get, slice_set, Option, None, Some}
 use Rattle.std.specs.List.{AllByRecursion}
-use Rattle.std.proofs.Common.{inl, inr, ◌⊎◌, ◌≡◌, ℕ, zero, suc, ◌+◌, ◌-◌, ◌<◌, ◌≤◌, List, [], ◌∷◌, ◌++◌, length, length-append, get_or, refl, sym, ◌∙◌, ap, subst, arith, eq-eqb, append_assoc, append-nil}
+use Rattle.std.proofs.Common.{inl, inr, ◌⊎◌, ◌≡◌, ℕ, zero, suc, ◌+◌, ◌-◌, ◌≤◌, List, [], ◌∷◌, ◌++◌, length, length-append, get_or, refl, sym, ◌∙◌, ap, subst, arith, eq-eqb, append_assoc, append-nil}
 use Rattle.std.proofs.lemmas.Bool.{ne_eqb}
 use Rattle.alp_files.specs.declared.call.Call.{Call}
 use Rattle.alp_journal.specs.declared.entry.Entry.{Entry}
@@ -14,7 +14,7 @@ use Rattle.alp_journal.specs.declared.message.Message.{Message}
 use Rattle.alp_history.specs.Handed.{IsOfNone}
 use Rattle.alp_history.specs.Log.{IsIn}
 use Rattle.alp_history.proofs.Linked.{in-left, in-right}
-use Rattle.alp_course.specs.Happens.{Happening, sent_it, timed_out, ticked, forced, stop_set, restarted, lifts, finds, Stand, first_stand, IsEntryOf, IsNone, ComesTo, Takes, Happens}
+use Rattle.alp_course.specs.Happens.{Happening, sent_it, timed_out, ticked, forced, stop_set, restarted, lifts, finds, Stand, IsNone, ComesTo, Takes, Happens}
 use Rattle.alp_course.specs.Courses.{Course, Seat, first_seat, no_seat, seat_at, seat_after, last_rank, IsSeat, IsAt, Occurrence, at, looks, brings, loses, repeats, rests, next_message, taking, Arrives, IsBrought, IsLost, IsRepeated, Occurs, AreCourse}
 use Rattle.alp_course.specs.Links.{AreIdle, IsFirst}
 use Rattle.alp_course.specs.Plays.{sent_of}

@@ -1,7 +1,7 @@
 -- what clients sent and were handed in a run of any number of servers is as their machine and the servers leave it
-use Rattle.std.specs.Prelude.{◌==◌, true, false, Bool, cond, Option, None, Some, slice_get, filter, map as list_map}
+use Rattle.std.specs.Prelude.{◌==◌, true, false, Bool, cond, Option, None, Some, slice_get, map as list_map}
 use Rattle.std.specs.List.{AllByRecursion}
-use Rattle.std.proofs.Common.{inl, inr, ◌⊎◌, ◌≡◌, ℕ, zero, suc, ◌+◌, ◌<◌, ◌≤◌, List, [], ◌∷◌, ◌++◌, length, refl, sym, ◌∙◌, ap, subst, arith, eq-eqb}
+use Rattle.std.proofs.Common.{inl, inr, ◌⊎◌, ◌≡◌, ℕ, ◌+◌, ◌<◌, ◌≤◌, List, [], ◌∷◌, ◌++◌, length, refl, sym, ◌∙◌, ap, subst, arith, eq-eqb}
 use Rattle.std.proofs.lemmas.Bool.Decides.{eqb_tells}
 use Rattle.alp_base.specs.declared.ids.TransId.{TransId}
 use Rattle.alp_files.specs.declared.call.Call.{Call}
@@ -12,7 +12,6 @@ use Rattle.alp_files.specs.declared.reply.Reply.TheVariants as reply
 use Rattle.alp_journal.specs.Laws.{IsLawful}
 use Rattle.alp_journal.specs.Opening.{Start}
 use Rattle.alp_journal.specs.declared.entry.Entry.{Entry}
-use Rattle.alp_journal.specs.declared.event.Event.TheVariants as event
 use Rattle.alp_journal.specs.declared.log.Item.{Item}
 use Rattle.alp_journal.specs.declared.log.Mark.TheVariants as mark
 use Rattle.alp_journal.specs.declared.log.Sent.{Sent}
@@ -175,11 +174,13 @@ above k a (y ∷ xs) x q h (inr i) own is = elim (above k (come_with a y.mark y.
   | inl greets ↦ inl greets
   | inr below ↦ inr (below_after a (come_with a y.mark y.sent) (come_of q) (come_rises a y.mark y.sent) below)
 ]
+
 -- ---- places
 
 behind_up : (from : ℕ) (o : Option ℕ) → IsFrom from o → from ≤ behind from o
 behind_up from None h = omega arith
 behind_up from (Some p) h = omega (arith, h)
+
 -- places that rise from this one on
 abbrev AreRising : ℕ → List items.Item → Type 0
 AreRising from [] = Unit {0}
@@ -276,6 +277,7 @@ run_of log xs items.Raw o all h = tt
 not_begun : (r : Option Reply) (t : TransId) → IsOfNone r → r ≡ Some (reply.Begun t) → ⊥
 not_begun r t (inl is) begun = (let wrong : ◌≡◌ {A = Option Reply} (Some (reply.Refused refusal.BadFrame)) (Some (reply.Begun t)) = sym is ∙ begun in cc)
 not_begun r t (inr is) begun = (let wrong : ◌≡◌ {A = Option Reply} (Some (reply.Refused refusal.Down)) (Some (reply.Begun t)) = sym is ∙ begun in cc)
+
 -- ---- what was sent to one server
 
 in_server : (n : ℕ) (x : items.Item) (xs : List items.Item) → IsIn x xs → x.server ≡ n → IsIn x (at_server n xs)
