@@ -36,13 +36,13 @@ leads_by : (k t : Known) (n : ℕ) (l : Line) (ls : List Line) (o : Option Known
 leads_by k t n l ls None e h more = cc
 leads_by k t n l ls (Some u) e h more = (u, e, more u h)
 
-leads : (k t : Known) (n : ℕ) (ls : List Line) → read k ls ≡ Some t → LeadsFrom k (counted n ls)
-leads k t n [] h = tt
-leads k t n (l ∷ ls) h = leads_by k t n l ls (next k l) refl h (λ u. leads u t (n + 1) ls)
+counted_leads : (k t : Known) (n : ℕ) (ls : List Line) → read k ls ≡ Some t → LeadsFrom k (counted n ls)
+counted_leads k t n [] h = tt
+counted_leads k t n (l ∷ ls) h = leads_by k t n l ls (next k l) refl h (λ u. counted_leads u t (n + 1) ls)
 
-rises : (n : ℕ) (ls : List Line) → n + length ls ≤ SCRIPT_LINES_MOST + 1 → RisesFrom n (counted n ls)
-rises n [] few = tt
-rises n (l ∷ ls) few = (omega arith, omega (arith, few), rises (n + 1) ls (omega (arith, few)))
+counted_rises : (n : ℕ) (ls : List Line) → n + length ls ≤ SCRIPT_LINES_MOST + 1 → RisesFrom n (counted n ls)
+counted_rises n [] few = tt
+counted_rises n (l ∷ ls) few = (omega arith, omega (arith, few), counted_rises (n + 1) ls (omega (arith, few)))
 
 forms_counted : (n : ℕ) (ls : List Line) → AllByRecursion (λ (l : Line). IsForm l) ls → AllByRecursion (λ (l : NumberedLine). IsForm l.line) (counted n ls)
 forms_counted n [] all = tt
@@ -188,14 +188,14 @@ first_ours = refl
 accepted_by : (ls : List Line) → AreLawful (line.Servers 3 ∷ ls) → IsAccepted (counted 1 (line.Servers 3 ∷ ls))
 accepted_by ls are =
     let all = line.Servers 3 ∷ ls in
-    let lead = leads nothing_known (known all_words) 1 all are.reads in
-    let rest = leads declared (known all_words) 2 ls (ap (λ (o : Option Known). o >>= λ t. read t ls) (sym first_next) ∙ are.reads) in
+    let lead = counted_leads nothing_known (known all_words) 1 all are.reads in
+    let rest = counted_leads declared (known all_words) 2 ls (ap (λ (o : Option Known). o >>= λ t. read t ls) (sym first_next) ∙ are.reads) in
     let forms = forms_counted 1 all are.forms in
     let most : SCRIPT_LINES_MOST ≡ 200000 = refl in
     let both = ours_from 3 declared (counted 2 ls) refl refl rest forms.1 in
     record {
       leads = lead;
-      rises = rises 1 all (omega (arith, are.few, most));
+      rises = counted_rises 1 all (omega (arith, are.few, most));
       some = omega arith;
       few = omega (arith, length-counted 1 all, are.few, most);
       declared = declared_from nothing_known (counted 1 all) lead forms;

@@ -153,7 +153,7 @@ fn visit(
     write(alloc, script, dice, number, file, run)
 }
 
-#[tactic(auto, unfolding(crate::specs::Rounds::visits))]
+#[tactic(auto, using(crate::proofs::StepLemmas::visits_more, crate::proofs::StepLemmas::visits_end, crate::proofs::StepLemmas::adds_none))]
 fn visits(
     alloc: Global,
     script: &mut Vec<Line>,
@@ -165,7 +165,7 @@ fn visits(
     ensures { OnOk result (Adds script.old.items script.new.items dice.new (visits_said pages.now number dice.old)) }
 {
     let count = 1 + dice.roll(3);
-    for _visit in 0..count {
+    for _ in 0..count {
         visit(alloc, script, dice, pages, number)?;
     }
     Ok(())
@@ -217,7 +217,7 @@ fn round(
 }
 
 /// So many rounds.
-#[tactic(auto, unfolding(crate::specs::Rounds::rounds))]
+#[tactic(auto, using(crate::proofs::StepLemmas::rounds_more, crate::proofs::StepLemmas::rounds_end, crate::proofs::StepLemmas::adds_none))]
 pub(crate) fn rounds(
     alloc: Global,
     script: &mut Vec<Line>,

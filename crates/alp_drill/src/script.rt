@@ -30,6 +30,7 @@ fn lines_of(alloc: Global, seed: u64, size: u32) -> Result<Vec<Line>, OutOfMemor
 }
 
 // The lines with their numbers.
+#[tactic(auto, using(crate::proofs::StepLemmas::counted_more, crate::proofs::StepLemmas::counted_end))]
 fn counted(alloc: Global, lines: Vec<Line>) -> Result<Vec<NumberedLine>, OutOfMemory>
     requires { length lines.items ≤ 200000 }
     ensures { IfOk result (λ script. script.items ≡ counted_said 1 lines.items) }

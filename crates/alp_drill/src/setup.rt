@@ -28,6 +28,7 @@ fn declare_client(alloc: Global, script: &mut Vec<Line>, owner: u8) -> Result<()
 }
 
 /// Declares the servers and the clients.
+#[tactic(auto, using(crate::proofs::StepLemmas::declare_more, crate::proofs::RollLemmas::two_lines))]
 pub(crate) fn declare(alloc: Global, script: &mut Vec<Line>) -> Result<(), OutOfMemory>
     ensures { OnOk result (script.new.items ≡ script.old.items ++ declarations) }
 {
@@ -61,6 +62,7 @@ fn make_owner(
     add(script, line)
 }
 
+#[tactic(auto, using(crate::proofs::StepLemmas::owners_at_more, crate::proofs::StepLemmas::none_yet))]
 fn make_owners_at(alloc: Global, script: &mut Vec<Line>, server: u8) -> Result<(), OutOfMemory>
     ensures { OnOk result (script.new.items ≡ script.old.items ++ owners_at server) }
 {
@@ -71,6 +73,7 @@ fn make_owners_at(alloc: Global, script: &mut Vec<Line>, server: u8) -> Result<(
 }
 
 /// Makes the owners at each server.
+#[tactic(auto, using(crate::proofs::StepLemmas::owners_more, crate::proofs::StepLemmas::owners_end))]
 pub(crate) fn make_owners(alloc: Global, script: &mut Vec<Line>) -> Result<(), OutOfMemory>
     ensures { OnOk result (script.new.items ≡ script.old.items ++ owners) }
 {
