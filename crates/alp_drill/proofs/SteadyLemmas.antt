@@ -209,4 +209,5 @@ groups_read_from words pages (g ∷ gs) =
     ∙ groups_read_from here pages gs
 
 pub groups_read : (pages : List ℕ) → read (known []) (groups pages) ≡ Some (known all_words)
+unfolding all_words
 groups_read pages = groups_read_from [] pages (range_with_len 0 20)

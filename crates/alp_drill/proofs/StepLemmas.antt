@@ -9,7 +9,7 @@ use Rattle.alp_script.specs.declared.numbered.NumberedLine.{NumberedLine}
 use Rattle.alp_drill.specs.declared.dice.Dice.{Dice}
 use Rattle.alp_drill.specs.Adds.{Adds}
 use Rattle.alp_drill.specs.Rolls.{roll, in_turn}
-use Rattle.alp_drill.specs.Setup.{client_line, owner_line, owners_at}
+use Rattle.alp_drill.specs.Setup.{client_line, owner_line, owners_at, owners}
 use Rattle.alp_drill.specs.Files.{client_of, server_of, pages_of_file, create_line, group}
 use Rattle.alp_drill.specs.Rounds.{visit, visits, round, rounds}
 use Rattle.alp_drill.specs.Script.{counted}
@@ -41,10 +41,12 @@ pub owners_more : (i : ℕ) (before mid after : List Line)
     → after ≡ before ++ (line.Begin 1 1 ∷ flat_map owners_at (range_with_len 1 (i + 1)))
 owners_more i before mid after so_far here = flat_mapped_more owners_at 1 i (i + 1) before mid after (line.Begin 1 1 ∷ []) (omega arith) so_far here
 
-pub owners_end : (before mid after : List Line)
-    → mid ≡ before ++ (line.Begin 1 1 ∷ flat_map owners_at (range_with_len 1 3)) → after ≡ mid ++ line.Commit 1 ∷ []
-    → after ≡ before ++ (line.Begin 1 1 ∷ (flat_map owners_at (range_with_len 1 3) ++ line.Commit 1 ∷ []))
-owners_end before mid after so_far here = closed before mid after (line.Begin 1 1 ∷ []) (flat_map owners_at (range_with_len 1 3)) (line.Commit 1) so_far here
+pub owners_end : (n : ℕ) (before mid after : List Line) → n ≡ 3
+    → mid ≡ before ++ (line.Begin 1 1 ∷ flat_map owners_at (range_with_len 1 n)) → after ≡ mid ++ line.Commit 1 ∷ []
+    → after ≡ before ++ owners
+owners_end n before mid after all so_far here =
+    closed before mid after (line.Begin 1 1 ∷ []) (flat_map owners_at (range_with_len 1 n)) (line.Commit 1) so_far here
+    ∙ ap (λ (k : ℕ). before ++ (line.Begin 1 1 ∷ (flat_map owners_at (range_with_len 1 k) ++ line.Commit 1 ∷ []))) all
 
 -- ---- the files
 
@@ -73,11 +75,12 @@ pub create_more : (pages : List ℕ) (g i : ℕ) (before mid after : List Line)
 create_more pages g i before mid after so_far here =
     mapped_more (create_line pages g) (10 * g) i (10 * g + i) before mid after (line.Begin (client_of g) (server_of g) ∷ []) refl so_far here
 
-pub create_end : (pages : List ℕ) (g : ℕ) (before mid after : List Line)
-    → mid ≡ before ++ (line.Begin (client_of g) (server_of g) ∷ map (create_line pages g) (range_with_len (10 * g) 10)) → after ≡ mid ++ line.Commit (client_of g) ∷ []
+pub create_end : (pages : List ℕ) (g n : ℕ) (before mid after : List Line) → n ≡ 10
+    → mid ≡ before ++ (line.Begin (client_of g) (server_of g) ∷ map (create_line pages g) (range_with_len (10 * g) n)) → after ≡ mid ++ line.Commit (client_of g) ∷ []
     → after ≡ before ++ group pages g
-create_end pages g before mid after so_far here =
-    closed before mid after (line.Begin (client_of g) (server_of g) ∷ []) (map (create_line pages g) (range_with_len (10 * g) 10)) (line.Commit (client_of g)) so_far here
+create_end pages g n before mid after all so_far here =
+    closed before mid after (line.Begin (client_of g) (server_of g) ∷ []) (map (create_line pages g) (range_with_len (10 * g) n)) (line.Commit (client_of g)) so_far here
+    ∙ ap (λ (k : ℕ). before ++ (line.Begin (client_of g) (server_of g) ∷ (map (create_line pages g) (range_with_len (10 * g) k) ++ line.Commit (client_of g) ∷ []))) all
 
 pub groups_more : (pages : List ℕ) (g : ℕ) (before mid after : List Line)
     → mid ≡ before ++ flat_map (group pages) (range_with_len 0 g) → after ≡ mid ++ group pages g

@@ -43,7 +43,7 @@ fn server_of(group: u32) -> u8
 }
 
 /// Rolls how many pages each file has.
-#[tactic(auto, unfolding(crate::specs::Files::pages_of_files), using(crate::proofs::StepLemmas::pages_more, crate::proofs::StepLemmas::pages_left, crate::proofs::StepLemmas::pages_count, crate::proofs::StepLemmas::pages_some))]
+#[tactic(auto, unfolding(crate::specs::Files::pages_of_files))]
 pub(crate) fn roll_pages(alloc: Global, dice: &mut Dice) -> Result<Vec<u32>, OutOfMemory>
     ensures pages { IfOk result (λ pages. pages.items ≡ (pages_of_files dice.old).0) }
     ensures dice { OnOk result (dice.new ≡ (pages_of_files dice.old).1) }
@@ -81,11 +81,11 @@ fn create_file(
         modify,
         choice: Choice::Fail,
     };
-    add(script, line)
+    add(script, line)?;
+    Ok(())
 }
 
 // A transaction that creates some of the files.
-#[tactic(auto, using(crate::proofs::StepLemmas::create_more, crate::proofs::StepLemmas::create_end))]
 fn create_group(
     alloc: Global,
     script: &mut Vec<Line>,
@@ -102,11 +102,11 @@ fn create_group(
     for i in 0..FILES_PER_GROUP {
         create_file(alloc, script, pages, number, FILES_PER_GROUP * number + i)?;
     }
-    add(script, Line::Commit { client })
+    add(script, Line::Commit { client })?;
+    Ok(())
 }
 
 /// Creates all files.
-#[tactic(auto, using(crate::proofs::StepLemmas::groups_more, crate::proofs::StepLemmas::none_yet))]
 pub(crate) fn create_files(
     alloc: Global,
     script: &mut Vec<Line>,

@@ -57,7 +57,8 @@ fn stop(
     let server = 1 + dice.roll(u32::from(SERVERS)) as u8;
     let calls = dice.roll(16);
     dice.stopped = server;
-    add(script, Line::Stop { server, calls })
+    add(script, Line::Stop { server, calls })?;
+    Ok(())
 }
 
 // In some rounds the server that was stopped last starts again.
@@ -77,7 +78,8 @@ fn restart(
     let pick = u64::from(dice.roll(8));
     let server = dice.stopped;
     add(script, Line::Restart { server, pick })?;
-    add(script, Line::Settle)
+    add(script, Line::Settle)?;
+    Ok(())
 }
 
 #[tactic(auto, unfolding(crate::specs::Rounds::beginning))]
@@ -86,7 +88,8 @@ fn begin(script: &mut Vec<Line>, dice: &mut Dice, number: u32) -> Result<(), Out
 {
     let server = 1 + dice.roll(u32::from(SERVERS)) as u8;
     let client = client_of(number);
-    add(script, Line::Begin { client, server })
+    add(script, Line::Begin { client, server })?;
+    Ok(())
 }
 
 // Maybe the pages that were read are written.
@@ -112,7 +115,8 @@ fn write(
         text,
         choice: Choice::Fail,
     };
-    add(script, line)
+    add(script, line)?;
+    Ok(())
 }
 
 // Opens a file and reads some of its pages.
@@ -150,10 +154,10 @@ fn visit(
     };
     add(script, open_line)?;
     add(script, read_line)?;
-    write(alloc, script, dice, number, file, run)
+    write(alloc, script, dice, number, file, run)?;
+    Ok(())
 }
 
-#[tactic(auto, using(crate::proofs::StepLemmas::visits_more, crate::proofs::StepLemmas::visits_end, crate::proofs::StepLemmas::adds_none))]
 fn visits(
     alloc: Global,
     script: &mut Vec<Line>,
@@ -177,12 +181,13 @@ fn end(script: &mut Vec<Line>, dice: &mut Dice, number: u32) -> Result<(), OutOf
 {
     let client = client_of(number);
     if dice.roll(20) == 0 {
-        return add(script, Line::Abort { client });
+        add(script, Line::Abort { client })?;
+        return Ok(());
     }
-    add(script, Line::Commit { client })
+    add(script, Line::Commit { client })?;
+    Ok(())
 }
 
-#[tactic(auto, using(crate::proofs::RollLemmas::adds_both))]
 fn transaction(
     alloc: Global,
     script: &mut Vec<Line>,
@@ -195,10 +200,10 @@ fn transaction(
 {
     begin(script, dice, number)?;
     visits(alloc, script, dice, pages, number)?;
-    end(script, dice, number)
+    end(script, dice, number)?;
+    Ok(())
 }
 
-#[tactic(auto, using(crate::proofs::RollLemmas::adds_both))]
 fn round(
     alloc: Global,
     script: &mut Vec<Line>,
@@ -213,11 +218,11 @@ fn round(
 {
     stop(script, dice, period, number)?;
     restart(script, dice, period, number)?;
-    transaction(alloc, script, dice, pages, number)
+    transaction(alloc, script, dice, pages, number)?;
+    Ok(())
 }
 
 /// So many rounds.
-#[tactic(auto, using(crate::proofs::StepLemmas::rounds_more, crate::proofs::StepLemmas::rounds_end, crate::proofs::StepLemmas::adds_none))]
 pub(crate) fn rounds(
     alloc: Global,
     script: &mut Vec<Line>,

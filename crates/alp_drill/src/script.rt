@@ -15,7 +15,7 @@ use std::alloc::Global;
 /// The most rounds of a drill.
 pub const DRILL_SIZE_MOST: u32 = 5_000;
 
-#[tactic(auto, unfolding(crate::specs::Script::drill_lines), using(crate::proofs::RollLemmas::four_parts))]
+#[tactic(auto, unfolding(crate::specs::Script::drill_lines))]
 fn lines_of(alloc: Global, seed: u64, size: u32) -> Result<Vec<Line>, OutOfMemory>
     ensures { IfOk result (λ lines. lines.items ≡ drill_lines seed size) }
 {
@@ -30,7 +30,6 @@ fn lines_of(alloc: Global, seed: u64, size: u32) -> Result<Vec<Line>, OutOfMemor
 }
 
 // The lines with their numbers.
-#[tactic(auto, using(crate::proofs::StepLemmas::counted_more, crate::proofs::StepLemmas::counted_end))]
 fn counted(alloc: Global, lines: Vec<Line>) -> Result<Vec<NumberedLine>, OutOfMemory>
     requires { length lines.items ≤ 200000 }
     ensures { IfOk result (λ script. script.items ≡ counted_said 1 lines.items) }
@@ -44,7 +43,7 @@ fn counted(alloc: Global, lines: Vec<Line>) -> Result<Vec<NumberedLine>, OutOfMe
 }
 
 /// The script of the drill with this seed and so many rounds. It is a script of the language, and of three servers.
-#[tactic(auto, unfolding(crate::specs::Script::drill_script), using(crate::proofs::AcceptLemmas::few_lines, crate::proofs::AcceptLemmas::accepted, crate::proofs::AcceptLemmas::three_servers))]
+#[tactic(auto, unfolding(crate::specs::Script::drill_script))]
 pub fn drill(alloc: Global, seed: u64, size: u32) -> Result<Vec<NumberedLine>, OutOfMemory>
     requires { size ≤ 5000 }
     // The lines are those that the seed and the size make.
@@ -54,5 +53,6 @@ pub fn drill(alloc: Global, seed: u64, size: u32) -> Result<Vec<NumberedLine>, O
     ensures servers { IfOk result (λ lines. servers_said lines.items ≡ 3) }
 {
     let lines = lines_of(alloc, seed, size)?;
-    counted(alloc, lines)
+    let script = counted(alloc, lines)?;
+    Ok(script)
 }

@@ -24,11 +24,11 @@ fn declare_client(alloc: Global, script: &mut Vec<Line>, owner: u8) -> Result<()
 {
     let name = name(alloc, "o", u32::from(owner))?;
     let client = owner + 1;
-    add(script, Line::Client { client, name })
+    add(script, Line::Client { client, name })?;
+    Ok(())
 }
 
 /// Declares the servers and the clients.
-#[tactic(auto, using(crate::proofs::StepLemmas::declare_more, crate::proofs::RollLemmas::two_lines))]
 pub(crate) fn declare(alloc: Global, script: &mut Vec<Line>) -> Result<(), OutOfMemory>
     ensures { OnOk result (script.new.items ≡ script.old.items ++ declarations) }
 {
@@ -59,10 +59,10 @@ fn make_owner(
         create,
         choice: Choice::Fail,
     };
-    add(script, line)
+    add(script, line)?;
+    Ok(())
 }
 
-#[tactic(auto, using(crate::proofs::StepLemmas::owners_at_more, crate::proofs::StepLemmas::none_yet))]
 fn make_owners_at(alloc: Global, script: &mut Vec<Line>, server: u8) -> Result<(), OutOfMemory>
     ensures { OnOk result (script.new.items ≡ script.old.items ++ owners_at server) }
 {
@@ -73,7 +73,6 @@ fn make_owners_at(alloc: Global, script: &mut Vec<Line>, server: u8) -> Result<(
 }
 
 /// Makes the owners at each server.
-#[tactic(auto, using(crate::proofs::StepLemmas::owners_more, crate::proofs::StepLemmas::owners_end))]
 pub(crate) fn make_owners(alloc: Global, script: &mut Vec<Line>) -> Result<(), OutOfMemory>
     ensures { OnOk result (script.new.items ≡ script.old.items ++ owners) }
 {
@@ -85,5 +84,6 @@ pub(crate) fn make_owners(alloc: Global, script: &mut Vec<Line>) -> Result<(), O
     for i in 0..SERVERS {
         make_owners_at(alloc, script, i + 1)?;
     }
-    add(script, Line::Commit { client: 1 })
+    add(script, Line::Commit { client: 1 })?;
+    Ok(())
 }

@@ -20,7 +20,7 @@ enum Wanted {
 
 use Wanted::{Bad, Drill, DrillIn, In, InMemory};
 
-static LINES: [(&[&str], Wanted); 89] = [
+static LINES: [(&[&str], Wanted); 88] = [
     (&["play"], InMemory),
     (&["play", "--folder", "DIR"], In("DIR")),
     (&["play", "--folder=DIR"], In("DIR")),
@@ -89,29 +89,53 @@ static LINES: [(&[&str], Wanted); 89] = [
     // A drill has a seed and a size, in any order, and may have a folder.
     (&["drill", "--seed", "7", "--size", "2000"], Drill(7, 2000)),
     (&["drill", "--size=1", "--seed=0"], Drill(0, 1)),
-    (&["drill", "--seed", "18446744073709551615", "--size", "5000"], Drill(18446744073709551615, 5000)),
-    (&["drill", "--folder", "DIR", "--seed", "7", "--size", "20"], DrillIn(7, 20, "DIR")),
-    (&["drill", "--seed", "7", "--size", "20", "--folder="], DrillIn(7, 20, "")),
+    (
+        &["drill", "--seed", "18446744073709551615", "--size", "5000"],
+        Drill(18446744073709551615, 5000),
+    ),
+    (
+        &["drill", "--folder", "DIR", "--seed", "7", "--size", "20"],
+        DrillIn(7, 20, "DIR"),
+    ),
+    (
+        &["drill", "--seed", "7", "--size", "20", "--folder="],
+        DrillIn(7, 20, ""),
+    ),
     // Zeros and a plus may lead a number.
     (&["drill", "--seed", "+7", "--size", "0020"], Drill(7, 20)),
-    (&["drill", "--seed", "7", "--size", "20", "--"], Drill(7, 20)),
+    (
+        &["drill", "--seed", "7", "--size", "20", "--"],
+        Drill(7, 20),
+    ),
     (&["drill"], Bad),
     (&["drill", "--seed", "7"], Bad),
     (&["drill", "--size", "20"], Bad),
     (&["drill", "--seed", "7", "--size", "0"], Bad),
     (&["drill", "--seed", "7", "--size", "5001"], Bad),
-    (&["drill", "--seed", "18446744073709551616", "--size", "20"], Bad),
+    (
+        &["drill", "--seed", "18446744073709551616", "--size", "20"],
+        Bad,
+    ),
     (&["drill", "--seed", "-1", "--size", "20"], Bad),
     (&["drill", "--seed=-1", "--size", "20"], Bad),
     (&["drill", "--seed", "", "--size", "20"], Bad),
     (&["drill", "--seed", "7x", "--size", "20"], Bad),
     (&["drill", "--seed", "7", "--size", "2 0"], Bad),
     (&["drill", "--seed", "7", "--size", "0x14"], Bad),
-    (&["drill", "--seed", "7", "--seed", "7", "--size", "20"], Bad),
-    (&["drill", "--seed", "7", "--size", "20", "--size", "20"], Bad),
+    (
+        &["drill", "--seed", "7", "--seed", "7", "--size", "20"],
+        Bad,
+    ),
+    (
+        &["drill", "--seed", "7", "--size", "20", "--size", "20"],
+        Bad,
+    ),
     (&["drill", "--seed", "7", "--size"], Bad),
     (&["drill", "--seed", "7", "--size", "20", "now"], Bad),
-    (&["drill", "--seed", "7", "--size", "20", "--servers", "3"], Bad),
+    (
+        &["drill", "--seed", "7", "--size", "20", "--servers", "3"],
+        Bad,
+    ),
     (&["drill", "7", "20"], Bad),
     (&["drill", "--help"], Bad),
     (&["--seed", "7", "--size", "20", "drill"], Bad),
