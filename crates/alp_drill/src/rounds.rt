@@ -54,8 +54,9 @@ fn stop(
     if !is_stop(period, number) {
         return Ok(());
     }
-    let server = 1 + dice.roll(u32::from(SERVERS)) as u8;
+    let which = dice.roll(u32::from(SERVERS));
     let calls = dice.roll(16);
+    let server = 1 + which as u8;
     dice.stopped = server;
     add(script, Line::Stop { server, calls })?;
     Ok(())
@@ -75,18 +76,19 @@ fn restart(
     if !is_restart(period, number) {
         return Ok(());
     }
-    let pick = u64::from(dice.roll(8));
+    let roll = dice.roll(8);
+    let pick = u64::from(roll);
     let server = dice.stopped;
     add(script, Line::Restart { server, pick })?;
     add(script, Line::Settle)?;
     Ok(())
 }
 
-#[tactic(auto, unfolding(crate::specs::Rounds::beginning))]
 fn begin(script: &mut Vec<Line>, dice: &mut Dice, number: u32) -> Result<(), OutOfMemory>
     ensures { OnOk result (Adds script.old.items script.new.items dice.new (beginning number dice.old)) }
 {
-    let server = 1 + dice.roll(u32::from(SERVERS)) as u8;
+    let which = dice.roll(u32::from(SERVERS));
+    let server = 1 + which as u8;
     let client = client_of(number);
     add(script, Line::Begin { client, server })?;
     Ok(())
@@ -104,12 +106,14 @@ fn write(
 ) -> Result<(), OutOfMemory>
     ensures { OnOk result (Adds script.old.items script.new.items dice.new (writing number file run dice.old)) }
 {
-    if dice.roll(2) != 0 {
+    let side = dice.roll(2);
+    if side != 0 {
         return Ok(());
     }
+    let client = client_of(number);
     let text = text(alloc, "t", number)?;
     let line = Line::WritePages {
-        client: client_of(number),
+        client,
         file,
         run,
         text,
@@ -120,7 +124,6 @@ fn write(
 }
 
 // Opens a file and reads some of its pages.
-#[tactic(auto, unfolding(crate::specs::Rounds::visit))]
 fn visit(
     alloc: Global,
     script: &mut Vec<Line>,
@@ -133,10 +136,13 @@ fn visit(
 {
     let client = client_of(number);
     let place = dice.roll(FILES);
-    let file = FileWord::Word(name(alloc, "f", place)?);
-    let size = pages[place as usize];
-    let first = dice.roll(size);
-    let count = 1 + lesser(dice.roll(4), size - first - 1) as u8;
+    let word = name(alloc, "f", place)?;
+    let most = pages[place as usize];
+    let first = dice.roll(most);
+    let more = dice.roll(4);
+    let fewer = lesser(more, most - first - 1);
+    let count = 1 + fewer as u8;
+    let file = FileWord::Word(word);
     let run = Run { first, count };
     let open_line = Line::OpenFile {
         client,
@@ -168,7 +174,8 @@ fn visits(
     requires { AreFiles pages.now }
     ensures { OnOk result (Adds script.old.items script.new.items dice.new (visits_said pages.now number dice.old)) }
 {
-    let count = 1 + dice.roll(3);
+    let more = dice.roll(3);
+    let count = 1 + more;
     for _ in 0..count {
         visit(alloc, script, dice, pages, number)?;
     }
@@ -180,7 +187,8 @@ fn end(script: &mut Vec<Line>, dice: &mut Dice, number: u32) -> Result<(), OutOf
     ensures { OnOk result (Adds script.old.items script.new.items dice.new (ending number dice.old)) }
 {
     let client = client_of(number);
-    if dice.roll(20) == 0 {
+    let side = dice.roll(20);
+    if side == 0 {
         add(script, Line::Abort { client })?;
         return Ok(());
     }
