@@ -41,7 +41,6 @@ fn is_restart(period: u32, number: u32) -> bool
 }
 
 // In some rounds a server is to stop.
-#[tactic(auto, unfolding(crate::specs::Rounds::stopping))]
 fn stop(
     script: &mut Vec<Line>,
     dice: &mut Dice,
@@ -63,7 +62,6 @@ fn stop(
 }
 
 // In some rounds the server that was stopped last starts again.
-#[tactic(auto, unfolding(crate::specs::Rounds::restarting))]
 fn restart(
     script: &mut Vec<Line>,
     dice: &mut Dice,
@@ -77,7 +75,7 @@ fn restart(
         return Ok(());
     }
     let roll = dice.roll(8);
-    let pick = u64::from(roll);
+    let pick = roll as u64;
     let server = dice.stopped;
     add(script, Line::Restart { server, pick })?;
     add(script, Line::Settle)?;
