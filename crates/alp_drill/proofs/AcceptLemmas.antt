@@ -6,6 +6,7 @@ use Rattle.std.proofs.lemmas.Bool.{le-leb}
 use Rattle.alp_base.specs.declared.choices.Choice.TheVariants as choice
 use Rattle.alp_tokens.specs.Words.{◌>>=◌}
 use Rattle.alp_base.specs.declared.lists.TheConstants.{NAMES_PER_LIST}
+use Rattle.alp_base.specs.declared.limits.TheConstants.{SERVERS}
 use Rattle.alp_lines.specs.Forms.{IsForm}
 use Rattle.alp_lines.specs.Forms as form
 use Rattle.alp_lines.specs.Operands.{everyone, its_owner}
@@ -36,13 +37,13 @@ leads_by : (k t : Known) (n : ℕ) (l : Line) (ls : List Line) (o : Option Known
 leads_by k t n l ls None e h more = cc
 leads_by k t n l ls (Some u) e h more = (u, e, more u h)
 
-leads : (k t : Known) (n : ℕ) (ls : List Line) → read k ls ≡ Some t → LeadsFrom k (counted n ls)
-leads k t n [] h = tt
-leads k t n (l ∷ ls) h = leads_by k t n l ls (next k l) refl h (λ u. leads u t (n + 1) ls)
+counted_leads : (k t : Known) (n : ℕ) (ls : List Line) → read k ls ≡ Some t → LeadsFrom k (counted n ls)
+counted_leads k t n [] h = tt
+counted_leads k t n (l ∷ ls) h = leads_by k t n l ls (next k l) refl h (λ u. counted_leads u t (n + 1) ls)
 
-rises : (n : ℕ) (ls : List Line) → n + length ls ≤ SCRIPT_LINES_MOST + 1 → RisesFrom n (counted n ls)
-rises n [] few = tt
-rises n (l ∷ ls) few = (omega arith, omega (arith, few), rises (n + 1) ls (omega (arith, few)))
+counted_rises : (n : ℕ) (ls : List Line) → n + length ls ≤ SCRIPT_LINES_MOST + 1 → RisesFrom n (counted n ls)
+counted_rises n [] few = tt
+counted_rises n (l ∷ ls) few = (omega arith, omega (arith, few), counted_rises (n + 1) ls (omega (arith, few)))
 
 forms_counted : (n : ℕ) (ls : List Line) → AllByRecursion (λ (l : Line). IsForm l) ls → AllByRecursion (λ (l : NumberedLine). IsForm l.line) (counted n ls)
 forms_counted n [] all = tt
@@ -50,7 +51,7 @@ forms_counted n (l ∷ ls) all = (all.0, forms_counted (n + 1) ls all.1)
 
 length-counted : (n : ℕ) (ls : List Line) → length (counted n ls) ≡ length ls
 length-counted n [] = refl
-length-counted n (l ∷ ls) = ap suc (length-counted (n + 1) ls)
+length-counted n (l ∷ ls) = omega (arith, length-counted (n + 1) ls)
 
 -- ---- forms
 
@@ -77,10 +78,12 @@ form_declarations : AllByRecursion (λ (l : Line). IsForm l) declarations
 form_declarations = (form.servers 3, (form.client 1 (codes "Admin"), form_mapped client_line (range_with_len 1 8) (λ k. form.client (k + 1) (owner k))))
 
 form_owners : AllByRecursion (λ (l : Line). IsForm l) owners
-form_owners =
-    (form.begin 1 1, form_append (flat_map owners_at (range_with_len 1 3)) (line.Commit 1 ∷ [])
-    (form_flat owners_at (range_with_len 1 3) (λ s. form_mapped (owner_line s) (range_with_len 1 8) (λ k. form.owner 1 s (owner k) 100000 its_owner choice.Fail one_fits)))
-    (form.commit 1, tt))
+form_owners = (
+  form.begin 1 1,
+  form_append (flat_map owners_at (range_with_len 1 3)) (line.Commit 1 ∷ [])
+      (form_flat owners_at (range_with_len 1 3) (λ s. form_mapped (owner_line s) (range_with_len 1 8) (λ k. form.owner 1 s (owner k) 100000 its_owner choice.Fail one_fits)))
+      (form.commit 1, tt),
+)
 
 -- all files have fewer pages than a number of a line may say
 abbrev AreSmall : List ℕ → Type 0
@@ -102,8 +105,8 @@ form_groups pages small =
     form_flat (group pages) (range_with_len 0 20) (λ g. (
       form.begin (client_of g) (server_of g),
       form_append (map (create_line pages g) (range_with_len (10 * g) 10)) (line.Commit (client_of g) ∷ [])
-      (form_mapped (create_line pages g) (range_with_len (10 * g) 10) (λ i. form.create (client_of g) (server_of g) (file_name i) (owner (1 + g % 8)) (slice_index pages i) everyone everyone choice.Fail (small i) one_fits one_fits))
-      (form.commit (client_of g), tt),
+          (form_mapped (create_line pages g) (range_with_len (10 * g) 10) (λ i. form.create (client_of g) (server_of g) (file_name i) (owner (1 + g % 8)) (slice_index pages i) everyone everyone choice.Fail (small i) one_fits one_fits))
+          (form.commit (client_of g), tt),
     ))
 
 -- ---- the lines of a drill
@@ -112,6 +115,12 @@ record AreLawful (ls : List Line) : Type 0 where
   reads : read nothing_known ls ≡ Some (known all_words)
   forms : AllByRecursion (λ (l : Line). IsForm l) ls
   few : length ls ≤ 100000
+
+length_three : (xs ys zs : List Line) → length (xs ++ (ys ++ zs)) ≡ length xs + (length ys + length zs)
+length_three xs ys zs = length-append xs (ys ++ zs) ∙ ap (λ (n : ℕ). length xs + n) (length-append ys zs)
+
+few_turns : (n size : ℕ) → n ≤ 14 * size → size ≤ 5000 → 36 + (240 + n) ≤ 100000
+few_turns n size few low = omega (arith, few, low)
 
 length_groups : (pages : List ℕ) → length (groups pages) ≡ 240
 length_groups pages = refl
@@ -139,7 +148,9 @@ four_lawful pages size turns low small are = record {
       ∙ steady_read all_words turns are.lines;
   forms = form_append (declarations ++ owners) (groups pages ++ turns) (form_append declarations owners form_declarations form_owners)
       (form_append (groups pages) turns (form_groups pages small) (form_steady all_words turns are.lines));
-  few = omega (arith, length-append (declarations ++ owners) (groups pages ++ turns), length-append (groups pages) turns, length_groups pages, length_setup, are.few, low);
+  few = subst (λ (n : ℕ). n ≤ 100000)
+      (sym (length_three (declarations ++ owners) (groups pages) turns ∙ (λ i. length_setup i + (length_groups pages i + length turns))))
+      (few_turns (length turns) size are.few low);
 }
 
 lawful : (seed size : ℕ) → size ≤ 5000 → AreLawful (drill_lines seed size)
@@ -188,19 +199,22 @@ first_ours = refl
 accepted_by : (ls : List Line) → AreLawful (line.Servers 3 ∷ ls) → IsAccepted (counted 1 (line.Servers 3 ∷ ls))
 accepted_by ls are =
     let all = line.Servers 3 ∷ ls in
-    let lead = leads nothing_known (known all_words) 1 all are.reads in
-    let rest = leads declared (known all_words) 2 ls (ap (λ (o : Option Known). o >>= λ t. read t ls) (sym first_next) ∙ are.reads) in
+    let lead = counted_leads nothing_known (known all_words) 1 all are.reads in
+    let rest = counted_leads declared (known all_words) 2 ls (ap (λ (o : Option Known). o >>= λ t. read t ls) (sym first_next) ∙ are.reads) in
     let forms = forms_counted 1 all are.forms in
     let most : SCRIPT_LINES_MOST ≡ 200000 = refl in
+    let some : 0 < suc (length (counted 2 ls)) = omega arith in
+    let least : 1 ≤ 3 = omega arith in
+    let no_more : 3 ≤ SERVERS = let servers : SERVERS ≡ 8 = refl in omega (arith, servers) in
     let both = ours_from 3 declared (counted 2 ls) refl refl rest forms.1 in
     record {
       leads = lead;
-      rises = rises 1 all (omega (arith, are.few, most));
-      some = omega arith;
-      few = omega (arith, length-counted 1 all, are.few, most);
+      rises = counted_rises 1 all (omega (arith, are.few, most));
+      some = some;
+      few = subst (λ (n : ℕ). n ≤ SCRIPT_LINES_MOST) (sym (length-counted 1 all)) (omega (arith, are.few, most));
       declared = declared_from nothing_known (counted 1 all) lead forms;
-      least = omega arith;
-      most = omega arith;
+      least = least;
+      most = no_more;
       ours = (first_ours, both.0);
       files = (tt, both.1);
       forms = forms;

@@ -75,8 +75,9 @@ bind_groups_has j words a (suc n) least most = elim (cases_lt j (10 * a + 10)) [
 ]
 
 -- the words of all files
-abbrev pub all_words : List (List ℕ)
+unfoldable pub all_words : List (List ℕ)
 all_words = bind_groups [] (range_with_len 0 20)
 
 pub all_bound : (j : ℕ) → j < 200 → IsBound all_words j
+unfolding all_words
 all_bound j low = bind_groups_has j [] 0 20 (omega arith) (omega (arith, low))

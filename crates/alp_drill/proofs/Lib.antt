@@ -1,5 +1,6 @@
 mod WordLemmas
 mod RollLemmas
+mod StepLemmas
 mod BoundLemmas
 mod SteadyLemmas
 mod RoundLemmas

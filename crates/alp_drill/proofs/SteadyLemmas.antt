@@ -96,90 +96,89 @@ parts_ours : (n : ℕ) (l : Line) → is_client (client_named l) ≡ true → is
 unfolding names_ours
 parts_ours n l client server receiver = and_from _ _ (and_from _ _ client server) receiver
 
-module _ (words : List (List ℕ)) where
-  -- behind the line as much is known as before it, and it is of the language's forms
-  pub record IsSteady (l : Line) : Type 0 where
-    pub goes : next (known words) l ≡ Some (known words)
-    pub formed : IsForm l
+-- behind the line as much is known as before it, and it is of the language's forms
+pub record IsSteady (words : List (List ℕ)) (l : Line) : Type 0 where
+  pub goes : next (known words) l ≡ Some (known words)
+  pub formed : IsForm l
 
-  pub begin_steady : (c s : ℕ) → IsOurClient c → is_server 3 (Some s) ≡ true → IsSteady (line.Begin c s)
-  unfolding client_named server_named receiver_named after
-  begin_steady c s client server = record {
-    goes = declared_next (known words) (line.Begin c s) (parts_ours 3 (line.Begin c s) client.least server refl) client.among;
-    formed = form.begin c s;
-  }
+pub begin_steady : (words : List (List ℕ)) (c s : ℕ) → IsOurClient c → is_server 3 (Some s) ≡ true → IsSteady words (line.Begin c s)
+unfolding client_named server_named receiver_named after
+begin_steady words c s client server = record {
+  goes = declared_next (known words) (line.Begin c s) (parts_ours 3 (line.Begin c s) client.least server refl) client.among;
+  formed = form.begin c s;
+}
 
-  pub commit_steady : (c : ℕ) → IsOurClient c → IsSteady (line.Commit c)
-  unfolding client_named server_named receiver_named after
-  commit_steady c client = record {
-    goes = declared_next (known words) (line.Commit c) (parts_ours 3 (line.Commit c) client.least refl refl) client.among;
-    formed = form.commit c;
-  }
+pub commit_steady : (words : List (List ℕ)) (c : ℕ) → IsOurClient c → IsSteady words (line.Commit c)
+unfolding client_named server_named receiver_named after
+commit_steady words c client = record {
+  goes = declared_next (known words) (line.Commit c) (parts_ours 3 (line.Commit c) client.least refl refl) client.among;
+  formed = form.commit c;
+}
 
-  pub abort_steady : (c : ℕ) → IsOurClient c → IsSteady (line.Abort c)
-  unfolding client_named server_named receiver_named after
-  abort_steady c client = record {
-    goes = declared_next (known words) (line.Abort c) (parts_ours 3 (line.Abort c) client.least refl refl) client.among;
-    formed = form.abort c;
-  }
+pub abort_steady : (words : List (List ℕ)) (c : ℕ) → IsOurClient c → IsSteady words (line.Abort c)
+unfolding client_named server_named receiver_named after
+abort_steady words c client = record {
+  goes = declared_next (known words) (line.Abort c) (parts_ours 3 (line.Abort c) client.least refl refl) client.among;
+  formed = form.abort c;
+}
 
-  pub stop_steady : (s calls : ℕ) → is_server 3 (Some s) ≡ true → calls < 2 ^ 32 → IsSteady (line.Stop s calls)
-  unfolding client_named server_named receiver_named after after_setting
-  stop_steady s calls server small = record {
-    goes = declared_next (known words) (line.Stop s calls) (parts_ours 3 (line.Stop s calls) refl server refl) refl;
-    formed = form.stop s calls small;
-  }
+pub stop_steady : (words : List (List ℕ)) (s calls : ℕ) → is_server 3 (Some s) ≡ true → calls < 2 ^ 32 → IsSteady words (line.Stop s calls)
+unfolding client_named server_named receiver_named after after_setting
+stop_steady words s calls server small = record {
+  goes = declared_next (known words) (line.Stop s calls) (parts_ours 3 (line.Stop s calls) refl server refl) refl;
+  formed = form.stop s calls small;
+}
 
-  pub restart_steady : (s pick : ℕ) → is_server 3 (Some s) ≡ true → pick < 2 ^ 64 → IsSteady (line.Restart s pick)
-  unfolding client_named server_named receiver_named after after_setting
-  restart_steady s pick server small = record {
-    goes = declared_next (known words) (line.Restart s pick) (parts_ours 3 (line.Restart s pick) refl server refl) refl;
-    formed = form.restart s pick small;
-  }
+pub restart_steady : (words : List (List ℕ)) (s pick : ℕ) → is_server 3 (Some s) ≡ true → pick < 2 ^ 64 → IsSteady words (line.Restart s pick)
+unfolding client_named server_named receiver_named after after_setting
+restart_steady words s pick server small = record {
+  goes = declared_next (known words) (line.Restart s pick) (parts_ours 3 (line.Restart s pick) refl server refl) refl;
+  formed = form.restart s pick small;
+}
 
-  pub settle_steady : IsSteady line.Settle
-  unfolding client_named server_named receiver_named after after_setting
-  settle_steady = record {
-    goes = declared_next (known words) line.Settle (parts_ours 3 line.Settle refl refl refl) refl;
-    formed = form.settle;
-  }
+pub settle_steady : (words : List (List ℕ)) → IsSteady words line.Settle
+unfolding client_named server_named receiver_named after after_setting
+settle_steady words = record {
+  goes = declared_next (known words) line.Settle (parts_ours 3 line.Settle refl refl refl) refl;
+  formed = form.settle;
+}
 
-  bound_after : (i : ℕ) → IsBound words i → after_file (known words) (file_word.Word (file_name i)) ≡ Some (known words)
-  unfolding after_file
-  bound_after i bound = cond-true (is_bound 3 words (file_word.Word (file_name i))) (Some (known words)) None bound
+bound_after : (words : List (List ℕ)) (i : ℕ) → IsBound words i → after_file (known words) (file_word.Word (file_name i)) ≡ Some (known words)
+unfolding after_file
+bound_after words i bound = cond-true (is_bound 3 words (file_word.Word (file_name i))) (Some (known words)) None bound
 
-  pub open_steady : (c i : ℕ) (purpose : Access) (lock : Mode) (wish : Choice) → IsOurClient c → IsBound words i → IsSteady (line.OpenFile c (file_word.Word (file_name i)) purpose lock wish)
-  unfolding client_named server_named receiver_named after
-  open_steady c i purpose lock wish client bound =
-      let l : Line = line.OpenFile c (file_word.Word (file_name i)) purpose lock wish in
-      record {
-        goes = declared_next (known words) l (parts_ours 3 l client.least refl refl) client.among ∙ bound_after i bound;
-        formed = form.open_file c (file_word.Word (file_name i)) purpose lock wish;
-      }
+pub open_steady : (words : List (List ℕ)) (c i : ℕ) (purpose : Access) (lock : Mode) (wish : Choice) → IsOurClient c → IsBound words i → IsSteady words (line.OpenFile c (file_word.Word (file_name i)) purpose lock wish)
+unfolding client_named server_named receiver_named after
+open_steady words c i purpose lock wish client bound =
+    let l : Line = line.OpenFile c (file_word.Word (file_name i)) purpose lock wish in
+    record {
+      goes = declared_next (known words) l (parts_ours 3 l client.least refl refl) client.among ∙ bound_after words i bound;
+      formed = form.open_file c (file_word.Word (file_name i)) purpose lock wish;
+    }
 
-  pub read_steady : (c i : ℕ) (run : Run) (wish : Choice) → IsOurClient c → IsBound words i → IsRunOfPages run → IsSteady (line.ReadPages c (file_word.Word (file_name i)) run mode.Read wish)
-  unfolding client_named server_named receiver_named after
-  read_steady c i run wish client bound fits =
-      let l : Line = line.ReadPages c (file_word.Word (file_name i)) run mode.Read wish in
-      record {
-        goes = declared_next (known words) l (parts_ours 3 l client.least refl refl) client.among ∙ bound_after i bound;
-        formed = form.read c (file_word.Word (file_name i)) run mode.Read wish fits tt;
-      }
+pub read_steady : (words : List (List ℕ)) (c i : ℕ) (run : Run) (wish : Choice) → IsOurClient c → IsBound words i → IsRunOfPages run → IsSteady words (line.ReadPages c (file_word.Word (file_name i)) run mode.Read wish)
+unfolding client_named server_named receiver_named after
+read_steady words c i run wish client bound fits =
+    let l : Line = line.ReadPages c (file_word.Word (file_name i)) run mode.Read wish in
+    record {
+      goes = declared_next (known words) l (parts_ours 3 l client.least refl refl) client.among ∙ bound_after words i bound;
+      formed = form.read c (file_word.Word (file_name i)) run mode.Read wish fits tt;
+    }
 
-  pub write_steady : (c i : ℕ) (run : Run) (text : List ℕ) (wish : Choice) → IsOurClient c → IsBound words i → IsRunOfPages run → IsText text
-      → IsSteady (line.WritePages c (file_word.Word (file_name i)) run text wish)
-  unfolding client_named server_named receiver_named after
-  write_steady c i run text wish client bound fits short =
-      let l : Line = line.WritePages c (file_word.Word (file_name i)) run text wish in
-      record {
-        goes = declared_next (known words) l (parts_ours 3 l client.least refl refl) client.among ∙ bound_after i bound;
-        formed = form.write c (file_word.Word (file_name i)) run text wish fits short;
-      }
+pub write_steady : (words : List (List ℕ)) (c i : ℕ) (run : Run) (text : List ℕ) (wish : Choice) → IsOurClient c → IsBound words i → IsRunOfPages run → IsText text
+    → IsSteady words (line.WritePages c (file_word.Word (file_name i)) run text wish)
+unfolding client_named server_named receiver_named after
+write_steady words c i run text wish client bound fits short =
+    let l : Line = line.WritePages c (file_word.Word (file_name i)) run text wish in
+    record {
+      goes = declared_next (known words) l (parts_ours 3 l client.least refl refl) client.among ∙ bound_after words i bound;
+      formed = form.write c (file_word.Word (file_name i)) run text wish fits short;
+    }
 
-  -- lines of which each is steady lead to where they began
-  pub steady_read : (ls : List Line) → AllByRecursion IsSteady ls → read (known words) ls ≡ Some (known words)
-  steady_read [] all = refl
-  steady_read (l ∷ ls) all = ap (λ (o : Option Known). o >>= λ t. read t ls) all.0.goes ∙ steady_read ls all.1
+-- lines of which each is steady lead to where they began
+pub steady_read : (words : List (List ℕ)) (ls : List Line) → AllByRecursion (IsSteady words) ls → read (known words) ls ≡ Some (known words)
+steady_read words [] all = refl
+steady_read words (l ∷ ls) all = ap (λ (o : Option Known). o >>= λ t. read t ls) all.0.goes ∙ steady_read words ls all.1
 
 -- ---- the lines that create the files
 
@@ -210,4 +209,5 @@ groups_read_from words pages (g ∷ gs) =
     ∙ groups_read_from here pages gs
 
 pub groups_read : (pages : List ℕ) → read (known []) (groups pages) ≡ Some (known all_words)
+unfolding all_words
 groups_read pages = groups_read_from [] pages (range_with_len 0 20)

@@ -11,7 +11,7 @@ use Rattle.alp_base.specs.Names.{is_between, is_name_byte, is_name}
 digit : (d : ℕ) → d < 10 → is_name_byte (48 + d) ≡ true
 digit d low =
     let between : is_between 48 57 (48 + d) ≡ true = and_from _ _ (le-leb 48 (48 + d) (omega arith)) (le-leb (48 + d) 57 (omega arith)) in
-    rw between (or_left _ _ (or_left _ _ (or_left _ _ (or_right (is_between 97 122 (48 + d) || is_between 65 90 (48 + d)) true refl))))
+    or_left _ _ (or_left _ _ (or_left _ _ (or_right (is_between 97 122 (48 + d) || is_between 65 90 (48 + d)) (is_between 48 57 (48 + d)) between)))
 
 digits_are : (n : ℕ) → n < 2 ^ 64 → list_all is_name_byte (decimal n) ≡ true
 digits_are = decimal_by_steps (λ n ds. list_all is_name_byte ds ≡ true)

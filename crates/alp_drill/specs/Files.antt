@@ -19,7 +19,7 @@ server_of turn = 1 + turn % 3
 
 -- from 1 to 900 pages
 abbrev pub pages_of_file : ℕ → Dice → List ℕ × Dice
-pages_of_file file dice = (1 + (roll 900 dice).0 ∷ [], (roll 900 dice).1)
+pages_of_file file dice = ((1 + (roll 900 dice).0) ∷ [], (roll 900 dice).1)
 
 -- these are rolled first of all, for file 0 to file 199
 unfoldable pub pages_of_files : Dice → List ℕ × Dice

@@ -64,11 +64,10 @@ visit pages k dice =
     let more = roll 4 first.1 in
     let file : FileWord = file_word.Word (file_name place.0) in
     let run : Run = record { first = first.0; count = 1 + min more.0 (most - first.0 - 1) } in
-    let written = writing k file run more.1 in
-    (
+    let written = writing k file run more.1 in (
       line.OpenFile (client_of k) file access.Change mode.IntendWrite choice.Fail
-      ∷ line.ReadPages (client_of k) file run mode.Read choice.Fail
-      ∷ written.0,
+          ∷ line.ReadPages (client_of k) file run mode.Read choice.Fail
+          ∷ written.0,
       written.1,
     )
 

@@ -15,6 +15,7 @@ pub struct Dice {
 
 impl Dice {
     /// The dice of a seed, before the first roll.
+    #[tactic(auto, unfolding(crate::specs::Rolls::dice_of))]
     pub(crate) fn new(seed: u64) -> Dice
         ensures { result ≡ dice_of seed }
     {

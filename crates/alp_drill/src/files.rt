@@ -1,5 +1,5 @@
 //! The files: how many pages each has, and the lines that create them.
-ghost use Rattle.std.specs.Prelude.{◌≡◌, ◌≤◌, ◌<◌, ◌+◌, ◌*◌, ◌++◌, ◌∷◌, [], IfOk, OnOk};
+ghost use Rattle.std.specs.Prelude.{◌≡◌, ◌<◌, ◌+◌, ◌%◌, ◌++◌, ◌∷◌, [], IfOk, OnOk};
 ghost use Rattle.alp_drill.specs.Files.{client_of as client_said, server_of as server_said, pages_of_files, AreFiles, create_line, group, groups};
 
 use crate::adding::add;
@@ -29,6 +29,13 @@ pub(crate) fn client_of(turn: u32) -> u8
     2 + (turn % u32::from(OWNERS)) as u8
 }
 
+// The number of the owner whose client that is.
+fn owner_of(turn: u32) -> u32
+    ensures { result ≡ 1 + turn % 8 }
+{
+    1 + turn % u32::from(OWNERS)
+}
+
 fn server_of(group: u32) -> u8
     ensures { result ≡ server_said group }
 {
@@ -36,13 +43,14 @@ fn server_of(group: u32) -> u8
 }
 
 /// Rolls how many pages each file has.
+#[tactic(auto, unfolding(crate::specs::Files::pages_of_files))]
 pub(crate) fn roll_pages(alloc: Global, dice: &mut Dice) -> Result<Vec<u32>, OutOfMemory>
     ensures pages { IfOk result (λ pages. pages.items ≡ (pages_of_files dice.old).0) }
     ensures dice { OnOk result (dice.new ≡ (pages_of_files dice.old).1) }
     ensures files { IfOk result (λ pages. AreFiles pages.items) }
 {
     let mut pages = Vec::new(alloc);
-    for _file in 0..FILES {
+    for _ in 0..FILES {
         pages.push(1 + dice.roll(PAGES))?;
     }
     Ok(pages)
@@ -59,13 +67,12 @@ fn create_file(
     requires file { file < 200 }
     ensures { OnOk result (script.new.items ≡ script.old.items ++ create_line pages.now group file ∷ []) }
 {
-    let client = client_of(group);
     let word = name(alloc, "f", file)?;
-    let owner = name(alloc, "o", u32::from(client - 1))?;
+    let owner = name(alloc, "o", owner_of(group))?;
     let read = list_of(alloc, b"World")?;
     let modify = list_of(alloc, b"World")?;
     let line = Line::Create {
-        client,
+        client: client_of(group),
         server: server_of(group),
         word,
         owner,
@@ -74,7 +81,8 @@ fn create_file(
         modify,
         choice: Choice::Fail,
     };
-    add(script, line)
+    add(script, line)?;
+    Ok(())
 }
 
 // A transaction that creates some of the files.
@@ -94,7 +102,8 @@ fn create_group(
     for i in 0..FILES_PER_GROUP {
         create_file(alloc, script, pages, number, FILES_PER_GROUP * number + i)?;
     }
-    add(script, Line::Commit { client })
+    add(script, Line::Commit { client })?;
+    Ok(())
 }
 
 /// Creates all files.

@@ -11,3 +11,6 @@ mod setup;
 mod words;
 
 pub use script::{DRILL_SIZE_MOST, drill};
+
+#[cfg(test)]
+mod tests;

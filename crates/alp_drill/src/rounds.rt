@@ -41,7 +41,6 @@ fn is_restart(period: u32, number: u32) -> bool
 }
 
 // In some rounds a server is to stop.
-#[tactic(auto, unfolding(crate::specs::Rounds::stopping))]
 fn stop(
     script: &mut Vec<Line>,
     dice: &mut Dice,
@@ -54,14 +53,15 @@ fn stop(
     if !is_stop(period, number) {
         return Ok(());
     }
-    let server = 1 + dice.roll(u32::from(SERVERS)) as u8;
+    let which = dice.roll(u32::from(SERVERS));
     let calls = dice.roll(16);
+    let server = 1 + which as u8;
     dice.stopped = server;
-    add(script, Line::Stop { server, calls })
+    add(script, Line::Stop { server, calls })?;
+    Ok(())
 }
 
 // In some rounds the server that was stopped last starts again.
-#[tactic(auto, unfolding(crate::specs::Rounds::restarting))]
 fn restart(
     script: &mut Vec<Line>,
     dice: &mut Dice,
@@ -74,19 +74,22 @@ fn restart(
     if !is_restart(period, number) {
         return Ok(());
     }
-    let pick = u64::from(dice.roll(8));
+    let roll = dice.roll(8);
+    let pick = roll as u64;
     let server = dice.stopped;
     add(script, Line::Restart { server, pick })?;
-    add(script, Line::Settle)
+    add(script, Line::Settle)?;
+    Ok(())
 }
 
-#[tactic(auto, unfolding(crate::specs::Rounds::beginning))]
 fn begin(script: &mut Vec<Line>, dice: &mut Dice, number: u32) -> Result<(), OutOfMemory>
     ensures { OnOk result (Adds script.old.items script.new.items dice.new (beginning number dice.old)) }
 {
-    let server = 1 + dice.roll(u32::from(SERVERS)) as u8;
+    let which = dice.roll(u32::from(SERVERS));
+    let server = 1 + which as u8;
     let client = client_of(number);
-    add(script, Line::Begin { client, server })
+    add(script, Line::Begin { client, server })?;
+    Ok(())
 }
 
 // Maybe the pages that were read are written.
@@ -101,22 +104,24 @@ fn write(
 ) -> Result<(), OutOfMemory>
     ensures { OnOk result (Adds script.old.items script.new.items dice.new (writing number file run dice.old)) }
 {
-    if dice.roll(2) != 0 {
+    let side = dice.roll(2);
+    if side != 0 {
         return Ok(());
     }
+    let client = client_of(number);
     let text = text(alloc, "t", number)?;
     let line = Line::WritePages {
-        client: client_of(number),
+        client,
         file,
         run,
         text,
         choice: Choice::Fail,
     };
-    add(script, line)
+    add(script, line)?;
+    Ok(())
 }
 
 // Opens a file and reads some of its pages.
-#[tactic(auto, unfolding(crate::specs::Rounds::visit))]
 fn visit(
     alloc: Global,
     script: &mut Vec<Line>,
@@ -129,10 +134,13 @@ fn visit(
 {
     let client = client_of(number);
     let place = dice.roll(FILES);
-    let file = FileWord::Word(name(alloc, "f", place)?);
-    let size = pages[place as usize];
-    let first = dice.roll(size);
-    let count = 1 + lesser(dice.roll(4), size - first - 1) as u8;
+    let word = name(alloc, "f", place)?;
+    let most = pages[place as usize];
+    let first = dice.roll(most);
+    let more = dice.roll(4);
+    let fewer = lesser(more, most - first - 1);
+    let count = 1 + fewer as u8;
+    let file = FileWord::Word(word);
     let run = Run { first, count };
     let open_line = Line::OpenFile {
         client,
@@ -150,10 +158,10 @@ fn visit(
     };
     add(script, open_line)?;
     add(script, read_line)?;
-    write(alloc, script, dice, number, file, run)
+    write(alloc, script, dice, number, file, run)?;
+    Ok(())
 }
 
-#[tactic(auto, unfolding(crate::specs::Rounds::visits))]
 fn visits(
     alloc: Global,
     script: &mut Vec<Line>,
@@ -164,8 +172,9 @@ fn visits(
     requires { AreFiles pages.now }
     ensures { OnOk result (Adds script.old.items script.new.items dice.new (visits_said pages.now number dice.old)) }
 {
-    let count = 1 + dice.roll(3);
-    for _visit in 0..count {
+    let more = dice.roll(3);
+    let count = 1 + more;
+    for _ in 0..count {
         visit(alloc, script, dice, pages, number)?;
     }
     Ok(())
@@ -176,13 +185,15 @@ fn end(script: &mut Vec<Line>, dice: &mut Dice, number: u32) -> Result<(), OutOf
     ensures { OnOk result (Adds script.old.items script.new.items dice.new (ending number dice.old)) }
 {
     let client = client_of(number);
-    if dice.roll(20) == 0 {
-        return add(script, Line::Abort { client });
+    let side = dice.roll(20);
+    if side == 0 {
+        add(script, Line::Abort { client })?;
+        return Ok(());
     }
-    add(script, Line::Commit { client })
+    add(script, Line::Commit { client })?;
+    Ok(())
 }
 
-#[tactic(auto, using(crate::proofs::RollLemmas::adds_both))]
 fn transaction(
     alloc: Global,
     script: &mut Vec<Line>,
@@ -195,10 +206,10 @@ fn transaction(
 {
     begin(script, dice, number)?;
     visits(alloc, script, dice, pages, number)?;
-    end(script, dice, number)
+    end(script, dice, number)?;
+    Ok(())
 }
 
-#[tactic(auto, using(crate::proofs::RollLemmas::adds_both))]
 fn round(
     alloc: Global,
     script: &mut Vec<Line>,
@@ -213,11 +224,11 @@ fn round(
 {
     stop(script, dice, period, number)?;
     restart(script, dice, period, number)?;
-    transaction(alloc, script, dice, pages, number)
+    transaction(alloc, script, dice, pages, number)?;
+    Ok(())
 }
 
 /// So many rounds.
-#[tactic(auto, unfolding(crate::specs::Rounds::rounds))]
 pub(crate) fn rounds(
     alloc: Global,
     script: &mut Vec<Line>,

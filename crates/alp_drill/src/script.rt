@@ -1,5 +1,5 @@
 //! The whole script of a drill.
-ghost use Rattle.std.specs.Prelude.{◌≡◌, ◌≤◌, IfOk, length};
+ghost use Rattle.std.specs.Prelude.{◌≡◌, ◌≤◌, ◌<◌, ◌+◌, ◌++◌, ◌∷◌, [], IfOk, OnOk, length};
 ghost use Rattle.alp_script.specs.Accepted.{IsAccepted, servers_said};
 ghost use Rattle.alp_drill.specs.Script.{drill_lines, drill_script, counted as counted_said};
 
@@ -15,7 +15,6 @@ use std::alloc::Global;
 /// The most rounds of a drill.
 pub const DRILL_SIZE_MOST: u32 = 5_000;
 
-#[tactic(auto, unfolding(crate::specs::Script::drill_lines), using(crate::proofs::RollLemmas::four_parts))]
 fn lines_of(alloc: Global, seed: u64, size: u32) -> Result<Vec<Line>, OutOfMemory>
     ensures { IfOk result (λ lines. lines.items ≡ drill_lines seed size) }
 {
@@ -24,9 +23,20 @@ fn lines_of(alloc: Global, seed: u64, size: u32) -> Result<Vec<Line>, OutOfMemor
     let mut script = Vec::new(alloc);
     declare(alloc, &mut script)?;
     make_owners(alloc, &mut script)?;
-    create_files(alloc, &mut script, pages.as_slice())?;
-    rounds(alloc, &mut script, &mut dice, pages.as_slice(), size)?;
+    let files = pages.as_slice();
+    create_files(alloc, &mut script, files)?;
+    rounds(alloc, &mut script, &mut dice, files, size)?;
     Ok(script)
+}
+
+// Puts a line with its number behind the others.
+fn add_counted(script: &mut Vec<NumberedLine>, line: Line) -> Result<(), OutOfMemory>
+    requires { length script.old.items < 200000 }
+    ensures { OnOk result (script.new.items ≡ script.old.items ++ record { number = length script.old.items + 1; line = line } ∷ []) }
+{
+    let number = script.len() as u32 + 1;
+    script.push(NumberedLine { number, line })?;
+    Ok(())
 }
 
 // The lines with their numbers.
@@ -36,14 +46,12 @@ fn counted(alloc: Global, lines: Vec<Line>) -> Result<Vec<NumberedLine>, OutOfMe
 {
     let mut script = Vec::with_capacity(alloc, lines.len())?;
     for line in lines {
-        let number = script.len() as u32 + 1;
-        script.push(NumberedLine { number, line })?;
+        add_counted(&mut script, line)?;
     }
     Ok(script)
 }
 
 /// The script of the drill with this seed and so many rounds. It is a script of the language, and of three servers.
-#[tactic(auto, unfolding(crate::specs::Script::drill_script), using(crate::proofs::AcceptLemmas::few_lines, crate::proofs::AcceptLemmas::accepted, crate::proofs::AcceptLemmas::three_servers))]
 pub fn drill(alloc: Global, seed: u64, size: u32) -> Result<Vec<NumberedLine>, OutOfMemory>
     requires { size ≤ 5000 }
     // The lines are those that the seed and the size make.
@@ -53,5 +61,6 @@ pub fn drill(alloc: Global, seed: u64, size: u32) -> Result<Vec<NumberedLine>, O
     ensures servers { IfOk result (λ lines. servers_said lines.items ≡ 3) }
 {
     let lines = lines_of(alloc, seed, size)?;
-    counted(alloc, lines)
+    let script = counted(alloc, lines)?;
+    Ok(script)
 }

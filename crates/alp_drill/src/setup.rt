@@ -24,7 +24,8 @@ fn declare_client(alloc: Global, script: &mut Vec<Line>, owner: u8) -> Result<()
 {
     let name = name(alloc, "o", u32::from(owner))?;
     let client = owner + 1;
-    add(script, Line::Client { client, name })
+    add(script, Line::Client { client, name })?;
+    Ok(())
 }
 
 /// Declares the servers and the clients.
@@ -58,7 +59,8 @@ fn make_owner(
         create,
         choice: Choice::Fail,
     };
-    add(script, line)
+    add(script, line)?;
+    Ok(())
 }
 
 fn make_owners_at(alloc: Global, script: &mut Vec<Line>, server: u8) -> Result<(), OutOfMemory>
@@ -82,5 +84,6 @@ pub(crate) fn make_owners(alloc: Global, script: &mut Vec<Line>) -> Result<(), O
     for i in 0..SERVERS {
         make_owners_at(alloc, script, i + 1)?;
     }
-    add(script, Line::Commit { client: 1 })
+    add(script, Line::Commit { client: 1 })?;
+    Ok(())
 }

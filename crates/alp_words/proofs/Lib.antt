@@ -2,4 +2,5 @@ mod Matches
 mod Refusals
 mod TopLevel
 mod Numbers
+mod Taken
 mod Named

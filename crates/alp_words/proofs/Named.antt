@@ -1,13 +1,14 @@
 -- what the words name, by what stands in the matches
-use Rattle.std.specs.Prelude.{◌&&◌, ◌||◌, not, Bool, Option, None, Some, is_some, option_map, option_and_then}
-use Rattle.std.proofs.Common.{◌≡◌, ◌∙◌, ℕ, ◌≤◌, List, [], ◌∷◌, codes, true, false, refl, sym, ap}
-use Rattle.std.proofs.lemmas.Bool.{or_from, or_right, and_right}
+use Rattle.std.specs.Prelude.{◌&&◌, not, Bool, Option, None, Some, is_some, option_map, option_and_then}
+use Rattle.std.proofs.Common.{◌≡◌, ◌∙◌, ℕ, ◌≤◌, List, [], ◌∷◌, codes, true, false, refl, sym, ap, true≢false}
+use Rattle.std.proofs.lemmas.Bool.{and_right}
 use Rattle.clap.specs.Simple.{subcommand_of}
 use Rattle.clap.specs.Walk.{Row, Text, first_of}
 use Rattle.alp_words.specs.Definition.{alpine}
-use Rattle.alp_words.specs.Words.{are_refused, name_named, text_named, folder_named, number_in, seed_named, size_named, is_name, lacks_numbers, lacks_in, are_bad, PlayIsNamed, DrillIsNamed, StandsThere}
+use Rattle.alp_words.specs.Words.{are_refused, name_named, text_named, folder_named, number_in, seed_named, size_named, lacks_in, are_bad, PlayIsNamed, DrillIsNamed, StandsThere}
 use Rattle.alp_words.proofs.Matches.{text_in_rows}
 use Rattle.alp_words.proofs.Numbers.{bounds_of}
+use Rattle.alp_words.proofs.Taken.{is_name, lacks_numbers, never_lacks}
 
 -- the words name this command, and these rows are its matches
 pub record Enters (words : List Text) (name : Text) (rows : List Row) : Type 0 where
@@ -29,11 +30,9 @@ play_named words rows folder enters same = record {
   place = same ∙ sym (text_is words (codes "play") (codes "folder") rows enters);
 }
 
-pub play_good : (words : List Text) (rows : List Row) → Enters words (codes "play") rows → are_refused (codes "alpine" ∷ words) ≡ false → are_bad words ≡ false
+pub good : (words : List Text) → are_refused (codes "alpine" ∷ words) ≡ false → are_bad words ≡ false
 unfolding are_bad
-play_good words rows enters taken =
-    or_from (are_refused (codes "alpine" ∷ words)) (lacks_numbers words) taken
-    (ap (λ (o : Option Text). is_name (codes "drill") o && not (is_some (seed_named words) && is_some (size_named words))) (name_is words (codes "play") rows enters))
+good words taken = taken
 
 seed_is : (words : List Text) (rows : List Row) → Enters words (codes "drill") rows → seed_named words ≡ number_in 0 18446744073709551615 (first_of (codes "seed") rows)
 seed_is words rows enters = ap (λ (o : Option Text). number_in 0 18446744073709551615 o) (text_is words (codes "drill") (codes "seed") rows enters)
@@ -61,20 +60,9 @@ lacks_same words rows enters =
     ∙ ap (λ (o : Option ℕ). not (is_some o && is_some (size_named words))) (seed_is words rows enters)
     ∙ ap (λ (o : Option ℕ). not (is_some (number_in 0 18446744073709551615 (first_of (codes "seed") rows)) && is_some o)) (size_is words rows enters)
 
-has_both : (rows : List Row) (seed size : ℕ) (folder : Option (List ℕ)) → StandsThere rows seed size folder → lacks_in rows ≡ false
-has_both rows seed size folder there =
-    ap (λ (o : Option ℕ). not (is_some o && is_some (number_in 1 5000 (first_of (codes "size") rows)))) there.of_seed
-    ∙ ap (λ (o : Option ℕ). not (is_some o)) there.of_size
-
-pub drill_good : (words : List Text) (rows : List Row) (seed size : ℕ) (folder : Option (List ℕ)) → Enters words (codes "drill") rows → StandsThere rows seed size folder
-    → are_refused (codes "alpine" ∷ words) ≡ false → are_bad words ≡ false
-unfolding are_bad
-drill_good words rows seed size folder enters there taken =
-    or_from (are_refused (codes "alpine" ∷ words)) (lacks_numbers words) taken (lacks_same words rows enters ∙ has_both rows seed size folder there)
-
-pub drill_bad : (words : List Text) (rows : List Row) → Enters words (codes "drill") rows → lacks_in rows ≡ true → are_bad words ≡ true
-unfolding are_bad
-drill_bad words rows enters lacks = or_right (are_refused (codes "alpine" ∷ words)) (lacks_numbers words) (lacks_same words rows enters ∙ lacks)
+-- and none is missing of words that are taken
+pub never_bad : (words : List Text) (rows : List Row) → Enters words (codes "drill") rows → are_refused (codes "alpine" ∷ words) ≡ false → lacks_in rows ≡ true → ⊥
+never_bad words rows enters taken lacks = true≢false (sym lacks ∙ sym (lacks_same words rows enters) ∙ never_lacks words taken)
 
 pub lacks_seed : (rows : List Row) → number_in 0 18446744073709551615 (first_of (codes "seed") rows) ≡ None → lacks_in rows ≡ true
 lacks_seed rows e = ap (λ (o : Option ℕ). not (is_some o && is_some (number_in 1 5000 (first_of (codes "size") rows)))) e

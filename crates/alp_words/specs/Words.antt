@@ -1,6 +1,5 @@
 -- What the words of the program mean, those after its name.
-use Rattle.std.specs.Prelude.{◌≡◌, ◌⊎◌, ◌&&◌, ◌||◌, ◌≤◌, ℕ, Bool, true, false, not, cond, List, [], ◌∷◌, codes, Option, None, Some, is_some, option_map, option_and_then, string_bytes}
-use Rattle.std.specs.Str.{bytes_eq}
+use Rattle.std.specs.Prelude.{◌≡◌, ◌⊎◌, ◌&&◌, ◌≤◌, ℕ, Bool, true, false, not, cond, List, [], ◌∷◌, codes, Option, None, Some, is_some, option_map, option_and_then, string_bytes}
 use Rattle.std.specs.Str.Parse.{digits_value, without_leading_plus}
 use Rattle.clap.specs.ValueTests.{is_unsigned_in}
 use Rattle.clap.specs.Words.{Kinds, Row, fault_of, first_of, subcommand_of}
@@ -46,18 +45,9 @@ size_named words = number_in 1 5000 (text_named (codes "size") words)
 abbrev pub IsOurs : Option (List ℕ) → Type 0
 IsOurs name = (name ≡ Some (codes "play")) ⊎ (name ≡ Some (codes "drill"))
 
--- they name the command with that name
-abbrev pub is_name : List ℕ → Option (List ℕ) → Bool
-is_name name None = false
-is_name name (Some said) = bytes_eq said name
-
--- a number of a drill is missing
-abbrev pub lacks_numbers : List (List ℕ) → Bool
-lacks_numbers words = is_name (codes "drill") (name_named words) && not (is_some (seed_named words) && is_some (size_named words))
-
 -- the words name no command
 unfoldable pub are_bad : List (List ℕ) → Bool
-are_bad words = are_refused (codes "alpine" ∷ words) || lacks_numbers words
+are_bad words = are_refused (codes "alpine" ∷ words)
 
 pub record PlayIsNamed (words : List (List ℕ)) (folder : Option (List ℕ)) : Type 0 where
   pub name : name_named words ≡ Some (codes "play")
