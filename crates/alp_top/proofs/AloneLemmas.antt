@@ -1,5 +1,5 @@
 -- a run of one server: what holds of its journal alone
-use Rattle.std.proofs.Common.{◌≡◌, ℕ, List, [], ◌∷◌, ◌++◌, length, sym, ◌∙◌, ap, subst, arith}
+use Rattle.std.proofs.Common.{◌≡◌, ℕ, List, [], ◌∷◌, ◌++◌, length, refl, sym, ◌∙◌, ap, subst, arith}
 use Rattle.std.specs.Prelude.{Bool}
 use Rattle.alp_journal.specs.Opening.{Start}
 use Rattle.alp_journal.specs.declared.entry.Entry.{Entry}

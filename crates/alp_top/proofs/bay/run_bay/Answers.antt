@@ -228,6 +228,14 @@ returns-in_err-report-clause-cause g c asked =
     (closed_moved G g.B.Device.Disk (g.B.Bay.tells c.start_all.new.bay) t c.into_parts-stations-2.result.0.items c.play_out.new.self.parties.stations.all.items two three _ c.start_all.ensures.tells (ap (λ v. v.items) c.into_parts-stations-2.ensures.stations) c.in_ok-rests.ensures.closed)
     told (g.B.Bay.faults c.args.bay.now) (g.B.Bay.faults c.close_all.new.bay)))
 
+pub returns-in_err-report-clause-chosen : goal.returns-in_err-report-clause-chosen
+returns-in_err-report-clause-chosen g c = folder_taken c.from_residual-in_err-report.result _ _ _ (c.close_all.ensures.chosen ∙ c.start_all.ensures.chosen ∙ c.in_ok-choose.ensures.named)
+
+pub returns-in_err-report-clause-bay : goal.returns-in_err-report-clause-bay
+returns-in_err-report-clause-bay g c =
+    told_of _ _ fault.OutOfMemory c.from_residual-in_err-report.result c.from_residual-in_err-report.ensures.0 c.from_residual-in_err-report.ensures.1
+    (c.close_all.ensures.faults ∙ c.in_default.ensures.bay ∙ c.in_ok-choose.ensures.cause.still)
+
 pub returns-clause-ran : goal.returns-clause-ran
 returns-clause-ran g c asked =
     let G = store_vault.ghosts (the_row g.row.B-Device g.B.Device.Disk) (fuse_disk.ghosts g.row.B-Device g.B.Device.Disk g.B.Device.Disk-dict g.B.Device.Destruct-dict) fuse_disk.no_dict fuse_disk.no_dict in
