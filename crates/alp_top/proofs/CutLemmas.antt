@@ -53,8 +53,7 @@ module _ {V : Type 0} (G : Ghosts V) (lines : List NumberedLine) (f : RunFault) 
 
   cut_history : logs.AreSoundOpenings (log_of r handed) → IsOneThread (log_of r handed) × AreWhole (log_of r handed) × ArePromisesKept (log_of r handed)
   cut_history sound =
-      let p : IsProper (log_of r handed) = proper_course h.ran.first r h.hs handed h.ran.is_first h.ran.course (numbered G h.last h.on) (λ n here. (seat_right n here).lawful) sound in
-      (
+      let p : IsProper (log_of r handed) = proper_course h.ran.first r h.hs handed h.ran.is_first h.ran.course (numbered G h.last h.on) (λ n here. (seat_right n here).lawful) sound in (
         history (log_of r handed) p,
         wholeness (log_of r handed) p,
         promises (log_of r handed) p (clients_kept (state_at h.last) h.clients h.ran.first r h.hs h.turns handed h.ran.is_first h.ran.course h.sent h.said (λ k. refl) (λ n here. (seat_right n here).lawful)),
