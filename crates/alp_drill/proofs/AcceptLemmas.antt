@@ -69,7 +69,7 @@ form_flat lines_of (i ∷ is) each = form_append (lines_of i) (flat_map lines_of
 
 form_steady : (words : List (List ℕ)) (ls : List Line) → AllByRecursion (IsSteady words) ls → AllByRecursion (λ (l : Line). IsForm l) ls
 form_steady words [] all = tt
-form_steady words (l ∷ ls) all = (all.0.form, form_steady words ls all.1)
+form_steady words (l ∷ ls) all = (all.0.formed, form_steady words ls all.1)
 
 one_fits : 1 ≤ NAMES_PER_LIST
 one_fits = let most : NAMES_PER_LIST ≡ 4 = refl in omega (arith, most)
@@ -97,7 +97,7 @@ small_roll : (dice : Dice) → 1 + (roll 900 dice).0 < 2 ^ 32
 small_roll dice = omega (arith, below 900 dice (omega arith))
 
 small_pages : (is : List ℕ) (dice : Dice) → AreSmall (in_turn pages_of_file is dice).0
-small_pages [] dice i = omega arith
+small_pages [] dice = λ i. omega arith
 small_pages (j ∷ is) dice = small_push (1 + (roll 900 dice).0) (in_turn pages_of_file is (roll 900 dice).1).0 (small_roll dice) (small_pages is (roll 900 dice).1)
 
 form_groups : (pages : List ℕ) → AreSmall pages → AllByRecursion (λ (l : Line). IsForm l) (groups pages)

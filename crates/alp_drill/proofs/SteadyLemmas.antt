@@ -1,7 +1,7 @@
 -- lines that may stand behind the setup, and how they lead on
 use Rattle.std.specs.Prelude.{Bool, ◌&&◌, ◌%◌, nat_le, flat_map, Option, None, Some, slice_index}
 use Rattle.std.specs.List.{AllByRecursion, range_with_len}
-use Rattle.std.proofs.Common.{◌≡◌, ℕ, zero, suc, ◌+◌, ◌*◌, ◌<◌, ◌≤◌, ◌^◌, List, [], ◌∷◌, ◌++◌, map, length, true, refl, sym, ◌∙◌, ap, arith, length-append}
+use Rattle.std.proofs.Common.{◌≡◌, ℕ, zero, suc, ◌+◌, ◌*◌, ◌<◌, ◌≤◌, ◌^◌, List, [], ◌∷◌, ◌++◌, map, length, true, refl, sym, ◌∙◌, ap, subst, arith, length-append}
 use Rattle.std.proofs.lemmas.Bool.{and_from, cond-true}
 use Rattle.std.specs.BTreeSet.{insert_key}
 use Rattle.alp_base.specs.declared.choices.Access.{Access}
@@ -82,9 +82,12 @@ a_server (suc (suc (suc r))) low = absurd (omega (arith, low))
 pub turns_server : (turn : ℕ) → is_server 3 (Some (server_of turn)) ≡ true
 turns_server turn = a_server (turn % 3) (omega arith)
 
+one_more : (r : ℕ) → 1 + r ≡ suc r
+one_more r = omega arith
+
 pub server_within : (s : ℕ) → 1 ≤ s → s ≤ 3 → is_server 3 (Some s) ≡ true
 server_within zero least most = absurd (omega (arith, least))
-server_within (suc r) least most = a_server r (omega (arith, most))
+server_within (suc r) least most = subst (λ (n : ℕ). is_server 3 (Some n) ≡ true) (one_more r) (a_server r (omega (arith, most)))
 
 -- ---- a line that may stand there
 

@@ -76,6 +76,10 @@ pages_count i rolled before after count here = ap length here ∙ omega (arith, 
 pub pages_some : (rolled : ℕ) (before after : List ℕ) → All (λ most. 0 < most) before → after ≡ before ++ (1 + rolled) ∷ [] → All (λ most. 0 < most) after
 pages_some rolled before after some here = subst (λ (pages : List ℕ). All (λ most. 0 < most) pages) (sym here) (All-push (λ most. 0 < most) before (1 + rolled) some (omega arith))
 
+pub pages_end : (n : ℕ) (start : Dice) (pages : List ℕ) → n ≡ 200 → pages ≡ (in_turn pages_of_file (range_with_len 0 n) start).0 → pages ≡ (pages_of_files start).0
+unfolding pages_of_files
+pages_end n start pages all so_far = so_far ∙ ap (λ (k : ℕ). (in_turn pages_of_file (range_with_len 0 k) start).0) all
+
 pub create_more : (pages : List ℕ) (g i : ℕ) (before mid after : List Line)
     → mid ≡ before ++ (line.Begin (client_of g) (server_of g) ∷ map (create_line pages g) (range_with_len (10 * g) i)) → after ≡ mid ++ create_line pages g (10 * g + i) ∷ []
     → after ≡ before ++ (line.Begin (client_of g) (server_of g) ∷ map (create_line pages g) (range_with_len (10 * g) (i + 1)))

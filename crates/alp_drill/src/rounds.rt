@@ -7,9 +7,8 @@ ghost use Rattle.alp_drill.specs.Rounds.{is_stop as is_stop_said, is_restart as 
 use crate::adding::add;
 use crate::dice::Dice;
 use crate::files::{FILES, client_of};
-use crate::setup::SERVERS;
 use crate::words::{name, text};
-use alp_base::{Access, Choice, OutOfMemory, Run};
+use alp_base::{Access, Choice, Name, OutOfMemory, Run};
 use alp_lines::{FileWord, Line};
 use alp_modes::Mode;
 use std::alloc::Global;
@@ -19,6 +18,9 @@ const STOPS: u32 = 6;
 
 // So many rounds behind the round of a stop the server is started again.
 const DOWN: u32 = 3;
+
+// A server, of three, is stopped, or begun at.
+const PLACES: u32 = 3;
 
 fn lesser(a: u32, b: u32) -> u32
     ensures { result ≡ lesser_said a b }
@@ -53,7 +55,7 @@ fn stop(
     if !is_stop(period, number) {
         return Ok(());
     }
-    let which = dice.roll(u32::from(SERVERS));
+    let which = dice.roll(PLACES);
     let calls = dice.roll(16);
     let server = 1 + which as u8;
     dice.stopped = server;
@@ -85,7 +87,7 @@ fn restart(
 fn begin(script: &mut Vec<Line>, dice: &mut Dice, number: u32) -> Result<(), OutOfMemory>
     ensures { OnOk result (Adds script.old.items script.new.items dice.new (beginning number dice.old)) }
 {
-    let which = dice.roll(u32::from(SERVERS));
+    let which = dice.roll(PLACES);
     let server = 1 + which as u8;
     let client = client_of(number);
     add(script, Line::Begin { client, server })?;
@@ -99,10 +101,10 @@ fn write(
     script: &mut Vec<Line>,
     dice: &mut Dice,
     number: u32,
-    file: FileWord,
+    word: Name,
     run: Run,
 ) -> Result<(), OutOfMemory>
-    ensures { OnOk result (Adds script.old.items script.new.items dice.new (writing number file run dice.old)) }
+    ensures { OnOk result (Adds script.old.items script.new.items dice.new (writing number (FileWord.Word word) run dice.old)) }
 {
     let side = dice.roll(2);
     if side != 0 {
@@ -112,7 +114,7 @@ fn write(
     let text = text(alloc, "t", number)?;
     let line = Line::WritePages {
         client,
-        file,
+        file: FileWord::Word(word),
         run,
         text,
         choice: Choice::Fail,
@@ -140,25 +142,24 @@ fn visit(
     let more = dice.roll(4);
     let fewer = lesser(more, most - first - 1);
     let count = 1 + fewer as u8;
-    let file = FileWord::Word(word);
     let run = Run { first, count };
     let open_line = Line::OpenFile {
         client,
-        file,
+        file: FileWord::Word(word),
         access: Access::Change,
         mode: Mode::IntendWrite,
         choice: Choice::Fail,
     };
     let read_line = Line::ReadPages {
         client,
-        file,
+        file: FileWord::Word(word),
         run,
         mode: Mode::Read,
         choice: Choice::Fail,
     };
     add(script, open_line)?;
     add(script, read_line)?;
-    write(alloc, script, dice, number, file, run)?;
+    write(alloc, script, dice, number, word, run)?;
     Ok(())
 }
 

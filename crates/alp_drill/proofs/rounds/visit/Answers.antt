@@ -1,4 +1,4 @@
-use Rattle.std.proofs.Common.{rules, ap, ◌∙◌}
+use Rattle.std.proofs.Common.{◌+◌, rules, ap}
 use Rattle.alp_drill.proofs.RollLemmas.{two_lines}
 use Rattle.alp_drill.proofs.StepLemmas.{visit_done}
 use Rattle.alp_drill.proofs.rounds.visit.Goals as goal

@@ -7,8 +7,8 @@ use Rattle.alp_drill.proofs.AcceptLemmas.{few_lines, accepted, three_servers}
 use Rattle.alp_drill.proofs.StepLemmas.{is_script}
 use Rattle.alp_drill.proofs.script.drill.Goals as goal
 
-pub counted-script-requires : goal.counted-script-requires
-counted-script-requires c = subst (λ (ls : List Line). length ls ≤ 200000) (sym c.in_ok-lines.ensures) (few_lines c.args.seed c.args.size c.requires)
+pub counted-requires : goal.counted-requires
+counted-requires c = subst (λ (ls : List Line). length ls ≤ 200000) (sym c.in_ok-lines.ensures) (few_lines c.args.seed c.args.size c.requires)
 
 pub returns : goal.returns
 returns c =
