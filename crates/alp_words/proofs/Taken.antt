@@ -17,7 +17,7 @@ use Rattle.clap.specs.declared.builder.value_parser.Reading.{Reading}
 use Rattle.clap.specs.declared.parser.matches.ValueSource.TheVariants.{CommandLine}
 use Rattle.clap.specs.Lexer.{long_of, short_of}
 use Rattle.clap.specs.Takes.{is_given}
-use Rattle.clap.specs.Walk.{Held, Names, Outcome, Row, Rule, Step, Text, Waiting, Walk, done, waits, plain, refused, next, trailing, subcommand, value, idle, option, positional, answers_to, arg_by_id, arg_by_index, arg_by_long, arg_by_short, at_row, attached_value, with_values, without, has_row, used, used_by_id, settled, settled_rows, reacted, option_met, flag_met, long_met, short_met, bundle_step, bundle_met, takes_values, option_word, plain_word, after_flag, long_or_other, short_or_plain, word_met, subcommand_met, subcommand_or_other, after_step, walked_from, walked, walk, walk_from, nothing_held, finished, with_default, rows_after, stop_after, first_of}
+use Rattle.clap.specs.Walk.{Held, Names, Outcome, Row, Rule, Step, Text, Waiting, Walk, done, waits, plain, refused, next, trailing, subcommand, value, idle, option, positional, answers_to, arg_by_id, arg_by_index, arg_by_long, arg_by_short, at_row, attached_value, with_values, more_values, without, has_row, used, used_by_id, settled, settled_rows, reacted, option_met, flag_met, long_met, short_met, bundle_step, bundle_met, takes_values, option_word, plain_word, after_flag, long_or_other, short_or_plain, word_met, subcommand_met, subcommand_or_other, after_step, walked_from, walked, walk, walk_from, nothing_held, finished, with_default, rows_after, stop_after, first_of}
 use Rattle.clap.specs.Faults.{fault_of, use_fault, repeat_fault, settle_fault, react_fault, option_fault, long_fault, short_fault, bundle_step_fault, flags_fault, flag_word_fault, word_fault, step_fault, turn_fault, walk_fault, defaults_fault, check_fault, level_fault, entered_fault}
 use Rattle.clap.specs.Simple.{App, Shape, argument_words, built, entered, label_of, names_of, rows_at, subcommand_of, filled, with_index, help_rule}
 use Rattle.alp_words.specs.Definition.{alpine, number, option as option_said}
@@ -83,7 +83,7 @@ new_row id how values = record { id = id; values = values; count = None; source 
 
 placed : (id : Text) (how : Reading) (values : List Text) (rows : List Row) → has_row id rows ≡ false
     → with_values id how CommandLine values (without id rows) ≡ rows ++ new_row id how values ∷ []
-placed id how values rows none = ap (λ (l : List Row). with_values id how CommandLine values l) (without_none id rows none) ∙ placed_none id _ _ rows none
+placed id how values rows none = ap (λ (l : List Row). with_values id how CommandLine values l) (without_none id rows none) ∙ placed_none id (more_values CommandLine values) (new_row id how values ∷ []) rows none
 
 -- ---- one use of an option
 
