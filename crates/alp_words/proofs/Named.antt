@@ -1,12 +1,18 @@
 -- what the words name, by what stands in the matches
-use Rattle.std.specs.Prelude.{◌&&◌, not, Bool, Option, None, Some, is_some, option_map, option_and_then}
+use Rattle.std.specs.Prelude.{◌&&◌, not, Bool, Option, None, Some, is_some, option_map, option_and_then, string_bytes, Result, Ok, Err, OnOk, IfOk, IfErr}
 use Rattle.std.proofs.Common.{◌≡◌, ◌∙◌, ℕ, ◌≤◌, List, [], ◌∷◌, codes, true, false, refl, sym, ap, true≢false}
 use Rattle.std.proofs.lemmas.Bool.{and_right}
-use Rattle.clap.specs.Simple.{subcommand_of}
+use Rattle.clap.specs.Matches.{subcommand_name_of}
+use Rattle.clap.specs.Simple.{subcommand_of, subcommand_rows_of}
+use Rattle.clap.specs.declared.parser.matches.ArgMatches.{ArgMatches}
 use Rattle.clap.specs.Walk.{Row, Text, first_of}
 use Rattle.alp_words.specs.Definition.{alpine}
-use Rattle.alp_words.specs.Words.{are_refused, name_named, text_named, folder_named, number_in, seed_named, size_named, lacks_in, are_bad, PlayIsNamed, DrillIsNamed, StandsThere}
-use Rattle.alp_words.proofs.Matches.{text_in_rows}
+use Rattle.alp_words.specs.Words.{are_refused, name_named, text_named, folder_named, number_in, seed_named, size_named, lacks_in, are_bad, PlayIsNamed, DrillIsNamed, StandsThere, IsDrillOf, IsNamedBy}
+use Rattle.alp_words.specs.declared.command.Command.{Command}
+use Rattle.alp_words.specs.declared.command.Command.TheVariants as command
+use Rattle.alp_words.specs.declared.fault.WordsFault.{WordsFault}
+use Rattle.alp_words.specs.declared.fault.WordsFault.TheVariants as words_fault
+use Rattle.alp_words.proofs.Matches.{text_in_rows, same_name}
 use Rattle.alp_words.proofs.Numbers.{bounds_of}
 use Rattle.alp_words.proofs.Taken.{is_name, lacks_numbers, never_lacks}
 
@@ -30,9 +36,22 @@ play_named words rows folder enters same = record {
   place = same ∙ sym (text_is words (codes "play") (codes "folder") rows enters);
 }
 
-pub good : (words : List Text) → are_refused (codes "alpine" ∷ words) ≡ false → are_bad words ≡ false
+pub enters_by : (all words : List Text) (name : Text) (rows : List Row) (m : ArgMatches) → all ≡ codes "alpine" ∷ words → subcommand_rows_of m ≡ subcommand_of alpine all
+    → subcommand_name_of m ≡ Some name → option_map (λ (p : Text × List Row). p.1) (subcommand_rows_of m) ≡ Some rows → Enters words name rows
+enters_by all words name rows m same found named rows_are =
+    let is : subcommand_of alpine (codes "alpine" ∷ words) ≡ subcommand_rows_of m = ap (subcommand_of alpine) (sym same) ∙ sym found in
+    record {
+      named = ap (option_map (λ (p : Text × List Row). p.0)) (ap (subcommand_of alpine) (sym same)) ∙ sym (same_name all m found) ∙ named;
+      found = ap (option_map (λ (p : Text × List Row). p.1)) is ∙ rows_are;
+    }
+
+pub good : (all words : List Text) → all ≡ codes "alpine" ∷ words → are_refused all ≡ false → are_bad words ≡ false
 unfolding are_bad
-good words taken = taken
+good all words same taken = ap are_refused (sym same) ∙ taken
+
+pub on_ok_of : {T E : Type 0} (r : Result T E) (P : Type 0) → P → OnOk r P
+on_ok_of (Ok x) P holds = holds
+on_ok_of (Err e) P holds = tt
 
 seed_is : (words : List Text) (rows : List Row) → Enters words (codes "drill") rows → seed_named words ≡ number_in 0 18446744073709551615 (first_of (codes "seed") rows)
 seed_is words rows enters = ap (λ (o : Option Text). number_in 0 18446744073709551615 o) (text_is words (codes "drill") (codes "seed") rows enters)
@@ -61,8 +80,21 @@ lacks_same words rows enters =
     ∙ ap (λ (o : Option ℕ). not (is_some (number_in 0 18446744073709551615 (first_of (codes "seed") rows)) && is_some o)) (size_is words rows enters)
 
 -- and none is missing of words that are taken
-pub never_bad : (words : List Text) (rows : List Row) → Enters words (codes "drill") rows → are_refused (codes "alpine" ∷ words) ≡ false → lacks_in rows ≡ true → ⊥
-never_bad words rows enters taken lacks = true≢false (sym lacks ∙ sym (lacks_same words rows enters) ∙ never_lacks words taken)
+never_bad : (all words : List Text) (rows : List Row) → Enters words (codes "drill") rows → all ≡ codes "alpine" ∷ words → are_refused all ≡ false → lacks_in rows ≡ true → ⊥
+never_bad all words rows enters same taken lacks = true≢false (sym lacks ∙ sym (lacks_same words rows enters) ∙ never_lacks words (ap are_refused (sym same) ∙ taken))
+
+named_by : (words : List Text) (rows : List Row) → Enters words (codes "drill") rows → (c : Command) → IsDrillOf rows c → IsNamedBy words c
+named_by words rows enters (command.Play folder) there = absurd there
+named_by words rows enters (command.Drill seed size folder) there = drill_named words rows seed size (option_map string_bytes folder) enters there
+
+pub drill_is : (words : List Text) (rows : List Row) → Enters words (codes "drill") rows → (r : Result Command WordsFault) → IfOk r (IsDrillOf rows) → IfOk r (IsNamedBy words)
+drill_is words rows enters (Ok c) there = named_by words rows enters c there
+drill_is words rows enters (Err e) there = tt
+
+pub bad_is : (all words : List Text) (rows : List Row) → Enters words (codes "drill") rows → all ≡ codes "alpine" ∷ words → are_refused all ≡ false → (r : Result Command WordsFault)
+    → IfErr r (λ fault. fault ≡ words_fault.Bad → lacks_in rows ≡ true) → IfErr r (λ fault. fault ≡ words_fault.Bad → are_bad words ≡ true)
+bad_is all words rows enters same taken (Ok c) lacks = tt
+bad_is all words rows enters same taken (Err e) lacks = λ bad. absurd (never_bad all words rows enters same taken (lacks bad))
 
 pub lacks_seed : (rows : List Row) → number_in 0 18446744073709551615 (first_of (codes "seed") rows) ≡ None → lacks_in rows ≡ true
 lacks_seed rows e = ap (λ (o : Option ℕ). not (is_some o && is_some (number_in 1 5000 (first_of (codes "size") rows)))) e

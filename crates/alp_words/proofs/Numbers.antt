@@ -39,7 +39,7 @@ unfolding number_in
 within least most text r n parses is low high =
     let read = OkIff-at_ok r (IsSaid text) (said_by text) n parses is in
     let fits = Accepts-accepts false (vp.Unsigned least most) text (read.0.0, read.0.1, omega (arith, read.1, low), omega (arith, read.1, high)) in
-    sym (cond-true (is_unsigned_in least most text) (Some (said_by text)) None fits ∙ ap Some read.1)
+    sym (cond-true (is_unsigned_in least most text) (Some (said_by text)) None fits ∙ ap Some (sym read.1))
 
 cut : (b : Bool) (x n : ℕ) → cond b (Some x) None ≡ Some n → (b ≡ true) × (x ≡ n)
 cut true x n e = (refl, ap (λ (o : Option ℕ). unwrap_or o x) e)

@@ -17,7 +17,7 @@ use Rattle.clap.specs.declared.builder.value_parser.Reading.{Reading}
 use Rattle.clap.specs.declared.parser.matches.ValueSource.TheVariants.{CommandLine}
 use Rattle.clap.specs.Lexer.{long_of, short_of}
 use Rattle.clap.specs.Takes.{is_given}
-use Rattle.clap.specs.Walk.{Held, Names, Outcome, Row, Rule, Step, Text, Waiting, Walk, done, waits, plain, refused, next, trailing, subcommand, value, idle, option, positional, answers_to, arg_by_id, arg_by_index, arg_by_long, arg_by_short, at_row, attached_value, with_values, without, has_row, used, used_by_id, settled, settled_rows, reacted, option_met, flag_met, long_met, short_met, bundle_step, bundle_met, takes_values, option_word, plain_word, after_flag, long_or_other, short_or_plain, word_met, subcommand_met, subcommand_or_other, after_step, walked_from, walked, walk, walk_from, nothing_held, finished, with_default, rows_after, stop_after, first_of}
+use Rattle.clap.specs.Walk.{Held, Names, Outcome, Row, Rule, Step, Text, Waiting, Walk, done, waits, plain, refused, next, trailing, subcommand, value, idle, option, positional, answers_to, arg_by_id, arg_by_index, arg_by_long, arg_by_short, has_long, has_short, at_row, attached_value, with_values, more_values, without, has_row, used, used_by_id, settled, settled_rows, reacted, option_met, flag_met, long_met, short_met, bundle_step, bundle_met, takes_values, option_word, plain_word, after_flag, long_or_other, short_or_plain, word_met, subcommand_met, subcommand_or_other, after_step, walked_from, walked, walk, walk_from, nothing_held, finished, with_default, rows_after, stop_after, first_of}
 use Rattle.clap.specs.Faults.{fault_of, use_fault, repeat_fault, settle_fault, react_fault, option_fault, long_fault, short_fault, bundle_step_fault, flags_fault, flag_word_fault, word_fault, step_fault, turn_fault, walk_fault, defaults_fault, check_fault, level_fault, entered_fault}
 use Rattle.clap.specs.Simple.{App, Shape, argument_words, built, entered, label_of, names_of, rows_at, subcommand_of, filled, with_index, help_rule}
 use Rattle.alp_words.specs.Definition.{alpine, number, option as option_said}
@@ -83,7 +83,7 @@ new_row id how values = record { id = id; values = values; count = None; source 
 
 placed : (id : Text) (how : Reading) (values : List Text) (rows : List Row) → has_row id rows ≡ false
     → with_values id how CommandLine values (without id rows) ≡ rows ++ new_row id how values ∷ []
-placed id how values rows none = ap (λ (l : List Row). with_values id how CommandLine values l) (without_none id rows none) ∙ placed_none id _ _ rows none
+placed id how values rows none = ap (λ (l : List Row). with_values id how CommandLine values l) (without_none id rows none) ∙ placed_none id (more_values CommandLine values) (new_row id how values ∷ []) rows none
 
 -- ---- one use of an option
 
@@ -181,7 +181,7 @@ used_good (Some a) values rows uses e good = uses values rows e good
 settled_by : (pending : Option (Text × List Text)) (rows : List Row) → are_any (option_map_or (λ p. option_map_or (λ a. use_fault false a p.1 rows) (arg_by_id rules p.0) []) pending []) ≡ false
     → AreGood rows → AreGood (settled_rows rules pending rows)
 settled_by None rows e good = good
-settled_by (Some p) rows e good = used_good (arg_by_id rules p.0) p.1 rows (found_in _ rules all_use) e good
+settled_by (Some p) rows e good = used_good (arg_by_id rules p.0) p.1 rows (found_in (λ a. bytes_eq a.id p.0) rules all_use) e good
 
 settle_good : (h : Held) → are_any (settle_fault rules false h) ≡ false → AreGood h.rows → AreGood (settled rules h).rows
 settle_good h e good = settled_by h.pending h.rows e good
@@ -232,7 +232,7 @@ step_good : (x : Option ℕ) (flags : Text) (skip : ℕ) (so_far : Outcome) (h :
 step_good None flags skip so_far h met fault more e good = good
 step_good (Some x) flags zero so_far h met fault more e good =
     let rest = drop (length (encode_utf8 x)) flags in
-    short_good (arg_by_short rules x) rest h (met rest 0 done) (fault rest 0) (found_in _ rules all_use) (more rest 0 done) e good
+    short_good (arg_by_short rules x) rest h (met rest 0 done) (fault rest 0) (found_in (λ a. not (is_some a.index) && has_short a x) rules all_use) (more rest 0 done) e good
 step_good (Some x) flags (suc skip) so_far h met fault more e good = more (drop (length (encode_utf8 x)) flags) skip so_far h e good
 
 bundle_good : (k : ℕ) (flags : Text) (skip : ℕ) (so_far : Outcome) (h : Held) → are_any (flags_fault rules false k flags skip h) ≡ false → AreGood h.rows
@@ -262,11 +262,15 @@ after_good waiting word h refused good = plain_good waiting word h good
 short_word_good : (flags : Option Text) (waiting : Waiting) (word : Text) (h : Held) → are_any (option_map_or (λ fs. flags_fault rules false (length fs) fs h.skip (record h { skip = 0 })) flags []) ≡ false
     → AreGood h.rows → AreGood (short_or_plain rules waiting word flags h).0.rows
 short_word_good None waiting word h e good = plain_good waiting word h good
-short_word_good (Some fs) waiting word h e good = after_good waiting word _ _ (bundle_good (length fs) fs h.skip plain (record h { skip = 0 }) e good)
+short_word_good (Some fs) waiting word h e good =
+    let met = bundle_met rules (length fs) fs h.skip plain (record h { skip = 0 }) in
+    after_good waiting word met.0 met.1 (bundle_good (length fs) fs h.skip plain (record h { skip = 0 }) e good)
 
 flag_word_good : (long : Option (Text × Option Text)) (waiting : Waiting) (word : Text) (h : Held) → are_any (flag_word_fault rules false long word h) ≡ false
     → AreGood h.rows → AreGood (long_or_other rules waiting word long h).0.rows
-flag_word_good (Some p) waiting word h e good = after_good waiting word _ _ (long_good (arg_by_long rules p.0) p.1 h (found_in _ rules all_use) e good)
+flag_word_good (Some p) waiting word h e good =
+    let met = long_met rules (arg_by_long rules p.0) p.1 h in
+    after_good waiting word met.0 met.1 (long_good (arg_by_long rules p.0) p.1 h (found_in (λ a. not (is_some a.index) && has_long a p.0) rules all_use) e good)
 flag_word_good None waiting word h e good = short_word_good (short_of word) waiting word h e good
 
 dashes_good : (b : Bool) (waiting : Waiting) (position : ℕ) (word : Text) (h : Held) → are_any (cond b [] (flag_word_fault rules false (long_of word) word h)) ≡ false
@@ -293,8 +297,9 @@ turn_by : (stopped : Option (Text × List Text)) (w : Walk) (word : Text)
     → AreGood w.held.rows → AreGood (walked_from rules [] stopped w word).held.rows
 turn_by (Some p) w word e good = good
 turn_by None w word e good =
-    after_step_good word w _ (word_met rules [] w.is_trailing w.waiting w.position word w.held).1
-    (word_good w.is_trailing w.waiting w.position word w.held (either (word_fault own [] w.is_trailing w.waiting word w.held) _ e).0 good)
+    let met = word_met rules [] w.is_trailing w.waiting w.position word w.held in
+    after_step_good word w met.0 met.1
+    (word_good w.is_trailing w.waiting w.position word w.held (either (word_fault own [] w.is_trailing w.waiting word w.held) (step_fault own w.position met.0 met.1) e).0 good)
 
 walk_good : (words : List Text) (w : Walk) → are_any (walk_fault own [] w words) ≡ false → AreGood w.held.rows → AreGood (fold (walked rules []) w words).held.rows
 unfolding walk_fault walked

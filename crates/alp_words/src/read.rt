@@ -107,6 +107,7 @@ fn drill_in(alloc: Global, matches: &ArgMatches) -> Result<Command, WordsFault>
 
 /// The command that the words name, which are those after the program's name. They are bad where the command line has no
 /// place for one of them or wants one more, and where they ask for help.
+#[tactic(auto, unfolding(crate::specs::Words::are_bad))]
 pub fn read_command(alloc: Global, words: &[String]) -> Result<Command, WordsFault>
     // Words that are bad give no command.
     ensures good { OnOk result (are_bad (map string_bytes words.now) ≡ false) }
