@@ -94,10 +94,10 @@ fn hand_over<D: Disk, K: Sink>(ended: &Ended<Store<Fuse<D>>>, out: &mut K) -> St
     }
 }
 
-/// Plays the script that the words name, which the source gives or the seed of a drill makes, on its servers, on the disks that the bay has for them, in the folder that the words name or in memory, and writes
-/// the report, which is made whole before its first byte is written; of a drill that is the summary alone. The words come first, then the script to its first bad line, then
-/// the disks, server 1 first; the first event that ends the run gives its status. Disks that were taken are given back however the
-/// run ends.
+/// Plays the script that the words name, which the source gives or the seed of a drill makes, on its servers, on the disks that the bay
+/// has for them, in the folder that the words name or in memory, and writes the report, which is made whole before its first byte is
+/// written; of a drill that is the summary alone. The words come first, then the script to its first bad line, then the disks, server 1
+/// first; the first event that ends the run gives its status. Disks that were taken are given back however the run ends.
 ///
 /// What a folder's files hold no contract can say: what is said of disks holds of those in memory, and of a bay that tells.
 pub fn run_alpine<S: Source, K: Sink, B: Bay>(
