@@ -8,9 +8,10 @@ use Rattle.alp_script.specs.Script.{script}
 use Rattle.alp_script.specs.declared.fault.ScriptFault.{ScriptFault}
 use Rattle.alp_script.specs.declared.fault.ScriptFault.TheVariants as flaw
 use Rattle.alp_script.specs.declared.numbered.NumberedLine.{NumberedLine}
+use Rattle.alp_words.specs.Words.{IsNamedBy}
 use Rattle.alp_words.specs.declared.command.Command.{Command}
 use Rattle.alp_words.specs.declared.command.Command.TheVariants as command
-use Rattle.alp_top.specs.Commands.{AreToPlay, HasLines, HasNoLines}
+use Rattle.alp_top.specs.Commands.{AreToPlay, HasLines, HasNoLines, HasFewRounds}
 
 -- what has a flaw is no script
 ok_not : {A : Type 0} (x : A) (f : ScriptFault) → ◌≡◌ {A = Result A ScriptFault} (Ok x) (Err f) → ⊥
@@ -48,3 +49,8 @@ script_none folder old new (Err (flaw.Bad n)) h = (h, no_script old new (flaw.Ba
 script_none folder old new (Err flaw.TooLong) h = (h, no_script old new flaw.TooLong h)
 script_none folder old new (Err flaw.ReadFault) h = h
 script_none folder old new (Err flaw.OutOfMemory) h = tt
+
+-- a drill that words name has few rounds
+pub few_rounds : (words : List (List ℕ)) (c : Command) → IsNamedBy words c → HasFewRounds c
+few_rounds words (command.Play folder) h = tt
+few_rounds words (command.Drill seed size folder) h = h.most

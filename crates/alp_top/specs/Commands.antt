@@ -1,5 +1,6 @@
 -- What a command plays, and what it shows.
-use Rattle.std.specs.Prelude.{ℕ, Bool, true, false, List, Option}
+use Rattle.std.specs.Prelude.{◌≡◌, ◌≤◌, ℕ, Bool, true, false, List, Option}
+use Rattle.alp_drill.specs.Script.{drill_script}
 use Rattle.alp_script.specs.Reading.{GaveScript, GaveFlaw, GaveGoodLines, SaysScript}
 use Rattle.alp_script.specs.declared.fault.ScriptFault.{ScriptFault}
 use Rattle.alp_script.specs.declared.fault.ScriptFault.TheVariants as flaw
@@ -8,13 +9,15 @@ use Rattle.alp_words.specs.declared.command.Command.{Command}
 use Rattle.alp_words.specs.declared.command.Command.TheVariants as command
 use Rattle.alp_top.specs.Reports.{Shown, Played, Drilled}
 
--- these lines are to be played: of `play` they are the script that the source gave
+-- These lines are to be played: of `play` they are the script that the source gave, of `drill` the one that its seed makes, and nothing is read.
 abbrev pub AreToPlay : Command → (old new : Option (List ℕ)) → List NumberedLine → Type 0
 AreToPlay (command.Play folder) old new lines = GaveScript old new lines
+AreToPlay (command.Drill seed size folder) old new lines = (lines ≡ drill_script seed size) × (new ≡ old)
 
 -- there are lines to play: of `play` what the source has left is a script
 abbrev pub HasLines : Command → Option (List ℕ) → Type 0
 HasLines (command.Play folder) has = SaysScript has
+HasLines (command.Drill seed size folder) has = Unit {0}
 
 -- Why there are none: what the source gave has that flaw, or the source failed. A flaw is told only where there are no lines.
 abbrev pub HasNoLines : Command → (old new : Option (List ℕ)) → ScriptFault → Type 0
@@ -26,7 +29,13 @@ HasNoLines c old new flaw.OutOfMemory = Unit {0}
 -- whether a line for each line of a client stands before the summary: of `play` it does
 abbrev pub shows_lines : Command → Bool
 shows_lines (command.Play folder) = true
+shows_lines (command.Drill seed size folder) = false
 
 abbrev pub shown_as : Bool → Shown
 shown_as true = Played
 shown_as false = Drilled
+
+-- a drill has no more rounds than that
+abbrev pub HasFewRounds : Command → Type 0
+HasFewRounds (command.Play folder) = Unit {0}
+HasFewRounds (command.Drill seed size folder) = size ≤ 5000

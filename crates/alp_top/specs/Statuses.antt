@@ -184,6 +184,7 @@ IsLimit limit = (limit ≡ SCRIPT_LINES_MOST) ⊎ (limit ≡ entries_limit) ⊎ 
 -- the folder of a command
 abbrev pub folder_in : Command → Option (List ℕ)
 folder_in (command.Play folder) = option_map string_bytes folder
+folder_in (command.Drill seed size folder) = option_map string_bytes folder
 
 -- the words name no folder, or the bay tells what stands in it
 abbrev pub IsTold : List (List ℕ) → Bool → Type 0

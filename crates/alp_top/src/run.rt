@@ -6,7 +6,7 @@ ghost use Rattle.alp_base.specs.Causes.{Rose};
 ghost use Rattle.alp_script.specs.Accepted.{IsAccepted};
 ghost use Rattle.alp_script.specs.Reading.{GaveFlaw, GaveGoodLines, HasReadCause};
 ghost use Rattle.alp_top.specs.Anywhere.{IsToldAnywhere};
-ghost use Rattle.alp_top.specs.Commands.{AreToPlay, HasNoLines, shows_lines};
+ghost use Rattle.alp_top.specs.Commands.{AreToPlay, HasNoLines, HasFewRounds, shows_lines};
 ghost use Rattle.alp_top.specs.Headline.{IsPlayed, IsCutOff, HasCause, StartsHere, IsOfOne, HasLinesFor};
 ghost use Rattle.alp_top.specs.Statuses.{AreWordsTold, IsTold, OnDone, OnBadWords, OnFlaw, OnReadFault, OnWriteFault, OnCutShort, OnUntaken, folder_in, IsReadFaultTold, IsWriteFaultTold, IsBayFaultTold, IsFolderTold, OnUnwritten, IsPlayedOrMemory, IsHandedOver};
 ghost use Rattle.alp_words.specs.Words.{are_bad, folder_named};
@@ -15,9 +15,10 @@ use crate::bay::run_bay;
 use crate::finish::Ended;
 use crate::status::{Status, ended_by};
 use crate::write_all::write_all;
-use alp_base::{Sink, Source};
+use alp_base::{OutOfMemory, Sink, Source};
 use alp_bay::Bay;
 use alp_disk::{Disk, Fuse};
+use alp_drill::drill;
 use alp_script::{NumberedLine, SCRIPT_LINES_MOST, ScriptFault, accepted_lines, read_script};
 use alp_store::Store;
 use alp_vault::Vault;
@@ -31,6 +32,11 @@ fn folder_of(command: &Command) -> Option<&str>
 {
     match command {
         Command::Play { folder } => folder.as_deref(),
+        Command::Drill {
+            seed: _,
+            size: _,
+            folder,
+        } => folder.as_deref(),
     }
 }
 
@@ -40,6 +46,11 @@ fn shows(command: &Command) -> bool
 {
     match command {
         Command::Play { folder: _ } => true,
+        Command::Drill {
+            seed: _,
+            size: _,
+            folder: _,
+        } => false,
     }
 }
 
@@ -49,6 +60,7 @@ fn lines_of<S: Source>(
     command: &Command,
     script: &mut S,
 ) -> Result<Vec<NumberedLine>, ScriptFault>
+    requires few { HasFewRounds command.now }
     ensures lines { IfOk result (λ lines. AreToPlay command.now (S.left script.old) (S.left script.new) lines.items) }
     ensures accepted { IfOk result (λ lines. IsAccepted lines.items) }
     ensures none { IfErr result (HasNoLines command.now (S.left script.old) (S.left script.new)) }
@@ -57,6 +69,14 @@ fn lines_of<S: Source>(
     accepted_lines();
     match command {
         Command::Play { folder: _ } => read_script(alloc, script),
+        Command::Drill {
+            seed,
+            size,
+            folder: _,
+        } => match drill(alloc, *seed, *size) {
+            Ok(lines) => Ok(lines),
+            Err(OutOfMemory) => Err(ScriptFault::OutOfMemory),
+        },
     }
 }
 
@@ -74,10 +94,10 @@ fn hand_over<D: Disk, K: Sink>(ended: &Ended<Store<Fuse<D>>>, out: &mut K) -> St
     }
 }
 
-/// Plays the script on its servers, on the disks that the bay has for them, in the folder that the words name or in memory, and writes
-/// the report, which is made whole before its first byte is written. The words come first, then the script to its first bad line, then
-/// the disks, server 1 first; the first event that ends the run gives its status. Disks that were taken are given back however the
-/// run ends.
+/// Plays the script that the words name, which the source gives or the seed of a drill makes, on its servers, on the disks that the bay
+/// has for them, in the folder that the words name or in memory, and writes the report, which is made whole before its first byte is
+/// written; of a drill that is the summary alone. The words come first, then the script to its first bad line, then the disks, server 1
+/// first; the first event that ends the run gives its status. Disks that were taken are given back however the run ends.
 ///
 /// What a folder's files hold no contract can say: what is said of disks holds of those in memory, and of a bay that tells.
 pub fn run_alpine<S: Source, K: Sink, B: Bay>(

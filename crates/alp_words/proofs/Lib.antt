@@ -1,3 +1,6 @@
 mod Matches
 mod Refusals
 mod TopLevel
+mod Numbers
+mod Taken
+mod Named

@@ -1,5 +1,5 @@
 -- Words that the command line takes begin with the name of a command of its own.
-use Rattle.std.proofs.Common.{◌≡◌, ◌∙◌, ◌==◌, ℕ, zero, suc, Bool, true, false, refl, sym, ap, subst, List, [], ◌∷◌, length, Option, Some, None, option_map, codes, true≢false}
+use Rattle.std.proofs.Common.{◌≡◌, ◌∙◌, ◌==◌, ℕ, zero, suc, Bool, true, false, refl, sym, ap, subst, inl, inr, List, [], ◌∷◌, length, Option, Some, None, option_map, codes, true≢false}
 use Rattle.std.specs.Option.{option_map_or}
 use Rattle.std.specs.Prelude.{slice_get}
 use Rattle.std.specs.Str.{bytes_eq, chars}
@@ -11,7 +11,7 @@ use Rattle.std.proofs.lemmas.Slice.Eq.{bytes_eq-Decides}
 use Rattle.clap.specs.Walk.{Held, Names, Row, Step, Text, Walk, after_flag, idle, plain, arg_by_long, arg_by_short, bundle_met, bundle_step, long_or_other, nothing_held, subcommand_met, subcommand_or_other, short_or_plain, stop_after, walk_from, walked}
 use Rattle.clap.proofs.WalkLemmas.{walk_stopped}
 use Rattle.alp_words.specs.Definition.{alpine}
-use Rattle.alp_words.specs.Words.{are_any}
+use Rattle.alp_words.specs.Words.{are_any, IsOurs}
 
 -- the command line as a parse finds it: with help of its own
 abbrev app : App
@@ -105,10 +105,14 @@ unfolding walked walk_fault defaults_fault
 behind_dashes [] = refl
 behind_dashes (w ∷ rest) = refl
 
--- the first word is the name of `play`
+-- the first word is the name of a command of ours
 enters : (rest : List Text) → stop_after top.rules names (codes "play" ∷ rest) ≡ Some (codes "play", rest)
 unfolding walked
 enters rest = ap (λ v. v.stopped) (sym (walk_stopped top.rules names start (codes "play") [] rest))
+
+enters_drill : (rest : List Text) → stop_after top.rules names (codes "drill" ∷ rest) ≡ Some (codes "drill", rest)
+unfolding walked
+enters_drill rest = ap (λ v. v.stopped) (sym (walk_stopped top.rules names start (codes "drill") [] rest))
 
 abbrev pub name_of : Option (Text × List Row) → Option Text
 name_of = option_map (λ p. p.0)
@@ -116,16 +120,19 @@ name_of = option_map (λ p. p.0)
 plays : (rest : List Text) → name_of (subcommand_of alpine (codes "alpine" ∷ codes "play" ∷ rest)) ≡ Some (codes "play")
 plays rest = ap (λ stop. name_of (entered app stop)) (enters rest)
 
+drills : (rest : List Text) → name_of (subcommand_of alpine (codes "alpine" ∷ codes "drill" ∷ rest)) ≡ Some (codes "drill")
+drills rest = ap (λ stop. name_of (entered app stop)) (enters_drill rest)
+
 -- where the first word fails, the line does
 line_fails : (w : Text) (rest : List Text) → are_any (turn_fault top names start w) ≡ true → are_any (fault_of alpine (codes "alpine" ∷ w ∷ rest)) ≡ true
 unfolding walk_fault
 line_fails w rest e = first_fails _ _ (first_fails _ _ e)
 
--- a word that is neither `play` nor `help`
-turn_other : (w : Text) → bytes_eq (codes "play") w ≡ false → bytes_eq (codes "help") w ≡ false → bytes_eq w (codes "--") ≡ false
+-- a word that is no name of a command
+turn_other : (w : Text) → bytes_eq (codes "play") w ≡ false → bytes_eq (codes "drill") w ≡ false → bytes_eq (codes "help") w ≡ false → bytes_eq w (codes "--") ≡ false
     → are_any (turn_fault top names start w) ≡ true
-turn_other w not_play not_help not_dashes =
-    let none : subcommand_met names idle w ≡ None = rw (not_play, not_help) refl in
+turn_other w not_play not_drill not_help not_dashes =
+    let none : subcommand_met names idle w ≡ None = rw (not_play, not_drill, not_help) refl in
     ap (λ o. are_any (word_kinds w o)) none ∙ stray_fails w not_dashes
 
 no_words : are_any (fault_of alpine (codes "alpine" ∷ [])) ≡ true
@@ -136,22 +143,25 @@ helps : (rest : List Text) → are_any (fault_of alpine (codes "alpine" ∷ code
 unfolding walk_fault
 helps rest = refl
 
--- words that are taken begin with `play`
-begins_with_play : (words : List Text) → are_any (fault_of alpine (codes "alpine" ∷ words)) ≡ false → name_of (subcommand_of alpine (codes "alpine" ∷ words)) ≡ Some (codes "play")
-begins_with_play [] taken = absurd (true≢false (sym no_words ∙ taken))
-begins_with_play (w ∷ rest) taken = go (bytes_eq (codes "play") w) (bytes_eq (codes "help") w) (bytes_eq w (codes "--")) refl refl refl
+abbrev NamesOurs : List Text → Type 0
+NamesOurs words = IsOurs (name_of (subcommand_of alpine (codes "alpine" ∷ words)))
+
+-- words that are taken begin with the name of a command of ours
+begins_with_ours : (words : List Text) → are_any (fault_of alpine (codes "alpine" ∷ words)) ≡ false → NamesOurs words
+begins_with_ours [] taken = absurd (true≢false (sym no_words ∙ taken))
+begins_with_ours (w ∷ rest) taken = go (bytes_eq (codes "play") w) (bytes_eq (codes "drill") w) (bytes_eq (codes "help") w) (bytes_eq w (codes "--")) refl refl refl refl
   where
     bad : are_any (fault_of alpine (codes "alpine" ∷ w ∷ rest)) ≡ true → ⊥
     bad e = true≢false (sym e ∙ taken)
 
-    go : (a b c : Bool) → bytes_eq (codes "play") w ≡ a → bytes_eq (codes "help") w ≡ b → bytes_eq w (codes "--") ≡ c
-        → name_of (subcommand_of alpine (codes "alpine" ∷ w ∷ rest)) ≡ Some (codes "play")
-    go true b c p q r = subst (λ (v : Text). name_of (subcommand_of alpine (codes "alpine" ∷ v ∷ rest)) ≡ Some (codes "play")) ((bytes_eq-Decides (codes "play") w).0 p) (plays rest)
-    go false true c p q r = absurd (bad (subst (λ (v : Text). are_any (fault_of alpine (codes "alpine" ∷ v ∷ rest)) ≡ true) ((bytes_eq-Decides (codes "help") w).0 q) (helps rest)))
-    go false false true p q r = absurd (bad (subst (λ (v : Text). are_any (fault_of alpine (codes "alpine" ∷ v ∷ rest)) ≡ true) (sym ((bytes_eq-Decides w (codes "--")).0 r)) (behind_dashes rest)))
-    go false false false p q r = absurd (bad (line_fails w rest (turn_other w p q r)))
+    go : (a d b c : Bool) → bytes_eq (codes "play") w ≡ a → bytes_eq (codes "drill") w ≡ d → bytes_eq (codes "help") w ≡ b → bytes_eq w (codes "--") ≡ c → NamesOurs (w ∷ rest)
+    go true d b c p s q r = subst (λ (v : Text). NamesOurs (v ∷ rest)) ((bytes_eq-Decides (codes "play") w).0 p) (inl (plays rest))
+    go false true b c p s q r = subst (λ (v : Text). NamesOurs (v ∷ rest)) ((bytes_eq-Decides (codes "drill") w).0 s) (inr (drills rest))
+    go false false true c p s q r = absurd (bad (subst (λ (v : Text). are_any (fault_of alpine (codes "alpine" ∷ v ∷ rest)) ≡ true) ((bytes_eq-Decides (codes "help") w).0 q) (helps rest)))
+    go false false false true p s q r = absurd (bad (subst (λ (v : Text). are_any (fault_of alpine (codes "alpine" ∷ v ∷ rest)) ≡ true) (sym ((bytes_eq-Decides w (codes "--")).0 r)) (behind_dashes rest)))
+    go false false false false p s q r = absurd (bad (line_fails w rest (turn_other w p s q r)))
 
 -- and so they do with the program's name before them, which may be any word
-pub taken_is_play : (all : List Text) → are_any (fault_of alpine all) ≡ false → name_of (subcommand_of alpine all) ≡ Some (codes "play")
-taken_is_play [] taken = absurd (true≢false (sym no_words ∙ taken))
-taken_is_play (name ∷ words) taken = begins_with_play words taken
+pub taken_is_ours : (all : List Text) → are_any (fault_of alpine all) ≡ false → IsOurs (name_of (subcommand_of alpine all))
+taken_is_ours [] taken = absurd (true≢false (sym no_words ∙ taken))
+taken_is_ours (name ∷ words) taken = begins_with_ours words taken

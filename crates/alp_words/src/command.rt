@@ -4,5 +4,13 @@
 #[derive(Debug, Drop)]
 pub enum Command {
     /// Play the script on standard input, on the volumes of a folder where one is named, and in memory where none is.
-    Play { folder: Option<String> },
+    Play {
+        folder: Option<String>,
+    },
+    /// Play the script that the seed makes, with so many rounds, on such volumes, and print the summary alone.
+    Drill {
+        seed: u64,
+        size: u32,
+        folder: Option<String>,
+    },
 }

@@ -1,10 +1,14 @@
 //! The command line of the program, as it is told to the reader of words.
 ghost use Rattle.std.specs.Prelude.{◌≡◌, IfOk, false};
 ghost use Rattle.clap.specs.Words.{rule_of};
-ghost use Rattle.alp_words.specs.Definition.{IsMade, option, play, alpine};
+ghost use Rattle.alp_words.specs.Definition.{IsMade, option, number, play, drill, alpine};
 
+use clap::builder::ValueParser;
 use clap::{Arg, ArgAction, Command};
 use std::alloc::{AllocError, Global};
+
+// The most rounds of a drill.
+pub(crate) const SIZE_MOST: u64 = 5_000;
 
 // An option that may stand once, with a value.
 fn option<'a>(alloc: Global, name: &'a str) -> Arg<'a>
@@ -14,10 +18,29 @@ fn option<'a>(alloc: Global, name: &'a str) -> Arg<'a>
     Arg::new(alloc, name).long(name).action(ArgAction::Set)
 }
 
+// An option that has to stand once, with a number from `least` to `most`.
+fn number<'a>(alloc: Global, name: &'a str, least: u64, most: u64) -> Arg<'a>
+    ensures rule { rule_of result ≡ number name.entry.now least most }
+    ensures own { result.global ≡ false }
+{
+    option(alloc, name)
+        .required(true)
+        .value_parser(ValueParser::unsigned(least, most))
+}
+
 fn play<'a>(alloc: Global) -> Result<Command<'a>, AllocError>
     ensures { IfOk result (IsMade play) }
 {
     Command::new(alloc, "play").arg(option(alloc, "folder"))
+}
+
+fn drill<'a>(alloc: Global) -> Result<Command<'a>, AllocError>
+    ensures { IfOk result (IsMade drill) }
+{
+    Command::new(alloc, "drill")
+        .arg(number(alloc, "seed", 0, u64::MAX))?
+        .arg(number(alloc, "size", 1, SIZE_MOST))?
+        .arg(option(alloc, "folder"))
 }
 
 /// The whole command line: one of its subcommands must be given.
@@ -25,7 +48,9 @@ pub(crate) fn alpine<'a>(alloc: Global) -> Result<Command<'a>, AllocError>
     ensures { IfOk result (IsMade alpine) }
 {
     let play = play(alloc)?;
+    let drill = drill(alloc)?;
     Command::new(alloc, "alpine")
         .subcommand_required(true)
-        .subcommand(play)
+        .subcommand(play)?
+        .subcommand(drill)
 }

@@ -1,10 +1,10 @@
 //! From the words to the command.
-ghost use Rattle.std.specs.Prelude.{◌≡◌, ◌∷◌, false, true, map, string_bytes, codes, option_map, IfOk, IfErr, OnOk};
+ghost use Rattle.std.specs.Prelude.{◌≡◌, ◌≤◌, ◌∷◌, false, true, map, string_bytes, codes, Option, Some, None, option_map, IfOk, IfErr, IfSome, OnOk};
 ghost use Rattle.clap.specs.Words.{first_of, found_of, rows_of, subcommand_name_of, subcommand_of, subcommand_rows_of};
 ghost use Rattle.alp_words.specs.Definition.{alpine};
-ghost use Rattle.alp_words.specs.Words.{are_bad, are_refused, IsNamedBy};
+ghost use Rattle.alp_words.specs.Words.{are_bad, are_refused, number_in as number_in_said, IsOurs, IsNamedBy, IsDrillOf, lacks_in};
 
-use crate::definition::alpine;
+use crate::definition::{SIZE_MOST, alpine};
 use crate::{Command, WordsFault};
 use clap::ArgMatches;
 use std::alloc::{AllocError, Global};
@@ -26,7 +26,7 @@ fn with_name(alloc: Global, words: &[String]) -> Result<Vec<&str>, AllocError>
 fn matches_of<'a>(alloc: Global, words: &'a [&'a str]) -> Result<ArgMatches<'a>, WordsFault>
     ensures good { OnOk result (are_refused (map (λ w. w.now) words.entry.now) ≡ false) }
     ensures rows { IfOk result (λ m. subcommand_rows_of m ≡ subcommand_of alpine (map (λ w. w.now) words.entry.now)) }
-    ensures play { IfOk result (λ m. subcommand_name_of m ≡ Some (codes "play")) }
+    ensures ours { IfOk result (λ m. IsOurs (subcommand_name_of m)) }
     ensures bad { IfErr result (λ fault. fault ≡ WordsFault.Bad → are_refused (map (λ w. w.now) words.entry.now) ≡ true) }
 {
     match alpine(alloc)?.try_get_matches_from(words) {
@@ -44,20 +44,70 @@ fn copy_of(alloc: Global, text: &str) -> Result<String, AllocError>
     Ok(copy)
 }
 
-// The folder that stands in the matches of `play`.
+// The folder that stands in the matches of a command.
 #[tactic(auto, using(crate::proofs::Matches::first_text))]
-fn folder_in(alloc: Global, play: &ArgMatches) -> Result<Option<String>, AllocError>
-    ensures { IfOk result (λ folder. option_map string_bytes folder ≡ first_of (codes "folder") (rows_of (found_of play.now))) }
+fn folder_in(alloc: Global, matches: &ArgMatches) -> Result<Option<String>, AllocError>
+    ensures { IfOk result (λ folder. option_map string_bytes folder ≡ first_of (codes "folder") (rows_of (found_of matches.now))) }
 {
-    match play.get_str("folder") {
+    match matches.get_str("folder") {
         Some(name) => Ok(Some(copy_of(alloc, name)?)),
         None => Ok(None),
     }
 }
 
+// The number that a text says, if it is from `least` to `most`.
+#[tactic(auto, using(crate::proofs::Numbers::not_a_number, crate::proofs::Numbers::too_small, crate::proofs::Numbers::too_great, crate::proofs::Numbers::within))]
+fn number_of(text: &str, least: u64, most: u64) -> Option<u64>
+    ensures number { result ≡ number_in_said least most (Some text.now) }
+    ensures bounds { IfSome result (λ n. (least ≤ n) × (n ≤ most)) }
+{
+    let Ok(number) = text.parse::<u64>() else {
+        return None;
+    };
+    if number < least {
+        return None;
+    }
+    if most < number {
+        return None;
+    }
+    Some(number)
+}
+
+// The number that stands in the matches of a command.
+#[tactic(auto, unfolding(crate::specs::Words::number_in), using(crate::proofs::Matches::option_text))]
+fn number_in(matches: &ArgMatches, option: &str, least: u64, most: u64) -> Option<u64>
+    ensures number { result ≡ number_in_said least most (first_of option.now (rows_of (found_of matches.now))) }
+    ensures bounds { IfSome result (λ n. (least ≤ n) × (n ≤ most)) }
+{
+    match matches.get_str(option) {
+        Some(text) => number_of(text, least, most),
+        None => None,
+    }
+}
+
+// The drill that stands in the matches of its command.
+#[tactic(auto, using(crate::proofs::Named::lacks_seed, crate::proofs::Named::lacks_size))]
+fn drill_in(alloc: Global, matches: &ArgMatches) -> Result<Command, WordsFault>
+    ensures made { IfOk result (IsDrillOf (rows_of (found_of matches.now))) }
+    ensures bad { IfErr result (λ fault. fault ≡ WordsFault.Bad → lacks_in (rows_of (found_of matches.now)) ≡ true) }
+{
+    let Some(seed) = number_in(matches, "seed", 0, u64::MAX) else {
+        return Err(WordsFault::Bad);
+    };
+    let Some(size) = number_in(matches, "size", 1, SIZE_MOST) else {
+        return Err(WordsFault::Bad);
+    };
+    let folder = folder_in(alloc, matches)?;
+    Ok(Command::Drill {
+        seed,
+        size: size as u32,
+        folder,
+    })
+}
+
 /// The command that the words name, which are those after the program's name. They are bad where the command line has no
 /// place for one of them or wants one more, and where they ask for help.
-#[tactic(auto, using(crate::proofs::Matches::folder_in_rows), unfolding(crate::specs::Words::are_bad, crate::specs::Words::folder_named))]
+#[tactic(auto, unfolding(crate::specs::Words::are_bad))]
 pub fn read_command(alloc: Global, words: &[String]) -> Result<Command, WordsFault>
     // Words that are bad give no command.
     ensures good { OnOk result (are_bad (map string_bytes words.now) ≡ false) }
@@ -68,9 +118,12 @@ pub fn read_command(alloc: Global, words: &[String]) -> Result<Command, WordsFau
 {
     let all = with_name(alloc, words)?;
     let matches = matches_of(alloc, all.as_slice())?;
-    let Some(play) = matches.subcommand_matches("play") else {
+    if let Some(play) = matches.subcommand_matches("play") {
+        let folder = folder_in(alloc, play)?;
+        return Ok(Command::Play { folder });
+    }
+    let Some(drill) = matches.subcommand_matches("drill") else {
         return Err(WordsFault::Bad);
     };
-    let folder = folder_in(alloc, play)?;
-    Ok(Command::Play { folder })
+    drill_in(alloc, drill)
 }

@@ -10,13 +10,17 @@ enum Wanted {
     InMemory,
     // To play on the volumes of this folder.
     In(&'static str),
+    // A drill of this seed and size in memory.
+    Drill(u64, u32),
+    // A drill on the volumes of this folder.
+    DrillIn(u64, u32, &'static str),
     // Nothing: its words are bad.
     Bad,
 }
 
-use Wanted::{Bad, In, InMemory};
+use Wanted::{Bad, Drill, DrillIn, In, InMemory};
 
-static LINES: [(&[&str], Wanted); 58] = [
+static LINES: [(&[&str], Wanted); 88] = [
     (&["play"], InMemory),
     (&["play", "--folder", "DIR"], In("DIR")),
     (&["play", "--folder=DIR"], In("DIR")),
@@ -65,7 +69,7 @@ static LINES: [(&[&str], Wanted); 58] = [
     // It is an option of `play`, and stands behind it.
     (&["--folder", "DIR", "play"], Bad),
     (&["--folder=DIR", "play"], Bad),
-    // There is one subcommand.
+    // One subcommand stands there.
     (&[], Bad),
     (&[""], Bad),
     (&["--"], Bad),
@@ -82,6 +86,62 @@ static LINES: [(&[&str], Wanted); 58] = [
     (&["play", "--help"], Bad),
     (&["--version"], Bad),
     (&["play", "-V"], Bad),
+    // A drill has a seed and a size, in any order, and may have a folder.
+    (&["drill", "--seed", "7", "--size", "2000"], Drill(7, 2000)),
+    (&["drill", "--size=1", "--seed=0"], Drill(0, 1)),
+    (
+        &["drill", "--seed", "18446744073709551615", "--size", "5000"],
+        Drill(18446744073709551615, 5000),
+    ),
+    (
+        &["drill", "--folder", "DIR", "--seed", "7", "--size", "20"],
+        DrillIn(7, 20, "DIR"),
+    ),
+    (
+        &["drill", "--seed", "7", "--size", "20", "--folder="],
+        DrillIn(7, 20, ""),
+    ),
+    // Zeros and a plus may lead a number.
+    (&["drill", "--seed", "+7", "--size", "0020"], Drill(7, 20)),
+    (
+        &["drill", "--seed", "7", "--size", "20", "--"],
+        Drill(7, 20),
+    ),
+    (&["drill"], Bad),
+    (&["drill", "--seed", "7"], Bad),
+    (&["drill", "--size", "20"], Bad),
+    (&["drill", "--seed", "7", "--size", "0"], Bad),
+    (&["drill", "--seed", "7", "--size", "5001"], Bad),
+    (
+        &["drill", "--seed", "18446744073709551616", "--size", "20"],
+        Bad,
+    ),
+    (&["drill", "--seed", "-1", "--size", "20"], Bad),
+    (&["drill", "--seed=-1", "--size", "20"], Bad),
+    (&["drill", "--seed", "", "--size", "20"], Bad),
+    (&["drill", "--seed", "7x", "--size", "20"], Bad),
+    (&["drill", "--seed", "7", "--size", "2 0"], Bad),
+    (&["drill", "--seed", "7", "--size", "0x14"], Bad),
+    (
+        &["drill", "--seed", "7", "--seed", "7", "--size", "20"],
+        Bad,
+    ),
+    (
+        &["drill", "--seed", "7", "--size", "20", "--size", "20"],
+        Bad,
+    ),
+    (&["drill", "--seed", "7", "--size"], Bad),
+    (&["drill", "--seed", "7", "--size", "20", "now"], Bad),
+    (
+        &["drill", "--seed", "7", "--size", "20", "--servers", "3"],
+        Bad,
+    ),
+    (&["drill", "7", "20"], Bad),
+    (&["drill", "--help"], Bad),
+    (&["--seed", "7", "--size", "20", "drill"], Bad),
+    (&["play", "--size", "20"], Bad),
+    (&["help", "drill"], Bad),
+    (&["Drill", "--seed", "7", "--size", "20"], Bad),
 ];
 
 fn meaning_of(rt: &HostRuntime, line: &[&str]) -> Result<Result<Command, WordsFault>, Fail> {
@@ -104,6 +164,23 @@ fn is_wanted(meaning: &Result<Command, WordsFault>, wanted: Wanted) -> bool {
             },
         ) => match wanted {
             In(name) => folder.as_str() == name,
+            _ => false,
+        },
+        Ok(
+            Command::Drill {
+                seed,
+                size,
+                folder: None,
+            },
+        ) => wanted == Drill(*seed, *size),
+        Ok(
+            Command::Drill {
+                seed,
+                size,
+                folder: Some(folder),
+            },
+        ) => match wanted {
+            DrillIn(of, long, name) => of == *seed && long == *size && folder.as_str() == name,
             _ => false,
         },
         Err(fault) => wanted == Bad && *fault == WordsFault::Bad,

@@ -6,8 +6,12 @@ use Rattle.alp_words.specs.Words.{folder_named}
 use Rattle.alp_top.specs.Commands.{AreToPlay}
 use Rattle.alp_top.specs.Headline.{HasCause}
 use Rattle.alp_top.specs.Volumes.{IsFolderLeft}
+use Rattle.alp_top.proofs.CommandLemmas.{few_rounds}
 use Rattle.alp_top.proofs.PlayedLemmas.{run_shown, through_shown, is_played, is_cut_off, done_then, cut_then, caused, folder_left, handed_folder, disk_counted, handed_counted, has_reported, has_reported_part, handed_limits, handed_disk, not_done, not_cut, limited, of_declared, bay_told, read_well, wrote_well, named_folder, folder_told, plays_on, not_flawed, not_untaken}
 use Rattle.alp_top.proofs.run.run_alpine.Goals as goal
+
+pub lines_of-requires : goal.lines_of-requires
+lines_of-requires g c = record { few = few_rounds _ c.in-Ok.command c.in-Ok.ensures.named }
 
 pub run_bay-requires-clause-accepted : goal.run_bay-requires-clause-accepted
 run_bay-requires-clause-accepted g c κs within = subst (λ (ls : List NumberedLine). IsAccepted ls) (sym c.deref-played.ensures.value) c.in-Ok-lines_of.ensures.accepted

@@ -1,0 +1,16 @@
+//! The script of a drill: three servers, eight owners and two hundred files, and rounds with stops and restarts, all rolled from a
+//! seed.
+#![tactic(auto)]
+
+mod adding;
+mod dice;
+mod files;
+mod rounds;
+mod script;
+mod setup;
+mod words;
+
+pub use script::{DRILL_SIZE_MOST, drill};
+
+#[cfg(test)]
+mod tests;
