@@ -234,11 +234,13 @@ WhyNotBegun g sizes server servers fault.OutOfMemory taken given = g.faults give
 WhyNotBegun g sizes server servers fault.JournalFull taken given = ⊥
 WhyNotBegun g sizes server servers fault.Bay taken given = ⊥
 
--- A server was started on this disk, and then nothing was played. The disk that is given back holds what it holds then, after a crash too,
--- and did not fail.
+-- A server was started on this disk, and then nothing was played. The disk that is given back holds what it holds then, after a crash too:
+-- the files and the notes that the server opened on. It did not fail.
 pub record IsUnplayed {D : Type 0} (g : Ghosts D) (lines : List NumberedLine) (server : ℕ) (taken given : D) : Type 0 where
   pub opening : Start
   pub notes : Notes
+  pub started : opening ≡ start_at server (servers_said lines) opening.sizes opening.cells notes
+  pub sound : IsSoundStart opening
   pub new : IsNew (sizes_said lines server) (g.size taken) (g.seen taken) → IsOpenedNew (sizes_said lines server) opening notes
   pub found : (IsNew (sizes_said lines server) (g.size taken) (g.seen taken) → ⊥) → IsOpenedOn server (servers_said lines) (g.size taken) (g.seen taken) opening notes
   pub left : (image : Image) → g.may_leave given image → (c : Contents) × Holds server (servers_said lines) (g.size given) opening.sizes.home image c × IsSaid (opened opening) c
@@ -254,6 +256,8 @@ pub record StopsAt {D : Type 0} (g : Ghosts D) (lines : List NumberedLine) (serv
 pub record IsLeftWhole {D : Type 0} (g : Ghosts D) (lines : List NumberedLine) (server : ℕ) (taken given : D) : Type 0 where
   pub opening : Start
   pub notes : Notes
+  pub started : opening ≡ start_at server (servers_said lines) opening.sizes opening.cells notes
+  pub sound : IsSoundStart opening
   pub new : IsNew (sizes_said lines server) (g.size taken) (g.seen taken) → IsOpenedNew (sizes_said lines server) opening notes
   pub found : (IsNew (sizes_said lines server) (g.size taken) (g.seen taken) → ⊥) → IsOpenedOn server (servers_said lines) (g.size taken) (g.seen taken) opening notes
   pub left : (image : Image) → g.may_leave given image → (c : Contents) × Holds server (servers_said lines) (g.size given) opening.sizes.home image c
