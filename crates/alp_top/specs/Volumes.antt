@@ -151,9 +151,9 @@ pub record IsRightAt (last : Course) (n : ℕ) : Type 0 where
   pub caused : Along next IsDone (opened (seat_at last n).opening) (seat_at last n).journal
 
 -- The run of these lines ended for that fault where its servers stood so: a line had more to send or to bring about, or the settling behind
--- the lines had (`stopped`). The journals are those of what occurred by then, each reply is the one that was handed, and they are lawful. Where
--- what the servers opened on is sound the decided transactions are one thread's history, each with all of its parts, and what the clients are
--- promised is kept. Of a server that runs alone it is.
+-- the lines had (`stopped`). The journals are those of what occurred by then, each reply is the one that was handed, and they are lawful. The
+-- vaults tell what they hold, so each settling found what was left. Where what the servers opened on is sound the decided transactions are one
+-- thread's history, each with all of its parts, and what the clients are promised is kept. Of a server that runs alone it is.
 pub record IsCutShort (lines : List NumberedLine) (f : RunFault) (last : Course) : Type 0 where
   pub first : Course
   pub begins : IsFirst first
@@ -165,6 +165,7 @@ pub record IsCutShort (lines : List NumberedLine) (f : RunFault) (last : Course)
   pub sent : sent_of happened ≡ sent_in turns
   pub stopped : StopsInLine (servers_said lines) lines turns happened due ⊎ StopsBehindLines (servers_said lines) lines turns happened due
   pub ends : IsEndFor f last due
+  pub tells : TellAll last
   pub right : (n : ℕ) → IsSeat last n → IsRightAt last n
   pub history : logs.AreSoundOpenings (log_of last (handed_of (λ k. own_in k turns)))
       → IsOneThread (log_of last (handed_of (λ k. own_in k turns))) × AreWhole (log_of last (handed_of (λ k. own_in k turns))) × ArePromisesKept (log_of last (handed_of (λ k. own_in k turns)))
