@@ -172,7 +172,7 @@ pub record IsCutShort (lines : List NumberedLine) (f : RunFault) (last : Course)
   pub alone : servers_said lines ≡ 1 → logs.AreSoundOpenings (log_of last (handed_of (λ k. own_in k turns)))
 
 -- Where the servers stand so, this one was started on the disk, and what a crash leaves of the disk that is given back is what its journal
--- says; of a server that is down, it is that or what its last write makes of that.
+-- says; of a server that is down, it is that or what its last write makes of that. Without a line that stops a disk this one did not fail.
 pub record IsLeftBy {D : Type 0} (g : Ghosts D) (lines : List NumberedLine) (last : Course) (server : ℕ) (taken given : D) : Type 0 where
   pub notes : Notes
   pub started : (seat_at last server).opening ≡ start_at server (servers_said lines) (seat_at last server).opening.sizes (seat_at last server).opening.cells notes
@@ -183,6 +183,7 @@ pub record IsLeftBy {D : Type 0} (g : Ghosts D) (lines : List NumberedLine) (las
       → (c : Contents) × Holds server (servers_said lines) (g.size given) (seat_at last server).opening.sizes.home image c
       × (IsSaid (state_after next (opened (seat_at last server).opening) (seat_at last server).journal) c ⊎ IsSaidThen (state_after next (opened (seat_at last server).opening) (seat_at last server).journal) c)
   pub read : g.may_leave given (g.seen given)
+  pub unfailed : StopNone lines → g.faults given ≡ g.faults taken
 
 -- The journal of the server that was started on the disk was full where another event was to come. The disk holds what the journal
 -- says.
