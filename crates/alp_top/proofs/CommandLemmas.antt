@@ -47,7 +47,7 @@ pub script_none : (folder : _) (old new : Option (List ℕ)) (r : Result (Vec Nu
 script_none folder old new (Ok v) h = tt
 script_none folder old new (Err (flaw.Bad n)) h = (h, no_script old new (flaw.Bad n) h)
 script_none folder old new (Err flaw.TooLong) h = (h, no_script old new flaw.TooLong h)
-script_none folder old new (Err flaw.ReadFault) h = h
+script_none folder old new (Err flaw.ReadFault) h = (h, tt)
 script_none folder old new (Err flaw.OutOfMemory) h = tt
 
 -- the same of a command, where it is that of a script
