@@ -200,6 +200,7 @@ module _ {V : Type 0} (G : Ghosts V) (k : ServerState V) (from : ℕ) (j : JoinN
           record {
             along = x.along;
             times = λ u s ks is. (let before : s.ts ≤ k.clock = x.times u s ks is in omega (arith, before));
+            fated = x.fated;
             joins = x.joins;
             paired = x.paired;
             idle = x.idle;

@@ -1,5 +1,5 @@
 -- each part of a transaction is asked for its vote, and the Finish waits
-use Rattle.std.specs.Prelude.{cond, Bool, true, false, ◌||◌, Option, None, Some, is_some}
+use Rattle.std.specs.Prelude.{◌≢◌, cond, Bool, true, false, ◌||◌, Option, None, Some, is_some}
 use Rattle.std.specs.List.{list_any, AllByRecursion}
 use Rattle.std.proofs.Common.{◌≡◌, ℕ, ◌+◌, List, [], ◌∷◌, ◌++◌, refl, sym, ◌∙◌, ap, subst}
 use Rattle.alp_base.specs.declared.allowance.Allowance.{Allowance}
@@ -38,6 +38,7 @@ use Rattle.alp_node.specs.declared.sessions.Turn.{Turn}
 use Rattle.alp_node.specs.declared.waits.WaitingCall.{WaitingCall}
 use Rattle.alp_node.proofs.ClearLemmas.{running_told}
 use Rattle.alp_node.proofs.EndingLemmas.{said_is}
+use Rattle.alp_node.proofs.EarlyLemmas.{early_finishes}
 use Rattle.alp_node.proofs.FatedLemmas.{IsFatedAs, fated_by, fated_ready}
 use Rattle.alp_node.proofs.FinishLemmas.{turn_session, counts_as}
 use Rattle.alp_node.proofs.KeptLemmas.{applied_fated, finishing_decision, session_of, stands_timely, IsLive, live_there, stepped_so}
@@ -71,10 +72,10 @@ module _ {V : Type 0} (k : ServerState V) (turn : Turn) (t : TransId) (z : Coord
     pub asks_fated : IsFatedAs k.coordinator z
     asks_fated = fated_by (Finishes t) k.coordinator z tt along comes
 
-    pub asked_ready : (n : ℕ) (serves : Bool) (client : ℕ) (js : List JoinNo) → IsTurn k.sessions turn → fate_in k.coordinator t ≡ Running client js → IsReady n serves k → IsReady (n + 1) serves asked_kept
-    asked_ready n serves client js is runs h =
+    pub asked_ready : (n : ℕ) (serves : Bool) (client : ℕ) (js : List JoinNo) → IsTurn k.sessions turn → fate_in k.coordinator t ≡ Running client js → js ≢ [] → IsReady n serves k → IsReady (n + 1) serves asked_kept
+    asked_ready n serves client js is runs some h =
         counted_ready n serves (record k { coordinator = z; waits = k.waits ++ finish_call ∷ [] }) turn (reply.Refused refusal.NotYet) is (record { inside = tt; times = tt })
-        (fated_ready n serves (record k { waits = k.waits ++ finish_call ∷ [] }) z asks_fated
+        (fated_ready n serves (record k { waits = k.waits ++ finish_call ∷ [] }) z asks_fated (early_finishes k.servers k.server t client js k.coordinator z runs some comes h.fated)
         (other_waits_ready n serves k finish_call refl (refl, refl) ((runs_placed k.coordinator t client (ap client_of runs)).epoch_is ∙ h.seat.1) h))
 
     -- as the journal tells it

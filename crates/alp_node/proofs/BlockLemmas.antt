@@ -190,6 +190,7 @@ module _ {V : Type 0} (k : ServerState V) (turn : Turn) (t : TransId) (l : Live)
       sized = h.sized;
       clock = h.clock;
       raised = h.raised;
+      fated = h.fated;
       last = h.last;
       unheld = h.unheld;
       seat = h.seat;

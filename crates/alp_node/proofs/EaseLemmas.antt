@@ -177,6 +177,7 @@ eased_ready n serves k blocks ts h = record {
   sized = h.sized;
   clock = h.clock;
   raised = h.raised;
+  fated = h.fated;
   last = h.last;
   unheld = h.unheld;
   seat = h.seat;

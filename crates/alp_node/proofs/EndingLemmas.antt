@@ -132,7 +132,7 @@ module _ {V : Type 0} (a : Account) (before now : ℕ) (held : Contents) (k : Se
         let m : Account = with_end_given a turn.client turn.number (session_of turn is) t y.life c (granted_behind k t) in
         stepped_so a before now held held k (record (ended k turn t r) { coordinator = z }) turn.client turn.number (session_of turn is) (call.Finish t commit) false r acts m x so h leads
         (ended_as is y.life c g z along ends up (call_notes false a m turn.client turn.number (session_of turn is) (call.Finish t commit) r acts h.quiet leads (grants_write (granted_behind k t) (sent_acts ms) (sent_write ms)) held.notes) leads.quiet) (λ e. cc)
-        (subst (IsTimely a.holder.clock (event.Call turn.client k.epoch turn.number (call.Finish t commit))) (sym (clock_then g)) (stands_timely a.holder.clock 0 k.clock h.clock))
+        (subst (IsTimely a.fates a.holder.clock (event.Call turn.client k.epoch turn.number (call.Finish t commit))) (sym (clock_then g)) (stands_timely a.holder.clock 0 k.clock h.clock))
 
     pub abort_stepped : (x : Answer) (z : Coordinator) → IsAlong k.coordinator z → ((client : ℕ) → Comes (Ends t client cause.Asked) k.coordinator z)
         → x ≡ refused_answer (refusal.Aborted cause.Asked) ((act.Released t ∷ grant_acts (granted_behind k t)) ++ said_each (λ j. msg.Abort t j cause.Asked) js)

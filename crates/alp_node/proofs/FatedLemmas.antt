@@ -20,6 +20,7 @@ use Rattle.alp_coord.specs.Ticks.{has_trans, AreOnce}
 use Rattle.alp_coord.proofs.LikeLemmas.{like-client, like-counted}
 use Rattle.alp_coord.proofs.TickLemmas.{rising_once, same_said, closed_fate}
 use Rattle.alp_coord.proofs.WordLemmas.{settled_counts}
+use Rattle.alp_node.specs.EarlyFates.{AreEarly}
 use Rattle.alp_node.specs.Noted.{AreNoted, decision_kept}
 use Rattle.alp_node.specs.Paired.{IsPartOf, IsPairedWith, ArePaired}
 use Rattle.alp_node.specs.ServerState.{IsReady}
@@ -205,8 +206,8 @@ fated_noted server servers epoch lives joins before after notes h n = record {
   format = n.format;
 }
 
-pub fated_ready : {V : Type 0} (n : ℕ) (serves : Bool) (k : ServerState V) (z : Coordinator) → IsFatedAs k.coordinator z → IsReady n serves k → IsReady n serves (record k { coordinator = z })
-fated_ready n serves k z h r = record {
+pub fated_ready : {V : Type 0} (n : ℕ) (serves : Bool) (k : ServerState V) (z : Coordinator) → IsFatedAs k.coordinator z → AreEarly k.servers k.server z → IsReady n serves k → IsReady n serves (record k { coordinator = z })
+fated_ready n serves k z h early r = record {
   serving = r.serving;
   halted = r.halted;
   sound = r.sound;
@@ -232,6 +233,7 @@ fated_ready n serves k z h r = record {
   sized = r.sized;
   clock = r.clock;
   raised = r.raised;
+  fated = early;
   last = r.last;
   unheld = r.unheld;
 }

@@ -72,6 +72,7 @@ use Rattle.alp_node.proofs.LogLemmas.{notes_few, small_room}
 use Rattle.alp_node.proofs.NoteWrites.{forget_changes, forget_noted, forget_short, forgotten_notes, server_ends}
 use Rattle.alp_node.proofs.PairedLemmas.{counted_fewer}
 use Rattle.alp_node.proofs.ReadyLemmas.{ready_with, stepped_ready}
+use Rattle.alp_node.proofs.EarlyLemmas.{early_acknowledges, early_forgets}
 use Rattle.alp_node.proofs.TransactionLemmas.{run_along}
 use Rattle.alp_node.proofs.WriteSteps.{HasCome, IsStop, written_stepped}
 
@@ -355,6 +356,7 @@ module _ {V : Type 0} (G : Ghosts V) (k : ServerState V) (from : ℕ) (t : Trans
       sized = r.sized;
       clock = r.clock;
       raised = r.raised;
+      fated = early_forgets k.servers k.server t mid z forgot (early_acknowledges k.servers k.server t j k.coordinator mid heard r.fated);
       last = r.last;
       unheld = r.unheld;
     }

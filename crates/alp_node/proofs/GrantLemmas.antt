@@ -202,6 +202,7 @@ granted_ready m serves k w count more low prepared free idle others h = record {
   sized = h.sized;
   clock = h.clock;
   raised = h.raised;
+  fated = h.fated;
   last = h.last;
   seat = h.seat;
   times = h.times;

@@ -1,7 +1,7 @@
 -- what parts elsewhere say: that they voted, and that they applied a commit; where it is dropped, and where it is kept
 use Rattle.std.specs.Prelude.{cond, Bool, true, false, not, ◌==◌, ◌&&◌, ◌||◌, Option, None, Some, Result, Ok}
 use Rattle.std.specs.List.{list_all}
-use Rattle.std.proofs.Common.{◌≡◌, ℕ, ◌+◌, List, [], ◌∷◌, refl, sym, ◌∙◌, ap, subst}
+use Rattle.std.proofs.Common.{◌≡◌, ◌≤◌, ◌^◌, ℕ, ◌+◌, List, [], ◌∷◌, refl, sym, ◌∙◌, ap, subst}
 use Rattle.std.proofs.lemmas.Bool.{and_parts}
 use Rattle.alp_base.specs.declared.ids.JoinNo.{JoinNo}
 use Rattle.alp_base.specs.declared.ids.Stamp.{Stamp}
@@ -33,11 +33,13 @@ use Rattle.alp_coord.proofs.LikeLemmas.{like-receipt, all_done_alike}
 use Rattle.alp_coord.proofs.TieLemmas.{known-ballot, known-after}
 use Rattle.alp_vault.specs.Contents.{Contents}
 use Rattle.alp_vault.specs.declared.vault.Vault.{Ghosts}
+use Rattle.alp_node.specs.EarlyFates.{AreEarly}
 use Rattle.alp_node.specs.ServerState.{IsAs, IsReady}
 use Rattle.alp_node.specs.Steps.{IsStepAs, told_answer}
 use Rattle.alp_node.specs.declared.answer.Answer.{Answer}
 use Rattle.alp_node.specs.declared.server_state.ServerState.{ServerState}
 use Rattle.alp_node.proofs.ArrivalLemmas.{kept_fated}
+use Rattle.alp_node.proofs.EarlyLemmas.{early_acknowledges, early_hears}
 use Rattle.alp_node.proofs.FatedLemmas.{IsSmallDeed, fated_like, fated_ready, fated_noted, small_as}
 use Rattle.alp_node.proofs.NoteLaw.{AbortsNoVote, notes_stay}
 use Rattle.alp_node.proofs.ReadyLemmas.{stepped_ready}
@@ -74,14 +76,14 @@ known_receipt epoch t j known fate h = go (t.epoch == epoch) h
 
 module _ {V : Type 0} (G : Ghosts V) (k : ServerState V) (d : Deed) (small : IsSmallDeed d) (z : Coordinator) (along : IsAlong k.coordinator z) (comes : ComesLike d k.coordinator z) (up : k.is_down ≡ false) where
   -- by what the journal says
-  pub fate_step : (e : Event) (x : Answer) → x ≡ told_answer None [] → (e ≡ event.Restart → ⊥) → ((a : Account) → AbortsNoVote (state_of a) e)
+  pub fate_step : ((n : ℕ) → IsReady n (G.serves k.vault) k → AreEarly k.servers k.server z) → (e : Event) (x : Answer) → x ≡ told_answer None [] → (e ≡ event.Restart → ⊥) → ((a : Account) → AbortsNoVote (state_of a) e)
       → ((a : Account) → IsAs a (G.held k.vault) k → Leads false a (record { event = e; reply = None; acts = [] }) (record a { fates = λ u. fate_after d u (a.fates u) }))
       → ((a : Account) → IsAs a (G.held k.vault) k → (u : TransId) → IsFateOf a.ids.epoch u (fate_in z u) (fate_after d u (a.fates u)))
       → IsStepAs G None k (record k { coordinator = z }) e (Ok x)
-  fate_step e x so on aborts leads known =
+  fate_step early e x so on aborts leads known =
       said_step G k (record k { coordinator = z }) e x []
       (record { vault = refl; server = refl; servers = refl; sizes = refl; epoch = refl; clock = refl; sessions = refl; down = refl }) up so refl (λ before now allowance. tt)
-      (λ n h. stepped_ready n (G.serves k.vault) (record k { coordinator = z }) (fated_ready n (G.serves k.vault) k z (fated_like d k.coordinator z small along comes) h))
+      (λ n h. stepped_ready n (G.serves k.vault) (record k { coordinator = z }) (fated_ready n (G.serves k.vault) k z (fated_like d k.coordinator z small along comes) (early n h) h))
       (λ notes. fated_noted k.server k.servers k.epoch k.lives k.joins k.coordinator z (G.held k.vault).notes (fated_like d k.coordinator z small along comes) notes)
       (λ a h.
       (let m : Account = record a { fates = λ u. fate_after d u (a.fates u) } in
@@ -136,7 +138,7 @@ module _ {V : Type 0} (G : Ghosts V) (k : ServerState V) (from : ℕ) (t : Trans
   pub done_kept : (x : Answer) (z : Coordinator) → receipt_of j (fate_in k.coordinator t) ≡ receipt.Kept → IsAlong k.coordinator z → ComesLike (Acknowledges t j) k.coordinator z → x ≡ told_answer None []
       → IsStepAs G None k (record k { coordinator = z }) (event.Arrive from (msg.Done t j)) (Ok x)
   done_kept x z kept along comes so =
-      fate_step G k (Acknowledges t j) tt z along comes up (event.Arrive from (msg.Done t j)) x so (λ e. (let wrong : event.Arrive from (msg.Done t j) ≡ event.Restart = e in cc)) (λ a. tt)
+      fate_step G k (Acknowledges t j) tt z along comes up (λ n r. early_acknowledges k.servers k.server t j k.coordinator z comes r.fated) (event.Arrive from (msg.Done t j)) x so (λ e. (let wrong : event.Arrive from (msg.Done t j) ≡ event.Restart = e in cc)) (λ a. tt)
       (λ a h.
       (let o : IsKept (a.fates t) = kept_receipt (a.fates t) (sym (known_receipt a.ids.epoch t j (fate_in k.coordinator t) (a.fates t) (h.coordinator.fates t)) ∙ kept) in
       done_leads a from t j o.stamp o.joins o.before h.quiet (h.down ∙ up) o.is o.its (unfinished a h o)))
@@ -214,10 +216,10 @@ module _ {V : Type 0} (G : Ghosts V) (k : ServerState V) (from : ℕ) (t : Trans
   kept_vote (Forgotten stamp js) e = (let wrong : ballot.Dropped ≡ ballot.Kept = e in cc)
   kept_vote (Ended c) e = (let wrong : ballot.Dropped ≡ ballot.Kept = e in cc)
 
-  pub vote_kept : (x : Answer) (z : Coordinator) → ballot_of j ts least (fate_in k.coordinator t) ≡ ballot.Kept → IsAlong k.coordinator z → ComesLike (Hears t j ts) k.coordinator z → x ≡ told_answer None []
+  pub vote_kept : ts ≤ 2 ^ 62 → (x : Answer) (z : Coordinator) → ballot_of j ts least (fate_in k.coordinator t) ≡ ballot.Kept → IsAlong k.coordinator z → ComesLike (Hears t j ts) k.coordinator z → x ≡ told_answer None []
       → IsStepAs G None k (record k { coordinator = z }) (event.Arrive from (msg.Ready t j ts)) (Ok x)
-  vote_kept x z kept along comes so =
-      fate_step G k (Hears t j ts) tt z along comes up (event.Arrive from (msg.Ready t j ts)) x so (λ e. (let wrong : event.Arrive from (msg.Ready t j ts) ≡ event.Restart = e in cc)) (λ a. tt)
+  vote_kept low x z kept along comes so =
+      fate_step G k (Hears t j ts) tt z along comes up (λ n r. early_hears k.servers k.server t j ts k.coordinator z low comes r.fated) (event.Arrive from (msg.Ready t j ts)) x so (λ e. (let wrong : event.Arrive from (msg.Ready t j ts) ≡ event.Restart = e in cc)) (λ a. tt)
       (λ a h.
       (let o : IsKeptVote (a.fates t) = kept_vote (a.fates t) (ballot_told a (G.held k.vault) ballot.Kept h kept) in
       ready_kept_leads a from t j ts o.client o.joins o.votes h.quiet (h.down ∙ up) o.is o.its o.more))

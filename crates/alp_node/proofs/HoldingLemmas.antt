@@ -157,6 +157,7 @@ module _ {V : Type 0} (n : ℕ) (serves : Bool) (k : ServerState V) (h : IsReady
   join_lets = record {
     along = record { server_same = refl; epoch_same = refl; count_same = refl };
     times = h.times;
+    fated = h.fated;
     joins = joins_left n serves k j p h;
     paired = paired_let_go k.servers k.server k.coordinator k.joins k.lives h.paired h.joins.once j y there let_in p so;
     idle = idle_left n serves k j p h;

@@ -296,6 +296,7 @@ module _ {V : Type 0} (k : ServerState V) (j : JoinNo) (t : TransId) (y : LiveJo
       sized = h.sized;
       clock = h.clock;
       raised = h.raised;
+      fated = h.fated;
       last = h.last;
       unheld = λ u m. entered_none u m;
     }

@@ -221,7 +221,7 @@ as_back a held k c along keeps h = record {
 -- a new call's entry and its answer
 module _ {V : Type 0} (a : Account) (before now : ℕ) (held then : Contents) (k new : ServerState V) (client number : ℕ) (w : Session) (c : Call) where
   pub stepped_so : (failed : Bool) (r : Reply) (acts : List Act) (m : Account) (x : Answer) → x ≡ told_answer (Some r) acts → IsAs a held k → Leads failed a (call_entry a client number w c r acts) m
-      → IsAs m then new → (failed ≡ true → Rose before now × (is_read_fault (Some r) ≡ true)) → IsTimely a.holder.clock (event.Call client k.epoch number c) new.clock → Stepped a before now then new (event.Call client k.epoch number c) x
+      → IsAs m then new → (failed ≡ true → Rose before now × (is_read_fault (Some r) ≡ true)) → IsTimely a.fates a.holder.clock (event.Call client k.epoch number c) new.clock → Stepped a before now then new (event.Call client k.epoch number c) x
   stepped_so failed r acts m x is h leads kept rose timely = record {
     failed = failed;
     next = m;

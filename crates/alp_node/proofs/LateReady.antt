@@ -217,6 +217,7 @@ module _ {V : Type 0} (k : ServerState V) (t : TransId) (xs : List LiveJoin) (ar
         sized = h.sized;
         clock = h.clock;
         raised = h.raised;
+        fated = h.fated;
         last = h.last;
         unheld = h.unheld;
       }
@@ -291,6 +292,7 @@ module _ {V : Type 0} (k : ServerState V) (t : TransId) (xs : List LiveJoin) (ar
       lets = record {
         along = record { server_same = refl; epoch_same = refl; count_same = refl };
         times = h.times;
+        fated = h.fated;
         joins = joins_here;
         paired = paired_gone;
         idle = idle_here;

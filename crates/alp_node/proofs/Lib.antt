@@ -1,6 +1,7 @@
 pub mod BlockSets
 pub mod MapLemmas
 pub mod ClockLaws
+pub mod EarlyLemmas
 pub mod ReadyLemmas
 pub mod SeatLemmas
 pub mod GivenLemmas
@@ -131,3 +132,9 @@ pub mod OpenJoins
 pub mod LateTold
 pub mod LateReady
 pub mod LateSteps
+pub mod DecidedNotes
+pub mod TimelySteps
+pub mod FewJoins
+pub mod LastVotes
+pub mod LastSteps
+pub mod AgainstSteps

@@ -108,6 +108,7 @@ module _ {V : Type 0} (n : ℕ) (before serves : Bool) (k : ServerState V) (t : 
     sized = h.sized;
     clock = h.clock;
     raised = h.raised;
+    fated = h.fated;
     last = h.last;
     unheld = h.unheld;
     seat = h.seat;

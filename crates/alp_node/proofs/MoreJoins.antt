@@ -233,6 +233,7 @@ module _ {V : Type 0} (n : ℕ) (serves : Bool) (k : ServerState V) (turn : Turn
         sized = r.sized;
         clock = r.clock;
         raised = r.raised;
+        fated = r.fated;
         last = r.last;
         unheld = r.unheld;
       }

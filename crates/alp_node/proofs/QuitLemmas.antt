@@ -88,6 +88,7 @@ module _ {V : Type 0} (k : ServerState V) (j : JoinNo) (t : TransId) (client : â
     sized = h.sized;
     clock = h.clock;
     raised = h.raised;
+    fated = h.fated;
     last = h.last;
     unheld = h.unheld;
   }

@@ -37,6 +37,7 @@ use Rattle.alp_node.specs.Asks.{is_given}
 use Rattle.alp_node.specs.Dead.{cause_in, without_client}
 use Rattle.alp_node.specs.Rooms.{IsWithin}
 use Rattle.alp_node.specs.Sessions.{session_at, with_session}
+use Rattle.alp_node.specs.EarlyFates.{AreEarly}
 use Rattle.alp_node.specs.Noted.{HasReadyRoom, ready_room}
 use Rattle.alp_node.specs.Paired.{ArePaired}
 use Rattle.alp_node.specs.ServerState.{IsAlive, AreAlive, AreJoinsHere, IsReady}
@@ -54,6 +55,7 @@ use Rattle.alp_node.specs.declared.waits.WaitingCall.{WaitingCall}
 use Rattle.alp_node.proofs.DeadLemmas.{none_left, dead_buried, alive_still}
 use Rattle.alp_node.proofs.WaitLemmas.{call_later, like_itself, filter_apart, IsOwned, all_owned, asks_undead, asks_live, asks_other, asks_without_other, each_so, pushed_each, pushed_apart, pushed_asks, file_pushed, idle_fewer}
 use Rattle.alp_node.proofs.NotedLemmas.{room_on, voters_put, voters_gone}
+use Rattle.alp_node.proofs.EarlyLemmas.{early_begins, early_keeps, early_lets}
 use Rattle.alp_node.proofs.PairedLemmas.{HasNoJoinOf, own_unjoined, part_has, paired_begun, paired_gone, paired_kept, counted_fewer, counted_gone, counted_begun}
 use Rattle.alp_node.proofs.TransactionLemmas.{LetsGo, times_begun}
 use Rattle.alp_journal.specs.Desk.{Session}
@@ -174,6 +176,7 @@ module _ {V : Type 0} (n : ℕ) (serves : Bool) (k : ServerState V) where
     sized = h.sized;
     clock = h.clock;
     raised = h.raised;
+    fated = h.fated;
     last = h.last;
     unheld = h.unheld;
     seat = h.seat;
@@ -206,6 +209,7 @@ module _ {V : Type 0} (n : ℕ) (serves : Bool) (k : ServerState V) where
     sized = h.sized;
     clock = h.clock;
     raised = h.raised;
+    fated = h.fated;
     last = h.last;
     unheld = h.unheld;
     seat = h.seat;
@@ -238,6 +242,7 @@ module _ {V : Type 0} (n : ℕ) (serves : Bool) (k : ServerState V) where
     sized = h.sized;
     clock = h.clock;
     raised = h.raised;
+    fated = h.fated;
     last = h.last;
     unheld = h.unheld;
     seat = h.seat;
@@ -253,6 +258,7 @@ module _ {V : Type 0} (n : ℕ) (serves : Bool) (k : ServerState V) where
   pub record LetsPart (t : TransId) (c : Coordinator) (js : Joins) (clock : ℕ) : Type 0 where
     pub along : IsAlong k.coordinator c
     pub times : AreDecidedBy clock c
+    pub fated : AreEarly k.servers k.server c
     pub joins : AreJoinsHere k.server k.epoch n js
     pub paired : ArePaired k.servers k.server c js (map.remove k.lives t)
     pub idle : AreVotersIdle js.lives k.waits
@@ -267,6 +273,7 @@ module _ {V : Type 0} (n : ℕ) (serves : Bool) (k : ServerState V) where
       record {
         along = lets.along;
         times = lets.times;
+        fated = early_lets k.servers k.server t k.coordinator c lets.gone lets.others h.fated;
         joins = h.joins;
         paired = paired_gone k.servers k.server k.coordinator k.joins k.lives h.paired c t clock lets none;
         idle = h.idle;
@@ -310,6 +317,7 @@ module _ {V : Type 0} (n : ℕ) (serves : Bool) (k : ServerState V) where
     sized = h.sized;
     clock = low;
     raised = h.raised;
+    fated = lets.fated;
     last = h.last;
     unheld = λ u m high. released-none (numbered k m) k.locks t (λ v. h.unheld v m high)
         (each-more (IsOfCalls k.server k.epoch k.given k.lives k.waits) (LocksNone (numbered k m)) (λ x o. o.beyond m high) k.locks.waiting h.waits.queued) u;
@@ -380,6 +388,7 @@ module _ {V : Type 0} (n : ℕ) (serves : Bool) (k : ServerState V) where
       sized = h.sized;
       clock = low;
       raised = h.raised;
+      fated = early_begins k.servers k.server t turn.client 0 turn.who k.coordinator c (comes turn.who 0) h.fated;
       last = h.last;
       times = times_begun k.clock clock turn.client 0 turn.who t k.coordinator c later (comes turn.who 0) h.times;
       unheld = λ u m high. entered_unheld k.locks t u (numbered k m) (h.unheld u m high);
@@ -463,6 +472,7 @@ module _ {V : Type 0} (n : ℕ) (serves : Bool) (k : ServerState V) where
     sized = h.sized;
     clock = h.clock;
     raised = h.raised;
+    fated = early_keeps k.servers k.server k.coordinator c keeps h.fated;
     last = h.last;
     unheld = h.unheld;
   }
@@ -492,6 +502,7 @@ module _ {V : Type 0} (n : ℕ) (serves : Bool) (k : ServerState V) where
     sized = h.sized;
     clock = h.clock;
     raised = h.raised;
+    fated = h.fated;
     last = h.last;
     unheld = h.unheld;
     seat = h.seat;
@@ -602,6 +613,7 @@ module _ {V : Type 0} (n : ℕ) (serves : Bool) (k : ServerState V) where
     sized = h.sized;
     clock = h.clock;
     raised = h.raised;
+    fated = h.fated;
     last = h.last;
     unheld = h.unheld;
     seat = h.seat;
@@ -637,6 +649,7 @@ ready_with n before serves k v on up h = record {
   sized = h.sized;
   clock = h.clock;
   raised = h.raised;
+  fated = h.fated;
   last = h.last;
   unheld = h.unheld;
   seat = h.seat;
@@ -672,6 +685,7 @@ down_ready n before serves k v off h =
       sized = c.sized;
       clock = c.clock;
       raised = c.raised;
+      fated = c.fated;
       last = c.last;
       unheld = c.unheld;
       seat = c.seat;

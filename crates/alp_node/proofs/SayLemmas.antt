@@ -18,7 +18,7 @@ use Rattle.alp_node.specs.Halts.{HaveCauses, MaySay, says_shut}
 use Rattle.alp_node.specs.Noted.{AreNotesFor}
 use Rattle.alp_node.specs.Says.{said_if, is_away, said_to}
 use Rattle.alp_node.specs.ServerState.{IsAs, IsReady}
-use Rattle.alp_node.specs.Steps.{Stepped, IsStepAs, IsNoted, IsTimely, seen_in, told_answer, entry_of}
+use Rattle.alp_node.specs.Steps.{Stepped, IsStepAs, IsNoted, IsTimely, seen_with, told_answer, entry_of}
 use Rattle.alp_node.specs.Turns.{HasTurned}
 use Rattle.alp_node.specs.declared.answer.Answer.{Answer}
 use Rattle.alp_node.specs.declared.server_state.ServerState.{ServerState}
@@ -116,7 +116,7 @@ silent_stepped a m faults held k new e x acts h clock so leads kept = record {
   leads = subst (λ (y : Answer). Leads false a (entry_of e y) m) (sym so) leads;
   rose = λ w. cc;
   kept = kept;
-  clock = stands_timely a.holder.clock (seen_in e) new.clock (h.clock ∙ sym clock);
+  clock = stands_timely a.holder.clock (seen_with a.fates e) new.clock (h.clock ∙ sym clock);
 }
 
 -- a step by which all stays, and this is said

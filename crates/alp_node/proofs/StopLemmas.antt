@@ -40,6 +40,7 @@ ready_beside n before serves k v same h = record {
   sized = h.sized;
   clock = h.clock;
   raised = h.raised;
+  fated = h.fated;
   last = h.last;
   unheld = h.unheld;
   seat = h.seat;

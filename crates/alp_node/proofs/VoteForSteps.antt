@@ -311,6 +311,7 @@ module _ {V : Type 0} (n : ℕ) (serves : Bool) (k : ServerState V) (h : IsReady
     sized = h.sized;
     clock = h.clock;
     raised = h.raised;
+    fated = h.fated;
     last = h.last;
     unheld = h.unheld;
   }

@@ -26,7 +26,7 @@ use Rattle.alp_node.specs.Durable.{IsSaidBy, IsWritten, Leaves, Besides}
 use Rattle.alp_node.specs.Halts.{HaveCauses, Ends}
 use Rattle.alp_node.specs.Noted.{AreNotesFor}
 use Rattle.alp_node.specs.ServerState.{IsAs, IsReady}
-use Rattle.alp_node.specs.Steps.{Stepped, IsDown, IsStepAs, IsNoted, IsTimely, seen_in, entry_of, told_answer, refused_answer}
+use Rattle.alp_node.specs.Steps.{Stepped, IsDown, IsStepAs, IsNoted, IsTimely, seen_with, entry_of, told_answer, refused_answer}
 use Rattle.alp_node.specs.Turns.{HasTurned}
 use Rattle.alp_node.specs.Writes.{Writes}
 use Rattle.alp_node.specs.declared.answer.Answer.{Answer}
@@ -41,7 +41,7 @@ use Rattle.alp_node.proofs.SeatLemmas.{leaves_as}
 
 -- by a step of the journal, whatever the vault has then
 pub written_stepped : {V : Type 0} (a m : Account) (before now : ℕ) (then : Contents) (new : ServerState V) (e : Event) (x : Answer) (acts : List Act) → x ≡ told_answer None acts
-    → Leads false a (record { event = e; reply = None; acts = acts }) m → IsAs m then new → IsTimely a.holder.clock e new.clock → Stepped a before now then new e x
+    → Leads false a (record { event = e; reply = None; acts = acts }) m → IsAs m then new → IsTimely a.fates a.holder.clock e new.clock → Stepped a before now then new e x
 written_stepped a m before now then new e x acts so leads kept timely = record {
   failed = false;
   next = m;
@@ -110,7 +110,7 @@ module _ {V : Type 0} (G : Ghosts V) (k : ServerState V) (v : V) (p : Part) (cha
         leads = s.leads b a h;
         rose = λ w. cc;
         kept = halted_as a (with_stop a from m (acts_of b)) (G.held k.vault) (G.held v) k v (tried (state_of a) (stop_entry a from m (acts_of b))) refl (s.leads b a h).quiet h;
-        clock = stands_timely a.holder.clock (seen_in (event.Arrive from m)) k.clock h.clock;
+        clock = stands_timely a.holder.clock (seen_with a.fates (event.Arrive from m)) k.clock h.clock;
       };
       given = record {
         handed = refl;

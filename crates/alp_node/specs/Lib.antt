@@ -6,6 +6,7 @@ pub mod Outcomes
 pub mod Durable
 pub mod Paired
 pub mod Transactions
+pub mod EarlyFates
 pub mod ServerState
 pub mod Asks
 pub mod Shapes

@@ -46,6 +46,7 @@ use Rattle.alp_node.specs.Asks.{is_given}
 use Rattle.alp_node.specs.Covers.{AreHeld, AreSizedEdits}
 use Rattle.alp_node.specs.Dead.{cause_in}
 use Rattle.alp_node.specs.Durable.{AreNotesOf}
+use Rattle.alp_node.specs.EarlyFates.{AreEarly}
 use Rattle.alp_node.specs.Noted.{HasReadyRoom, ready_room}
 use Rattle.alp_node.specs.Paired.{ArePaired}
 use Rattle.alp_node.specs.Rooms.{IsWithin}
@@ -191,7 +192,8 @@ pub record AreJoinsHere (here now steps : ℕ) (joins : Joins) : Type 0 where
 -- transaction; live parts, transactions of this server and joins of others' go together, and no file call waits of a part that voted;
 -- each live part is within its limits and is not among the dead, there are no more transactions than a server may have, and the log
 -- has room to apply those that voted. Nobody has a file open or holds a lock on one that was not made yet, each session keeps what it
--- may, no transaction was decided later than the clock, and no count went further than so many steps.
+-- may, no transaction was decided later than the clock, what is known of each that is not decided has room in a note, and no count went
+-- further than so many steps.
 pub record IsReady {V : Type 0} (steps : ℕ) (serves : Bool) (k : ServerState V) : Type 0 where
   pub serving : k.is_down ≡ false → IsTrue serves
   pub halted : k.is_down ≡ true → serves ≡ false
@@ -211,6 +213,7 @@ pub record IsReady {V : Type 0} (steps : ℕ) (serves : Bool) (k : ServerState V
   pub replies : (client : ℕ) (w : Session) → session_at k.sessions client ≡ Some w → IsKeepable k.clock w.reply
   pub drawn : count_of k.coordinator ≤ steps
   pub times : AreDecidedBy k.clock k.coordinator
+  pub fated : AreEarly k.servers k.server k.coordinator
   pub given : k.given ≤ steps
   pub most : counted_of k.coordinator + length k.joins.lives ≤ 64
   pub fits : HasReadyRoom k.sizes (ready_room k.lives k.joins.lives)

@@ -17,6 +17,8 @@ use Rattle.alp_journal.specs.declared.event.Event.TheVariants as event
 use Rattle.alp_journal.specs.declared.entry.Entry.{Entry}
 use Rattle.alp_journal.specs.declared.message.Message.TheVariants as msg
 use Rattle.alp_journal.specs.Answered.{is_read_fault}
+use Rattle.alp_journal.specs.Coordinator.{Fate, votes_in}
+use Rattle.alp_journal.specs.Laws.{latest_vote}
 use Rattle.alp_journal.specs.Moves.{is_stop}
 use Rattle.alp_journal.specs.Account.{Account, state_of, Leads}
 use Rattle.alp_vault.specs.Vault.{IsSameVault}
@@ -51,9 +53,14 @@ seen_in (event.Arrive from (msg.Ready t j ts)) = ts
 seen_in (event.Arrive from (msg.Commit t j stamp)) = stamp.ts
 seen_in _ = 0
 
--- by an event the clock comes at most to one more than the greater of what it was and what that brings
-abbrev pub IsTimely : ℕ → Event → ℕ → Type 0
-IsTimely before e now = now ≤ max before (seen_in e) + 1
+-- with a vote comes the latest of those that its transaction has
+abbrev pub seen_with : (TransId → Fate) → Event → ℕ
+seen_with fates (event.Arrive from (msg.Ready t j ts)) = latest_vote ts (votes_in (fates t))
+seen_with fates e = seen_in e
+
+-- by an event the clock comes at most to one more than the greater of what it was and what comes with that
+abbrev pub IsTimely : (TransId → Fate) → ℕ → Event → ℕ → Type 0
+IsTimely fates before e now = now ≤ max before (seen_with fates e) + 1
 
 -- The entry of the answered event is lawful and has its cause, the server keeps what its state says then, and the clock is no
 -- later than it may be. That a read of the device failed shows in the reply, and only where the count of faults rose.
@@ -63,7 +70,7 @@ pub record Stepped {V : Type 0} (a : Account) (before now : ℕ) (held : Content
   pub leads : Leads failed a (entry_of e x) next
   pub rose : failed ≡ true → Rose before now × (is_read_fault x.kept ≡ true)
   pub kept : IsAs next held new
-  pub clock : IsTimely a.holder.clock e new.clock
+  pub clock : IsTimely a.fates a.holder.clock e new.clock
 
 -- which server it is stays as it was, and so does what its vault is; nobody adds to the allowance of that
 pub record IsSeated {V : Type 0} (G : Ghosts V) (old new : ServerState V) : Type 0 where

@@ -11,7 +11,7 @@ use Rattle.alp_base.specs.declared.ids.TransId.{TransId}
 use Rattle.alp_base.specs.declared.key.Key.{Key}
 use Rattle.alp_fields.specs.ClockNote.{clock_name, clock_form}
 use Rattle.alp_fields.specs.declared.clock_note.ClockNote.{ClockNote}
-use Rattle.alp_fields.specs.DecisionNote.{decision_form, decision_noted}
+use Rattle.alp_fields.specs.DecisionNote.{decision_form, decision_name, decision_noted}
 use Rattle.alp_files.specs.Cells.{Cells}
 use Rattle.alp_files.specs.Changes.{edits_of}
 use Rattle.alp_files.specs.Edits.{edits_map}
@@ -54,7 +54,7 @@ decision_changes epoch stamp js = clock_put (record { epoch = epoch; clock = sta
 
 abbrev pub FitDecision : Stamp → List JoinNo → Type 0
 FitDecision stamp [] = Unit {0}
-FitDecision stamp (j ∷ js) = decision_form.Fits (record { ts = stamp.ts; joins = j ∷ js })
+FitDecision stamp (j ∷ js) = decision_form.Fits (record { ts = stamp.ts; joins = j ∷ js }) × decision_name.Fits stamp.trans
 
 -- ---- what a decision takes of memory
 
@@ -98,6 +98,14 @@ HasLogFor notes s l changes = record_pages (live_bytes notes) + record_pages (co
 
 -- ---- a decision
 
+-- the part was made, and the clock is not before the stamp
+pub record HasKept {V : Type 0} (G : Ghosts V) (k new : ServerState V) (p : Pending) (acts : List Act) : Type 0 where
+  pub made : ServerState V
+  pub part : HasMade (G.tells k.vault) (G.held k.vault).cells k made p.stamp.trans
+  pub kept : new ≡ record made { clock = max k.clock p.stamp.ts }
+  pub writes : (l : Live) → map.get k.lives p.stamp.trans ≡ Some l → Writes G k.vault made.vault l.part p.notes.items (Ok tt)
+  pub said : acts ≡ p.acts.items ++ grant_acts (granted_behind k p.stamp.trans)
+
 -- the part was made, and the transaction is decided
 pub record HasDecided {V : Type 0} (G : Ghosts V) (k new : ServerState V) (p : Pending) (acts : List Act) : Type 0 where
   pub made : ServerState V
@@ -119,6 +127,10 @@ pub record HasHalted {V : Type 0} (G : Ghosts V) (k new : ServerState V) (p : Pe
   pub kept : new ≡ record k { is_down = true; vault = new.vault }
   pub writes : (l : Live) → map.get k.lives p.stamp.trans ≡ Some l → Writes G k.vault new.vault l.part p.notes.items (Err why)
   pub said : acts ≡ p.halted.items ++ shown ∷ []
+
+abbrev pub WasKept : {V : Type 0} → Ghosts V → ServerState V → ServerState V → Pending → Decided → Type 0
+WasKept G k new p (decided.Made acts) = HasKept G k new p acts.items
+WasKept G k new p (decided.Halted acts) = HasHalted G k new p acts.items
 
 abbrev pub WasDecided : {V : Type 0} → Ghosts V → ServerState V → ServerState V → Pending → Decided → Type 0
 WasDecided G k new p (decided.Made acts) = HasDecided G k new p acts.items

@@ -16,7 +16,7 @@ ghost use Rattle.alp_node.specs.Served.{AreLivesSound};
 ghost use Rattle.alp_node.specs.ServerState.{IsAs, IsReadyForMore, IsOfJournal};
 ghost use Rattle.alp_node.specs.Steps.{IsOn};
 ghost use Rattle.alp_node.specs.Votes.{own_why, why_against};
-ghost use Rattle.alp_node.specs.Writes.{FitDecision, IsPending, HasLogFor, HasMade, HasNone, KeepsPlaces, WasDecided, Writes, decision_changes};
+ghost use Rattle.alp_node.specs.Writes.{FitDecision, IsPending, HasLogFor, HasMade, HasNone, KeepsPlaces, WasDecided, WasKept, Writes, decision_changes};
 ghost use Rattle.alp_node.specs.declared.lives.Live.{Live as ALive};
 
 use crate::server_state::ServerState;
@@ -185,6 +185,35 @@ impl<V: Vault> ServerState<V> {
         ensures capacity { IfOk result (λ d. KeepsPlaces pending d) }
         ensures none { OnErr result (HasNone V.Vault self.old self.new pending) }
     {
+        let stamp = pending.stamp;
+        let kept = self.keep(pending)?;
+        match kept {
+            Decided::Made(acts) => {
+                self.coordinator.finish(&stamp.trans);
+                self.coordinator.decide(&stamp.trans, stamp.ts);
+                Ok(Decided::Made(acts))
+            }
+            Decided::Halted(acts) => Ok(Decided::Halted(acts)),
+        }
+    }
+
+    /// The one commit of a decision: the intents of the part become cells, and its notes change. Behind it the part lets go, and the
+    /// clock is not before the stamp. What the coordinator knows of the transaction is as before.
+    pub(super) fn keep(&mut self, pending: Pending) -> Result<Decided, OutOfMemory>
+        requires live { map.get self.old.lives pending.stamp.trans ≢ None }
+        requires up { self.old.is_down ≡ false }
+        requires ready { IsReadyForMore (V.serves self.old.vault) self.old }
+        requires on { IsOn V.Vault self.old }
+        requires changes { AreNoteChanges self.old.server self.old.servers (V.held self.old.vault).notes pending.notes.items }
+        requires log { (l : ALive) → map.get self.old.lives pending.stamp.trans ≡ Some l → HasLogFor (V.held self.old.vault).notes self.old.sizes l pending.notes.items }
+        requires known { IsTrue (V.tells self.old.vault) → IsOfJournal (V.held self.old.vault) self.old }
+        requires sound { IsTrue (V.tells self.old.vault) → AreLivesSound (V.held self.old.vault) self.old }
+        requires room { length pending.acts.items + length self.old.locks.waiting ≤ vec_capacity pending.acts }
+        requires place { length pending.halted.items < vec_capacity pending.halted }
+        ensures made { IfOk result (λ d. WasKept V.Vault self.old self.new pending d) }
+        ensures capacity { IfOk result (λ d. KeepsPlaces pending d) }
+        ensures none { OnErr result (HasNone V.Vault self.old self.new pending) }
+    {
         let Pending {
             stamp,
             notes,
@@ -204,8 +233,6 @@ impl<V: Vault> ServerState<V> {
             Err(StoreFault::OutOfMemory) => return Err(OutOfMemory),
         }
         self.clock = self.clock.max(stamp.ts);
-        self.coordinator.finish(&stamp.trans);
-        self.coordinator.decide(&stamp.trans, stamp.ts);
         Ok(Decided::Made(acts))
     }
 

@@ -6,7 +6,7 @@ ghost use Rattle.alp_files.specs.declared.refusal.Refusal.TheVariants as refusal
 ghost use Rattle.alp_files.specs.declared.reply.Reply.TheVariants as reply;
 ghost use Rattle.alp_journal.specs.declared.entry.Entry.{Entry as AnEntry};
 ghost use Rattle.alp_journal.specs.Account.{Account};
-ghost use Rattle.alp_coord.specs.Coordinators.{count_of};
+ghost use Rattle.alp_coord.specs.Coordinators.{count_of, fate_in};
 ghost use Rattle.alp_node.specs.ServerState.{IsAs, IsReadyForMore, IsOfJournal};
 ghost use Rattle.alp_base.specs.Allowances.{Sets};
 ghost use Rattle.alp_base.specs.Crashes.{SameOutcomes, Adds};
@@ -16,7 +16,7 @@ ghost use Rattle.alp_node.specs.Nodes.{IsConsistent, Answered, HasNoEntry, HasRo
 ghost use Rattle.alp_node.specs.Opens.{IsLeastOpen, IsRestOf, lesser_if};
 ghost use Rattle.alp_node.specs.Orders.{order_in};
 ghost use Rattle.alp_node.specs.Served.{IsServed, AreLivesSound};
-ghost use Rattle.alp_node.specs.Steps.{IsEntered, IsNoted, IsOn, IsSeated, seen_in};
+ghost use Rattle.alp_node.specs.Steps.{IsEntered, IsNoted, IsOn, IsSeated, seen_with};
 ghost use Rattle.alp_node.specs.Turns.{HasTurned};
 
 use crate::answer::Answer;
@@ -79,7 +79,7 @@ impl<V: Vault> Node<V> {
         ensures opening { self.new.opening ≡ self.old.opening }
         ensures seat { IsSeated V.Vault self.old.kept self.new.kept }
         ensures turned { HasRoom self.old → self.new.kept.is_down ≡ false → IfOk result (λ r. HasTurned (order_in self.old.kept event) self.old.kept self.new.kept event r) }
-        ensures clock { IsTrue (V.tells self.old.kept.vault) → self.new.kept.clock ≤ max self.old.kept.clock (seen_in event) + 1 }
+        ensures clock { IsTrue (V.tells self.old.kept.vault) → self.new.kept.clock ≤ max self.old.kept.clock (seen_with (fate_in self.old.kept.coordinator) event) + 1 }
         // Through the step a crash leaves what the vault held before it, or all that its one write makes of that; where memory was
         // wanting, just what the vault held.
         ensures durable { IsTrue (V.tells self.old.kept.vault) → self.old.kept.is_down ≡ false → HasRoom self.old → MatchResult result (λ _. Leaves V.Vault self.old.kept.vault self.new.kept.vault (HeldOr (V.held self.old.kept.vault) (IsSaidThen (state_of (start_in V.Vault self.new) self.new.journal)))) (λ _. Leaves V.Vault self.old.kept.vault self.new.kept.vault (λ c. c ≡ V.held self.old.kept.vault)) }

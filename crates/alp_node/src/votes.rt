@@ -12,22 +12,23 @@ ghost use Rattle.alp_node.specs.Says.{said_each};
 ghost use Rattle.alp_coord.specs.declared.answers.Ballot.TheVariants as ballot;
 ghost use Rattle.alp_node.specs.Arrivals.{join_of};
 ghost use Rattle.alp_journal.specs.Account.{Account, state_of};
-ghost use Rattle.alp_journal.specs.Messages.{why_not};
+ghost use Rattle.alp_journal.specs.Messages.{why_not, why_not_own};
 ghost use Rattle.alp_node.specs.ServerState.{IsAs, IsReadyForMore, IsOfJournal};
 ghost use Rattle.alp_vault.specs.Contents.{Contents};
 ghost use Rattle.alp_node.specs.Served.{AreLivesSound};
 ghost use Rattle.alp_node.specs.Steps.{IsStepAs, IsNoted, IsOn, told_answer};
-ghost use Rattle.alp_node.specs.Votes.{why_against};
+ghost use Rattle.alp_node.specs.Votes.{own_why, why_against};
 ghost use Rattle.alp_worker.specs.Lives.{join_at};
 ghost use Rattle.alp_worker.specs.declared.live.Stage.TheVariants as stage;
 
 use crate::answer::Answer;
-use crate::messages::tell_aborts;
+use crate::decide::Decided;
+use crate::messages::{tell_aborts, tell_commits};
 use crate::noting::ready_notes;
 use crate::server_state::ServerState;
-use alp_base::{JoinNo, OutOfMemory, TransId};
+use alp_base::{JoinNo, OutOfMemory, Stamp, TransId};
 use alp_coord::Ballot;
-use alp_files::{Cause, Why};
+use alp_files::{Cause, Refusal, Why};
 use alp_journal::{Act, Acts, Message};
 use alp_vault::Vault;
 use alp_worker::{LiveJoin, Stage};
@@ -187,8 +188,57 @@ impl<V: Vault> ServerState<V> {
         requires sound { IsTrue (V.tells self.old.vault) → AreLivesSound (V.held self.old.vault) self.old }
         ensures { (from : ℕ) → IsStepAs V.Vault None self.old self.new (event.Arrive from (msg.Ready trans join ts)) result }
     {
-        let _ = (trans, join, ts, latest);
-        unreachable!()
+        let Some(client) = self.coordinator.client(&trans) else {
+            unreachable!()
+        };
+        let joins = self.joins_of(&trans)?;
+        match self.own_vote(&trans)? {
+            Some(why) => {
+                let server = self.server;
+                self.lapse(
+                    trans,
+                    client,
+                    joins.as_slice(),
+                    Cause::Voted { server, why },
+                )
+            }
+            None => self.commit_all(trans, join, ts, latest),
+        }
+    }
+
+    // It is committed at the time of the latest vote, and its parts elsewhere are told. The vote is heard behind the write: where
+    // memory is wanting all is as before.
+    fn commit_all(
+        &mut self,
+        trans: TransId,
+        join: JoinNo,
+        ts: u64,
+        latest: u64,
+    ) -> Result<Answer, OutOfMemory>
+        requires last { ballot_of join ts (self.old.clock + 1) (fate_in self.old.coordinator trans) ≡ ballot.Last latest }
+        requires may { own_why self.old trans ≡ None }
+        requires journal { (a : Account) (held : Contents) → IsAs a held self.old → why_not_own false (state_of a) trans ≡ own_why self.old trans }
+        requires time { ts ≤ 2 ^ 62 }
+        requires up { self.old.is_down ≡ false }
+        requires ready { IsReadyForMore (V.serves self.old.vault) self.old }
+        requires known { IsTrue (V.tells self.old.vault) → IsOfJournal (V.held self.old.vault) self.old }
+        requires noted { IsNoted V.Vault self.old }
+        requires on { IsOn V.Vault self.old }
+        requires sound { IsTrue (V.tells self.old.vault) → AreLivesSound (V.held self.old.vault) self.old }
+        ensures { (from : ℕ) → IsStepAs V.Vault None self.old self.new (event.Arrive from (msg.Ready trans join ts)) result }
+    {
+        self.vault.knows();
+        let joins = self.joins_of(&trans)?;
+        let stamp = Stamp { ts: latest, trans };
+        let pending = self.decision(stamp, joins.as_slice())?;
+        let mut acts = match self.keep(pending)? {
+            Decided::Made(acts) => acts,
+            Decided::Halted(acts) => return Ok(Answer::refused(Refusal::Down, Acts::new(acts))),
+        };
+        self.coordinator.hear(&trans, &join, ts);
+        self.coordinator.decide(&trans, latest);
+        tell_commits(&mut acts, stamp, joins.as_slice());
+        Ok(Answer::silence(Acts::new(acts)))
     }
 
     /// A part elsewhere votes against it.

@@ -1,12 +1,15 @@
-use Rattle.std.specs.Prelude.{IsTrue, IfOk, MatchResult}
-use Rattle.std.proofs.Common.{◌≡◌, List, length, ap, subst, sym, arith}
+use Rattle.std.specs.Prelude.{IsTrue, IfOk, MatchResult, max}
+use Rattle.std.proofs.Common.{◌≡◌, ◌+◌, ◌≤◌, List, length, ap, subst, sym, arith}
 use Rattle.alp_journal.specs.declared.entry.Entry.{Entry}
 use Rattle.alp_node.specs.Durable.{Leaves, HeldOr, IsSaidThen}
 use Rattle.alp_node.specs.NodeStates.{NodeState}
 use Rattle.alp_node.specs.Nodes.{Answered, HasRoom, IsConsistent, start_in, state_of}
 use Rattle.alp_node.specs.Orders.{order_in}
+use Rattle.alp_coord.specs.Coordinators.{fate_in}
+use Rattle.alp_node.specs.Steps.{seen_with}
 use Rattle.alp_node.specs.Turns.{HasTurned}
 use Rattle.alp_node.proofs.NodeLemmas.{right_sound, entered_kept, entered_durable, entered_answered, entered_turned}
+use Rattle.alp_node.proofs.TimelySteps.{entered_timely}
 use Rattle.alp_node.proofs.node.Node.step.Goals as goal
 
 pub answer-requires-clause-known : goal.answer-requires-clause-known
@@ -65,3 +68,13 @@ returns-clause-turned g c room up =
 pub invariant_of-self : goal.invariant_of-self
 invariant_of-self g c =
     subst (λ (j : List Entry). IsConsistent g.V.Vault (record { opening = c.self.inside.opening; kept = c.self.inside.kept; journal = j })) (sym c.in_err-make_place.ensures.err) c.self.invariant
+
+-- the clock came with the event
+pub returns-clause-clock : goal.returns-clause-clock
+returns-clause-clock g c told =
+    let G = g.V.Vault in
+    let old : NodeState g.row.V.Denot = record { opening = c.self.inside.opening; kept = c.self.inside.kept; journal = c.self.inside.journal } in
+    subst (λ (n : NodeState g.row.V.Denot). c.answer.new.kept.clock ≤ max n.kept.clock (seen_with (fate_in n.kept.coordinator) c.args.event) + 1) c.self.view_is
+    (let right = c.self.invariant.right (subst (λ (n : NodeState g.row.V.Denot). IsTrue (G.tells n.kept.vault)) (sym c.self.view_is) told) in
+    entered_timely G (order_in old.kept c.args.event) old.kept c.answer.new.kept old.journal c.answer.new.journal c.args.event c.answer.result right.state right.kept
+    (subst (λ (n : NodeState g.row.V.Denot). IsTrue (G.tells n.kept.vault)) (sym c.self.view_is) told) (c.answer.ensures.entered old.journal (c.in_ok-make_place.ensures.ok.0) (c.in_ok-make_place.ensures.ok.1)))

@@ -9,6 +9,9 @@ use Rattle.alp_node.proofs.server_state.ServerState.arrive.Goals as goal
 pub ready-requires-clause-time : goal.ready-requires-clause-time
 ready-requires-clause-time g c = subst IsTimelyMessage c.in-Ready.is c.requires.timely
 
+pub committed-requires-clause-time : goal.committed-requires-clause-time
+committed-requires-clause-time g c = subst IsTimelyMessage c.in-Commit.is c.requires.timely
+
 pub returns-in-Register : goal.returns-in-Register
 returns-in-Register g c from = subst (λ (m : Message). IsStepAs g.V.Vault None c.args.self.now c.register.new.self (event.Arrive from m) c.register.result) (sym c.in-Register.is) (c.register.ensures from)
 

@@ -64,7 +64,7 @@ returns g c =
     (plain_step G k after turn (call.Finish t true) c.refused.result (reply.Refused refusal.NotYet) (said_each (msg.Ask t) (some.first ∷ some.rest)) refl refl refl refl refl c.requires.up c.requires.up
     (λ notes h. fated_noted k.server k.servers k.epoch k.lives k.joins k.coordinator z notes (asks_fated k turn t z c.finish.ensures.along c.finish.ensures.finished) h) refl so
     (each_goes_on (msg.Ask t) (some.first ∷ some.rest)) (λ before now allowance. each_caused (msg.Ask t) (λ j. tt) (some.first ∷ some.rest) before now allowance)
-    (λ n h. asked_ready k turn t z c.finish.ensures.along c.finish.ensures.finished n serves turn.client (some.first ∷ some.rest) c.requires.turn run h)
+    (λ n h. asked_ready k turn t z c.finish.ensures.along c.finish.ensures.finished n serves turn.client (some.first ∷ some.rest) c.requires.turn run (λ e. (let wrong : some.first ∷ some.rest ≡ [] = e in cc)) h)
     (λ told a h. asks_stepped k turn t z c.finish.ensures.along c.finish.ensures.finished a faults faults (G.held k.vault) mine.live some.first some.rest c.refused.result h c.requires.turn c.requires.up mine.there run
     (idle_told a turn.client t k.waits h.waits (named_all k.server k.epoch k.given (count_of k.coordinator) k.sizes k.lives k.waits ready.waits.calls) c.requires.idle) so)
     (counts_refused k after turn c.requires.turn (call.Finish t true) refusal.NotYet tt refl refl))

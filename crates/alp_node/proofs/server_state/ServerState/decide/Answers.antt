@@ -1,106 +1,61 @@
-use Rattle.std.specs.Prelude.{max, Ok, Err}
-use Rattle.std.proofs.Common.{true, ◌≡◌, ◌≤◌, ℕ, List, refl, sym, ap, ◌∙◌, subst, inl, inr}
-use Rattle.alp_base.specs.declared.bytes.NoteChange.{NoteChange}
+use Rattle.std.specs.Prelude.{max, Ok}
+use Rattle.std.proofs.Common.{true, ◌≡◌, ◌≤◌, ℕ, List, refl, sym, ap, ◌∙◌, subst}
 use Rattle.alp_base.specs.declared.ids.TransId.{TransId}
-use Rattle.alp_journal.specs.declared.act.Act.TheVariants as act
+use Rattle.alp_journal.specs.declared.act.Act.{Act}
 use Rattle.alp_journal.specs.Coordinator.{Fate, joins_of, has_votes, votes_in}
 use Rattle.alp_journal.specs.Laws.{latest_vote}
 use Rattle.alp_journal.specs.Deeds.{Finishes, Decides}
 use Rattle.alp_coord.specs.declared.coordinator.Coordinator.{Coordinator}
 use Rattle.alp_coord.specs.Coordinators.{Comes, IsAlong, fate_in}
-use Rattle.alp_node.specs.Writes.{HasMade, Writes}
+use Rattle.alp_node.specs.Writes.{HasHalted, HasKept, KeepsPlaces, WasKept}
+use Rattle.alp_node.specs.declared.decide.Decided.{Decided}
 use Rattle.alp_node.specs.declared.server_state.ServerState.{ServerState}
-use Rattle.alp_node.specs.declared.stored.StoreFault.{StoreFault}
-use Rattle.alp_node.specs.declared.stored.StoreFault.TheVariants as fault
-use Rattle.alp_node.proofs.ReleaseLemmas.{let_go_of}
-use Rattle.alp_node.proofs.FinishedFates.{finished_at, made_coordinator}
+use Rattle.alp_node.proofs.FinishedFates.{finished_at, kept_coordinator}
 use Rattle.alp_node.proofs.server_state.ServerState.decide.Goals as goal
 
 -- the fate is that of a finishing transaction then
 pub decide-requires-clause-voted : goal.decide-requires-clause-voted
 decide-requires-clause-voted g c =
     let k = c.args.self.now in
+    let G = g.V.Vault in
     let t : TransId = c.args.pending.stamp.trans in
-    let was : c.make.new.self.coordinator ≡ k.coordinator = made_coordinator (g.V.Vault.tells k.vault) (g.V.Vault.held k.vault).cells k c.make.new.self t c.in-Ok.ensures.made in
-    ap has_votes (finished_at k.coordinator c.make.new.self.coordinator c.finish.new.self t was c.finish.ensures.finished) ∙ c.requires.voted
+    let h : HasKept G k c.keep.new.self c.args.pending c.in-Made.acts.items = subst (λ (d : Decided). WasKept G k c.keep.new.self c.args.pending d) c.in-Made.is c.in_ok-kept.ensures.made in
+    ap has_votes (finished_at k.coordinator c.keep.new.self.coordinator c.finish.new.self t (kept_coordinator G k c.keep.new.self c.args.pending c.in-Made.acts.items h) c.finish.ensures.finished) ∙ c.requires.voted
 
 pub decide-requires-clause-late : goal.decide-requires-clause-late
 decide-requires-clause-late g c =
     let k = c.args.self.now in
+    let G = g.V.Vault in
     let t : TransId = c.args.pending.stamp.trans in
-    let was : c.make.new.self.coordinator ≡ k.coordinator = made_coordinator (g.V.Vault.tells k.vault) (g.V.Vault.held k.vault).cells k c.make.new.self t c.in-Ok.ensures.made in
-    subst (λ (f : Fate). latest_vote 0 (votes_in f) ≤ c.args.pending.stamp.ts) (sym (finished_at k.coordinator c.make.new.self.coordinator c.finish.new.self t was c.finish.ensures.finished)) c.requires.late
+    let h : HasKept G k c.keep.new.self c.args.pending c.in-Made.acts.items = subst (λ (d : Decided). WasKept G k c.keep.new.self c.args.pending d) c.in-Made.is c.in_ok-kept.ensures.made in
+    subst (λ (f : Fate). latest_vote 0 (votes_in f) ≤ c.args.pending.stamp.ts)
+    (sym (finished_at k.coordinator c.keep.new.self.coordinator c.finish.new.self t (kept_coordinator G k c.keep.new.self c.args.pending c.in-Made.acts.items h) c.finish.ensures.finished)) c.requires.late
 
-pub returns-in-Err-Failed-clause-made : goal.returns-in-Err-Failed-clause-made
-returns-in-Err-Failed-clause-made g c =
-    let k = c.args.self.now in
-    let G = g.V.Vault in
-    let v = c.make.new.self.vault in
-    let last : c.fall_in.new.self ≡ record k { is_down = true; vault = v } = c.fall_in.ensures.kept ∙ ap (λ (y : ServerState _). record y { is_down = true }) c.in-Err-Failed.ensures.none in
-    record {
-      why = fault.Failed;
-      shown = act.Failed;
-      of = inl (refl, refl);
-      kept = last ∙ (λ i. record k { is_down = true; vault = sym (ap (λ (y : ServerState _). y.vault) last) i });
-      writes = λ l there.
-          subst (λ w. Writes G k.vault w l.part c.args.pending.notes.items (Err fault.Failed)) (sym (ap (λ (y : ServerState _). y.vault) last))
-          (subst (λ (f : StoreFault). Writes G k.vault v l.part c.args.pending.notes.items (Err f)) c.in-Err-Failed.field-0-is
-          (subst (λ (ns : List NoteChange). Writes G k.vault v l.part ns (Err c.in-Err-Failed.field-0)) c.as_slice.ensures.value (c.in-Err-Failed.ensures.writes l there)));
-      said = c.fall_in.ensures.acts;
-    }
-
-pub returns-in-Err-Stopped-clause-made : goal.returns-in-Err-Stopped-clause-made
-returns-in-Err-Stopped-clause-made g c =
-    let k = c.args.self.now in
-    let G = g.V.Vault in
-    let v = c.make.new.self.vault in
-    let fall = c.fall_in-in-Err-Stopped in
-    let last : c.fall_in-in-Err-Stopped.new.self ≡ record k { is_down = true; vault = v } = c.fall_in-in-Err-Stopped.ensures.kept ∙ ap (λ (y : ServerState _). record y { is_down = true }) c.in-Err-Stopped.ensures.none in
-    record {
-      why = fault.Stopped;
-      shown = act.Stopped;
-      of = inr (refl, refl);
-      kept = last ∙ (λ i. record k { is_down = true; vault = sym (ap (λ (y : ServerState _). y.vault) last) i });
-      writes = λ l there.
-          subst (λ w. Writes G k.vault w l.part c.args.pending.notes.items (Err fault.Stopped)) (sym (ap (λ (y : ServerState _). y.vault) last))
-          (subst (λ (f : StoreFault). Writes G k.vault v l.part c.args.pending.notes.items (Err f)) c.in-Err-Stopped.field-0-is
-          (subst (λ (ns : List NoteChange). Writes G k.vault v l.part ns (Err c.in-Err-Stopped.field-0)) c.as_slice.ensures.value (c.in-Err-Stopped.ensures.writes l there)));
-      said = fall.ensures.acts;
-    }
-
-pub returns-in-Err-OutOfMemory-clause-none : goal.returns-in-Err-OutOfMemory-clause-none
-returns-in-Err-OutOfMemory-clause-none g c =
-    let k = c.args.self.now in
-    let G = g.V.Vault in
-    let v = c.make.new.self.vault in
-    record {
-      kept = c.in-Err-OutOfMemory.ensures.none;
-      writes = λ l there.
-          subst (λ (f : StoreFault). Writes G k.vault v l.part c.args.pending.notes.items (Err f)) c.in-Err-OutOfMemory.field-0-is
-          (subst (λ (ns : List NoteChange). Writes G k.vault v l.part ns (Err c.in-Err-OutOfMemory.field-0)) c.as_slice.ensures.value (c.in-Err-OutOfMemory.ensures.writes l there));
-    }
-
-pub returns-clause-made : goal.returns-clause-made
-returns-clause-made g c =
+pub returns-in-Made-clause-made : goal.returns-in-Made-clause-made
+returns-in-Made-clause-made g c =
     let k = c.args.self.now in
     let G = g.V.Vault in
     let p = c.args.pending in
     let t : TransId = p.stamp.trans in
-    let made = c.make.new.self in
     let mid : Coordinator = c.finish.new.self in
     let z : Coordinator = c.decide.new.self in
-    let part : HasMade (G.tells k.vault) (G.held k.vault).cells k made t = c.in-Ok.ensures.made in
-    let was : made.coordinator ≡ k.coordinator = made_coordinator (G.tells k.vault) (G.held k.vault).cells k made t part in
-    let clock : c.max-self.result ≡ max k.clock p.stamp.ts = c.max-self.ensures ∙ ap (λ (y : ServerState _). max y.clock p.stamp.ts) part.kept ∙ ap (λ (y : ServerState _). max y.clock p.stamp.ts) (let_go_of k t) in
+    let h : HasKept G k c.keep.new.self p c.in-Made.acts.items = subst (λ (d : Decided). WasKept G k c.keep.new.self p d) c.in-Made.is c.in_ok-kept.ensures.made in
+    let was : c.keep.new.self.coordinator ≡ k.coordinator = kept_coordinator G k c.keep.new.self p c.in-Made.acts.items h in
     record {
-      made = made;
+      made = h.made;
       mid = mid;
-      part = part;
-      kept = λ i. record made { clock = clock i; coordinator = z };
-      writes = λ l there. subst (λ (ns : List NoteChange). Writes G k.vault made.vault l.part ns (Ok tt)) c.as_slice.ensures.value (c.in-Ok.ensures.writes l there);
+      part = h.part;
+      kept = λ i. record (h.kept i) { coordinator = z };
+      writes = h.writes;
       first = subst (λ (x : Coordinator). IsAlong x mid) was c.finish.ensures.along;
       finished = subst (λ (x : Coordinator). Comes (Finishes t) x mid) was c.finish.ensures.finished;
       second = c.decide.ensures.along;
       decided = c.decide.ensures.decided;
-      said = c.in-Ok.ensures.acts;
+      said = h.said;
     }
+
+pub returns-in-Made-clause-capacity : goal.returns-in-Made-clause-capacity
+returns-in-Made-clause-capacity g c = subst (KeepsPlaces c.args.pending) c.in-Made.is c.in_ok-kept.ensures.capacity
+
+pub returns-in-Halted-clause-made : goal.returns-in-Halted-clause-made
+returns-in-Halted-clause-made g c = subst (λ (d : Decided). WasKept g.V.Vault c.args.self.now c.keep.new.self c.args.pending d) c.in-Halted.is c.in_ok-kept.ensures.made

@@ -18,5 +18,5 @@ returns-in-Kept g c from =
     let j = c.args.join in
     let kept = sym c.ballot.ensures ∙ c.in-Kept.is in
     let o = kept_vote g.V.Vault k from t j c.args.ts (k.clock + 1) c.requires.up (fate_in k.coordinator t) kept in
-    vote_kept g.V.Vault k from t j c.args.ts (k.clock + 1) c.requires.up c.silence-in-Kept.result c.hear.new.self kept c.hear.ensures.along
+    vote_kept g.V.Vault k from t j c.args.ts (k.clock + 1) c.requires.up c.requires.time c.silence-in-Kept.result c.hear.new.self kept c.hear.ensures.along
     (c.hear.ensures.heard (ap (λ (f : Fate). has_join j (joins_of f)) o.is ∙ o.its)) c.silence-in-Kept.ensures
