@@ -138,3 +138,6 @@ pub mod FewJoins
 pub mod LastVotes
 pub mod LastSteps
 pub mod AgainstSteps
+pub mod TakeLemmas
+pub mod EditsNoted
+pub mod LocksNoted

@@ -38,4 +38,5 @@ pub mod Says
 pub mod Writes
 pub mod Noting
 pub mod Ticks
+pub mod Tidy
 pub mod Timeouts
