@@ -5,8 +5,8 @@ use Rattle.std.specs.FinMap as map
 use Rattle.std.specs.FinMap.{get-insert}
 use Rattle.std.specs.Cmp.{eq_by_cmp_equiv}
 use Rattle.std.specs.Cmp.Lexicographic.{nat_list_cmp_total}
-use Rattle.std.proofs.Common.{◌≡◌, ℕ, ◌+◌, ◌≤◌, List, [], ◌∷◌, length, refl, sym, ap, subst, ◌∙◌, arith}
-use Rattle.alp_base.specs.Notes.{Notes, noted, notes_after}
+use Rattle.std.proofs.Common.{◌≡◌, ℕ, ◌≤◌, List, [], ◌∷◌, refl, sym, ap, subst, ◌∙◌, arith}
+use Rattle.alp_base.specs.Notes.{Notes, noted}
 use Rattle.alp_base.specs.declared.bytes.NoteChange.{NoteChange}
 use Rattle.alp_base.specs.declared.ids.JoinNo.{JoinNo}
 use Rattle.alp_base.specs.declared.ids.Stamp.{Stamp}
@@ -20,7 +20,6 @@ use Rattle.alp_fields.specs.declared.decision_note.Decision.{Decision}
 use Rattle.alp_fields.specs.declared.ready_note.ReadyPart.{ReadyPart}
 use Rattle.alp_fields.proofs.FormLaws.{whole_spelled}
 use Rattle.alp_fields.proofs.DecisionNoteLaw.{decision_name_law, decision_name_length}
-use Rattle.alp_journal.specs.declared.event.Event.{Event}
 use Rattle.alp_journal.specs.Coordinator.{Fate, decided}
 use Rattle.alp_journal.specs.Deeds.{Decides}
 use Rattle.alp_journal.specs.Holder.{Life, commits}
@@ -32,7 +31,7 @@ use Rattle.alp_coord.specs.Coordinators.{fate_in}
 use Rattle.alp_ready.specs.NoteLooks.{Keeps}
 use Rattle.alp_ready.proofs.NoteSizes.{decision_most}
 use Rattle.alp_ready.proofs.NoteViews.{put_decision}
-use Rattle.alp_vault.specs.Volumes.{AreNoteChanges, AreServerNotes, is_another, is_server_note, noted_bytes}
+use Rattle.alp_vault.specs.Volumes.{AreNoteChanges, AreServerNotes, is_another, noted_bytes}
 use Rattle.alp_vault.proofs.VolumeLemmas.{clock_length}
 use Rattle.alp_worker.specs.declared.joins.Joins.{Joins}
 use Rattle.alp_worker.specs.Lives.{join_at}

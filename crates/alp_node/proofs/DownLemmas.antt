@@ -1,60 +1,58 @@
 -- a server that fell, and its journal when it starts again
-use Rattle.std.specs.Prelude.{true, false, IsTrue, ◌==◌, Option, None, Some, is_some, unwrap_or, slice_get}
+use Rattle.std.specs.Prelude.{Bool, true, false, IsTrue, Option, None, Some, slice_get}
+use Rattle.std.specs.List.{AllByRecursion}
 use Rattle.std.specs.FinMap as map
-use Rattle.std.specs.FinMap.{get-insert}
-use Rattle.std.specs.Cmp.Lexicographic.{nat_list_cmp_total}
-use Rattle.std.proofs.Common.{◌≡◌, ◌⊎◌, inl, inr, ⊎_elim, ℕ, zero, suc, ◌+◌, ◌<◌, ◌≤◌, ◌^◌, List, [], ◌∷◌, ◌++◌, length, refl, sym, ◌∙◌, ap, subst, arith, eq-eqb}
-use Rattle.alp_base.proofs.NameLemmas.{and_right}
+use Rattle.std.proofs.Common.{◌≡◌, ◌⊎◌, inl, inr, ⊎_elim, ℕ, zero, suc, ◌+◌, ◌<◌, ◌≤◌, ◌^◌, List, [], ◌∷◌, ◌++◌, length, refl, sym, ◌∙◌, ap, subst, arith}
 use Rattle.alp_base.specs.Crashes.{Only, NoMore}
-use Rattle.alp_base.specs.Notes.{Notes}
+use Rattle.alp_base.specs.Notes.{Notes, noted}
 use Rattle.alp_base.specs.declared.allowance.Allowance.TheVariants.{Free}
 use Rattle.alp_base.specs.declared.faults.Sizes.{Sizes}
-use Rattle.alp_fields.specs.Forms.{whole}
-use Rattle.alp_fields.specs.ClockNote.{clock_name, clock_form, clock_in, clock_kept, no_clock}
+use Rattle.alp_base.specs.declared.ids.JoinNo.{JoinNo}
+use Rattle.alp_base.specs.declared.ids.Stamp.{Stamp}
+use Rattle.alp_fields.specs.ClockNote.{clock_name, clock_form, clock_kept}
 use Rattle.alp_fields.specs.declared.clock_note.ClockNote.{ClockNote}
-use Rattle.alp_files.specs.Cells.{same_name}
-use Rattle.alp_files.specs.Edits.{edits_map}
-use Rattle.alp_locks.specs.Sound.{IsSound}
+use Rattle.alp_files.specs.Cells.{Cells}
 use Rattle.alp_vault.specs.Contents.{Contents}
-use Rattle.alp_vault.specs.Vault.{IsOneOf, IsSameVault}
-use Rattle.alp_vault.specs.Volumes.{AreNotesSoFar, IsVolumeOf}
+use Rattle.alp_vault.specs.Vault.{IsServer, IsOneOf, IsSameVault}
+use Rattle.alp_vault.specs.Volumes.{AreServerNotes, IsVolumeOf}
 use Rattle.alp_vault.specs.declared.vault.Vault.{Ghosts}
 use Rattle.alp_journal.specs.declared.entry.Entry.{Entry}
 use Rattle.alp_journal.specs.declared.event.Event.TheVariants as event
-use Rattle.alp_journal.specs.Holder.{Holder}
-use Rattle.alp_journal.specs.Messages.{clock_end}
-use Rattle.alp_journal.specs.Opening.{Start}
+use Rattle.alp_journal.specs.Opening.{Start, ready_kept, decisions_kept}
 use Rattle.alp_journal.specs.State.{State, opened}
 use Rattle.alp_journal.specs.Moves.{next}
 use Rattle.alp_journal.specs.Laws.{IsLawful, IsLawfulEntry}
 use Rattle.alp_journal.specs.Answered.{IsAnswered, IsAnsweredSo, IsAnsweredEntry, FitsJournal}
-use Rattle.alp_journal.specs.Account.{Account, state_of as account_state, IsOwnEvent, AreOwnEvents, IsTriedCommit, Leads}
-use Rattle.alp_journal.specs.Restarts.{restart_entry, restarted_at, restarted, with_decided, restarted_with}
-use Rattle.alp_journal.proofs.RestartLemmas.{restart_leads}
-use Rattle.alp_journal.proofs.RestartMade.{commit_made_leads, none_then, cells_then, kept_then}
-use Rattle.alp_journal.proofs.IdLemmas.{all-append}
-use Rattle.alp_coord.specs.Coordinators.{IsOf}
+use Rattle.alp_journal.specs.Account.{Account, state_of as account_state, Leads}
+use Rattle.alp_journal.specs.Restarts.{restart_entry, restarted_at}
+use Rattle.alp_regain.specs.Together.{clock_before, AreNotesTogether}
 use Rattle.alp_node.specs.DownStates.{DownState}
 use Rattle.alp_node.specs.NodeStates.{NodeState}
-use Rattle.alp_node.specs.Durable.{clock_notes, stored_by}
+use Rattle.alp_node.specs.Durable.{IsStoredBy}
+use Rattle.alp_node.specs.Found.{HasBegun, FindsAll, KeepsFound, joins_noted, stamps_noted}
 use Rattle.alp_node.specs.Nodes.{IsConsistent, IsRight, state_of, start_by, start_in}
-use Rattle.alp_node.specs.Downs.{IsLeftOf, IsPast, IsPastRight, IsFallen, IsLeftOrRaised, HasRegained, IsPoweredOff, IsHandedBack, HasRaiseCause, HasBegunEpoch, HasNotBegun, HasRestarted, IsStillDown, KeepsNobody, holder_then, next_clock, with_clock, entry_again, start_of}
+use Rattle.alp_node.specs.Downs.{IsLeftOf, IsPast, IsPastRight, IsFallen, IsLeftOrRaised, HasRegained, IsPoweredOff, IsHandedBack, HasRaiseCause, HasBegunEpoch, HasNotBegun, HasRestarted, IsStillDown, next_clock, state_then, entry_again, start_of}
+use Rattle.alp_node.specs.Noted.{AreNotesFor}
 use Rattle.alp_node.specs.ServerState.{IsAs, IsReady}
+use Rattle.alp_node.specs.Starts.{with_clock}
+use Rattle.alp_node.specs.declared.found.Found.{Found}
 use Rattle.alp_node.specs.declared.server_state.ServerState.{ServerState}
 use Rattle.alp_node.specs.declared.start.StartFault.{StartFault}
 use Rattle.alp_node.specs.declared.start.StartFault.TheVariants as start_fault
-use Rattle.alp_node.proofs.ClockLaws.{spelled_clock, time_fits}
+use Rattle.alp_node.proofs.ClockLaws.{time_fits}
+use Rattle.alp_node.proofs.FoundAs.{IsTold, found_as}
+use Rattle.alp_node.proofs.FoundReady.{found_kept, found_ready, raised_noted}
 use Rattle.alp_node.proofs.NodeLemmas.{state_after-push, Along-push, sent_pushed, up_durable}
-use Rattle.alp_node.proofs.NoteLemmas.{noted_alone, put_first}
-use Rattle.alp_node.proofs.OneServer.{tried_one}
-use Rattle.alp_node.proofs.PastLemmas.{past_of, past_noted, decided_noted, lost_as, made_as}
-use Rattle.alp_node.proofs.StartLemmas.{IsNewCoordinator, new_kept, new_ready}
+use Rattle.alp_node.proofs.NoteLemmas.{note_back, raised_stored, alone_apart}
+use Rattle.alp_node.proofs.PastLemmas.{IsFoundAs, past_of, found_before, found_then}
+use Rattle.alp_node.proofs.RestartTold.{clock_found, found_leads, found_told}
+use Rattle.alp_node.proofs.StartLemmas.{before_less}
 
 -- ---- a server falls
 
 module _ {V : Type 0} (G : Ghosts V) (n : NodeState V) (v : V) (h : IsConsistent G n) (same : IsSameVault G.tells G.volume G.server G.servers n.kept.vault v) where
   abbrev d : DownState V
-  d = record { opening = n.opening; vault = v; journal = n.journal; server = n.kept.server; servers = n.servers; epoch = n.kept.epoch }
+  d = record { opening = n.opening; vault = v; journal = n.journal; server = n.kept.server; servers = n.kept.servers; epoch = n.kept.epoch }
 
   told_before : IsTrue (G.tells v) → IsTrue (G.tells n.kept.vault)
   told_before told = subst IsTrue same.telling told
@@ -66,10 +64,9 @@ module _ {V : Type 0} (G : Ghosts V) (n : NodeState V) (v : V) (h : IsConsistent
         opening = r.opening;
         lawful = r.lawful;
         caused = r.caused;
-        own = r.own;
         state = r.state;
         says = r.says;
-        past = past_of (length n.journal) (G.serves n.kept.vault) r.state (G.held n.kept.vault) n.kept (G.volume v) r.kept h.ready (h.sizes ∙ sym same.sizes);
+        past = past_of r.state (G.held n.kept.vault) n.kept (G.volume v) r.kept (h.sizes ∙ sym same.sizes);
       }
 
   here_last : IsRight (start_in G n) (G.held n.kept.vault) n → (state_of (start_in G n) n.journal).ids.epoch < 2 ^ 32
@@ -91,118 +88,35 @@ module _ {V : Type 0} (G : Ghosts V) (n : NodeState V) (v : V) (h : IsConsistent
     last = h.ready.last;
     rests = rests;
     free = free;
-    mute = h.mute;
+    said = h.said;
     right = fallen_right;
     left = fallen_left one;
   }
 
--- ---- the note that is found
-
-abbrev none_noted : Notes
-none_noted = map.empty
-
--- of notes in the format of a server it keeps what was spelled, where those are numbers of the note
-pub note_found : (server servers : ℕ) (notes : Notes) (c : ClockNote) → notes ≡ clock_notes c → AreNotesSoFar server servers notes → c.epoch < 2 ^ 32 → c.clock < 2 ^ 64 → clock_kept notes ≡ c
-note_found server servers notes c is are epoch clock = ap clock_in there ∙ go (whole clock_form (clock_form.spell c)) refl
-  where
-    there : map.get notes clock_name ≡ Some (clock_form.spell c)
-    there = ap (λ (m : Notes). map.get m clock_name) is ∙ get-insert nat_list_cmp_total none_noted clock_name (clock_form.spell c) clock_name
-
-    good : is_some (whole clock_form (clock_form.spell c)) ≡ true
-    good = and_right (same_name clock_name clock_name) (is_some (whole clock_form (clock_form.spell c))) (are clock_name (clock_form.spell c) there)
-
-    go : (o : Option ClockNote) → whole clock_form (clock_form.spell c) ≡ o → unwrap_or o no_clock ≡ c
-    go None e = let wrong : true ≡ false = sym good ∙ ap is_some e in cc
-    go (Some k) e = spelled_clock c k epoch clock e
-
 -- ---- what a crash leaves then
 
-module _ (server servers last : ℕ) (s : State) (found : Contents) (notes : AreNotesSoFar server servers found.notes) (at : s.ids.epoch ≡ last) (low : last < 4294967295) where
-  -- the clock of what is found, where the holder keeps this one
-  found_clock : (epoch : ℕ) (h : Holder) → (epoch ≡ s.ids.epoch) ⊎ (epoch ≡ s.ids.epoch + 1) → h.kept < 2 ^ 64 → found ≡ stored_by epoch h → (clock_kept found.notes).clock ≡ h.kept
-  found_clock epoch h near clock is = ap (λ (c : ClockNote). c.clock) (note_found server servers found.notes (record { epoch = epoch; clock = h.kept }) (ap (λ (c : Contents). c.notes) is) notes (fits near) clock)
-    where
-      fits : (epoch ≡ s.ids.epoch) ⊎ (epoch ≡ s.ids.epoch + 1) → epoch < 2 ^ 32
-      fits (inl e) = omega (arith, e, at, low)
-      fits (inr e) = omega (arith, e, at, low)
-
-  raised_is : (epoch : ℕ) (h : Holder) → (epoch ≡ s.ids.epoch) ⊎ (epoch ≡ s.ids.epoch + 1) → h.kept < 2 ^ 64 → found ≡ stored_by epoch h → with_clock found (next_clock last found) ≡ stored_by (s.ids.epoch + 1) h
-  raised_is epoch h near clock is =
-      let cells : found.cells ≡ h.cells = ap (λ (c : Contents). c.cells) is in
-      let one : map.insert found.notes clock_name (clock_form.spell (next_clock last found)) ≡ clock_notes (next_clock last found) = put_first server servers found.notes (next_clock last found) notes in
-      let same : next_clock last found ≡ record { epoch = s.ids.epoch + 1; clock = h.kept } = (λ i. record { epoch = sym at i + 1; clock = found_clock epoch h near clock is i }) in
-      λ i. record { cells = cells i; notes = (one ∙ ap clock_notes same) i }
-
-  -- with the note of the next epoch it is as the journal says too
-  pub left_raised : s.holder.kept < 2 ^ 64 → (holder_then s).kept < 2 ^ 64 → IsLeftOf s found → IsLeftOf s (with_clock found (next_clock last found))
-  left_raised kept then l = record {
-    epoch = s.ids.epoch + 1;
-    near = inr refl;
-    last = omega (arith, at, low);
-    either = ⊎_elim (λ e. inl (raised_is l.epoch s.holder l.near kept e)) (λ e. inr (raised_is l.epoch (holder_then s) l.near then e)) l.either;
-  }
-
--- ---- the clocks that are kept are times
-
-module _ (a : Account) (server epoch : ℕ) (sizes : Sizes) (past : IsPast a server epoch sizes) where
-  kept_time : a.holder.kept ≤ 2 ^ 62
-  kept_time = (let low : a.holder.kept ≤ a.holder.clock = past.quiet.settled.stands.order in omega (arith, low, past.clock))
-
-  -- a commit was tried before the end of the clock
-  then_time : (holder_then (account_state a)).kept ≤ 2 ^ 62
-  then_time = go (tried_one a past.lone past.quiet past.plain)
-    where
-      before : (h : Holder) → (h.clock == clock_end) ≡ false → h.clock ≡ 2 ^ 62 → ⊥
-      before h away is = let wrong : true ≡ false = sym (eq-eqb h.clock clock_end is) ∙ away in cc
-
-      go : (a.pending ≡ []) ⊎ IsTriedCommit a → (holder_then (account_state a)).kept ≤ 2 ^ 62
-      go (inl none) = subst (λ (h : Holder). h.kept ≤ 2 ^ 62) (sym (none_then a none)) kept_time
-      go (inr c) =
-          let is : (holder_then (account_state a)).kept ≡ c.stamp.ts = kept_then a c in
-          let time : c.stamp.ts ≡ a.holder.clock + 1 = c.time in
-          let other : a.holder.clock ≡ 2 ^ 62 → ⊥ = before a.holder c.within in
-          omega (arith, is, time, past.clock, other)
-
-  pub kept_small : a.holder.kept < 2 ^ 64
-  kept_small = omega (arith, kept_time)
-
-  pub then_small : (holder_then (account_state a)).kept < 2 ^ 64
-  then_small = omega (arith, then_time)
-
--- ---- the notes are in the format
-
-module _ (server servers : ℕ) (s : State) (c : Contents) (l : IsLeftOf s c) where
-  noted_by : (h : Holder) → h.kept ≤ 2 ^ 62 → c ≡ stored_by l.epoch h → AreNotesSoFar server servers c.notes
-  noted_by h time is =
-      let k : ClockNote = record { epoch = l.epoch; clock = h.kept } in
-      subst (λ (x : Contents). AreNotesSoFar server servers x.notes) (sym is) (noted_alone server servers k (time_fits k l.last time))
-
-  left_noted : s.holder.kept ≤ 2 ^ 62 → (holder_then s).kept ≤ 2 ^ 62 → AreNotesSoFar server servers c.notes
-  left_noted kept then = ⊎_elim (λ e. noted_by s.holder kept e) (λ e. noted_by (holder_then s) then e) l.either
-
--- whatever a crash leaves of a server that tells
-pub notes_left : {V : Type 0} (G : Ghosts V) (d : DownState V) → IsFallen G d → IsTrue (G.tells d.vault) → (c : Contents) → G.may_leave d.vault c → AreNotesSoFar (G.server d.vault) (G.servers d.vault) c.notes
-notes_left G d h told c here =
-    let r : IsPastRight (start_of G d) (G.volume d.vault) d = h.right told in
-    left_noted (G.server d.vault) (G.servers d.vault) (state_of (start_of G d) d.journal) c (h.left told c here)
-    (subst (λ (z : State). z.holder.kept ≤ 2 ^ 62) (sym r.says) (kept_time r.state d.server d.epoch (G.volume d.vault) r.past))
-    (subst (λ (z : State). (holder_then z).kept ≤ 2 ^ 62) (sym r.says) (then_time r.state d.server d.epoch (G.volume d.vault) r.past))
+-- with the note of the next epoch it is as the journal says too
+left_raised : (last : ℕ) (s : State) (found : Contents) → s.ids.epoch ≡ last → last < 4294967295 → IsLeftOf s found → IsLeftOf s (with_clock found (next_clock last found))
+left_raised last s found at low l = record {
+  epoch = last + 1;
+  near = inr (ap (λ (n : ℕ). n + 1) (sym at));
+  last = omega (arith, low);
+  either = ⊎_elim (λ e. inl (raised_stored l.epoch last s found low e)) (λ e. inr (raised_stored l.epoch last (state_then s) found low e)) l.either;
+}
 
 -- a crash of the vault that was refused a restart leaves what the journal says too
-pub still_left : {V : Type 0} (G : Ghosts V) (d : DownState V) (new : V) → IsFallen G d → IsTrue (G.tells d.vault) → NoMore (IsLeftOrRaised G d.epoch d.vault) (G.may_leave new)
+still_left : {V : Type 0} (G : Ghosts V) (d : DownState V) (new : V) → IsFallen G d → IsTrue (G.tells d.vault) → NoMore (IsLeftOrRaised G d.server d.servers d.epoch d.vault) (G.may_leave new)
     → (c : Contents) → G.may_leave new c → IsLeftOf (state_of (start_of G d) d.journal) c
 still_left G d new h told no_more c here = go (no_more c here)
   where
     r : IsPastRight (start_of G d) (G.volume d.vault) d
     r = h.right told
 
-    go : IsLeftOrRaised G d.epoch d.vault c → IsLeftOf (state_of (start_of G d) d.journal) c
+    go : IsLeftOrRaised G d.server d.servers d.epoch d.vault c → IsLeftOf (state_of (start_of G d) d.journal) c
     go (inl before) = h.left told c before
     go (inr (found, low, before, notes, is)) =
         subst (IsLeftOf (state_of (start_of G d) d.journal)) (sym is)
-        (left_raised (G.server d.vault) (G.servers d.vault) d.epoch (state_of (start_of G d) d.journal) found notes (ap (λ (z : State). z.ids.epoch) r.says ∙ r.past.now) low
-        (subst (λ (z : State). z.holder.kept < 2 ^ 64) (sym r.says) (kept_small r.state d.server d.epoch (G.volume d.vault) r.past))
-        (subst (λ (z : State). (holder_then z).kept < 2 ^ 64) (sym r.says) (then_small r.state d.server d.epoch (G.volume d.vault) r.past)) (h.left told found before))
+        (left_raised d.epoch (state_of (start_of G d) d.journal) found (ap (λ (z : State). z.ids.epoch) r.says ∙ r.past.now) low (h.left told found before))
 
 -- ---- the journal of a server that starts again
 
@@ -216,143 +130,152 @@ pushed_at (z ∷ xs) y x (suc i) e = pushed_at xs y x i e
 fits_again : (es : List Entry) (e : Entry) → e.event ≡ event.Restart → FitsJournal es → FitsJournal (es ++ e ∷ [])
 fits_again es e is fits i x at = ⊎_elim (λ before. fits i x before) (λ last. inl (ap (λ (y : Entry). y.event) (sym last) ∙ is)) (pushed_at es e x i at)
 
--- a state and the entry by which it is left for another one
-record LeadsTo {V : Type 0} (a : Account) (e : Entry) (held : Contents) (k : ServerState V) : Type 0 where
-  next : Account
-  leads : Leads false a e next
-  kept : IsAs next held k
+-- of what a crash left the state tells, or the state with all that was tried
+record IsKnownAs (a : Account) (c : Contents) : Type 0 where
+  state : State
+  it : IsFoundAs a state
+  near : ℕ
+  stored : IsStoredBy near state c
 
-module _ {V : Type 0} (old : ServerState V) (server servers epoch : ℕ) (sizes : Sizes) (a : Account) (past : IsPast a server epoch sizes) (some : 0 < epoch) (low : epoch < 4294967295)
-    (found held : Contents) (notes : AreNotesSoFar server servers found.notes) (is : held ≡ with_clock found (next_clock epoch found)) (volume : IsVolumeOf sizes held.cells) (fresh : IsNewCoordinator a.holder.server (epoch + 1) old.coordinator) where
-  abbrev clock : ClockNote
-  clock = next_clock epoch found
+known_as : (a : Account) (server servers epoch : ℕ) (sizes : Sizes) → IsPast a server servers epoch sizes → (c : Contents) → IsLeftOf (account_state a) c → IsKnownAs a c
+known_as a server servers epoch sizes past c l = ⊎_elim
+    (λ e. record { state = account_state a; it = found_before a server servers epoch sizes past; near = l.epoch; stored = e })
+    (λ e. record { state = state_then (account_state a); it = found_then a server servers epoch sizes past; near = l.epoch; stored = e }) l.either
 
-  held_notes : held.notes ≡ clock_notes clock
-  held_notes = ap (λ (c : Contents). c.notes) is ∙ put_first server servers found.notes clock notes
+-- its notes are in the format of the server
+known_format : (a : Account) (server servers epoch : ℕ) (sizes : Sizes) → IsPast a server servers epoch sizes → (c : Contents) → IsKnownAs a c → AreServerNotes server servers c.notes
+known_format a server servers epoch sizes past c k =
+    subst (λ (n : ℕ). AreServerNotes n servers c.notes) (k.it.last.number ∙ k.it.so.number ∙ past.number)
+    (subst (λ (n : ℕ). AreServerNotes k.state.holder.server n c.notes) (k.it.last.among ∙ k.it.so.among ∙ past.among) k.stored.notes.format)
 
-  later : a.ids.epoch + 1 ≡ clock.epoch
-  later = ap (λ (n : ℕ). n + 1) past.now
+module _ {V : Type 0} (G : Ghosts V) (d : DownState V) (n : NodeState V) (clock : ClockNote) (f : Found) (h : IsFallen G d) (b : HasBegunEpoch G d.server d.servers d.epoch d.vault n.kept.vault clock f) (s : HasBegun (G.volume n.kept.vault) d.server d.servers clock f n.kept.vault n.kept)
+    (opening : n.opening ≡ d.opening) (journal : n.journal ≡ d.journal ++ entry_again clock f.ready f.decided ∷ []) where
+  abbrev v : V
+  v = n.kept.vault
 
-  entry_is : (t : ℕ) → clock.clock ≡ t → restart_entry a t [] [] ≡ entry_again clock
-  entry_is t at = λ i. entry_again (record { epoch = later i; clock = sym at i })
+  abbrev notes : Notes
+  notes = b.found.notes
 
-  lost : (near : ℕ) → (near ≡ a.ids.epoch) ⊎ (near ≡ a.ids.epoch + 1) → found ≡ stored_by near a.holder → LeadsTo a (entry_again clock) held (new_kept old a.holder.server sizes clock)
-  lost near by_one same =
-      let at : clock.clock ≡ a.holder.kept = found_clock server servers epoch (account_state a) found notes past.now low near a.holder by_one (kept_small a server epoch sizes past) same in
-      let cells : held.cells ≡ a.holder.cells = ap (λ (c : Contents). c.cells) is ∙ ap (λ (c : Contents). c.cells) same in
-      let leads : Leads false a (restart_entry a a.holder.kept [] []) (restarted a) = restart_leads a [] [] past.quiet (past_noted old server epoch sizes a past some) in
-      record {
-        next = restarted_at a clock.clock;
-        leads = subst (λ (n : ℕ). Leads false a (entry_again clock) (restarted_at a n)) (sym at) (subst (λ (e : Entry). Leads false a e (restarted a)) (entry_is a.holder.kept at) leads);
-        kept = lost_as old server epoch sizes a past some clock held fresh later at cells held_notes volume leads.quiet;
-      }
+  abbrev area : ℕ
+  area = (G.volume d.vault).area
 
-  made : (near : ℕ) → (near ≡ a.ids.epoch) ⊎ (near ≡ a.ids.epoch + 1) → found ≡ stored_by near (holder_then (account_state a)) → (a.pending ≡ []) ⊎ IsTriedCommit a → LeadsTo a (entry_again clock) held (new_kept old a.holder.server sizes clock)
-  made near by_one same (inl none) = lost near by_one (same ∙ ap (stored_by near) (none_then a none))
-  made near by_one same (inr c) =
-      let at : clock.clock ≡ c.stamp.ts = found_clock server servers epoch (account_state a) found notes past.now low near (holder_then (account_state a)) by_one (then_small a server epoch sizes past) same ∙ kept_then a c in
-      let cells : held.cells ≡ edits_map c.life.edits a.holder.cells = ap (λ (x : Contents). x.cells) is ∙ ap (λ (x : Contents). x.cells) same ∙ cells_then a c in
-      let leads : Leads false a (restart_entry a c.stamp.ts [] []) (restarted_with a c.stamp c.life []) =
-      commit_made_leads a [] [] past.quiet c (decided_noted old server epoch sizes a past some c) in
-      record {
-        next = restarted_at (with_decided a c.stamp c.life []) clock.clock;
-        leads = subst (λ (n : ℕ). Leads false a (entry_again clock) (restarted_at (with_decided a c.stamp c.life []) n)) (sym at) (subst (λ (e : Entry). Leads false a e (restarted_with a c.stamp c.life [])) (entry_is c.stamp.ts at) leads);
-        kept = made_as old server epoch sizes a past some c clock held fresh later at cells held_notes volume leads.quiet;
-      }
-
-  -- whichever it is that was found
-  again : IsLeftOf (account_state a) found → LeadsTo a (entry_again clock) held (new_kept old a.holder.server sizes clock)
-  again l = ⊎_elim (λ e. lost l.epoch l.near e) (λ e. made l.epoch l.near e (tried_one a past.lone past.quiet past.plain)) l.either
-
--- a server that starts again keeps what its journal says
-pub again_right : {V : Type 0} (G : Ghosts V) (d : DownState V) (n : NodeState V) (held : Contents) (clock : ClockNote) → IsFallen G d → IsTrue (G.tells d.vault) → d.epoch < 4294967295
-    → n.opening ≡ d.opening → n.journal ≡ d.journal ++ entry_again clock ∷ [] → n.kept ≡ new_kept n.kept d.server (G.volume d.vault) clock
-    → (found : Contents) → G.may_leave d.vault found → AreNotesSoFar (G.server d.vault) (G.servers d.vault) found.notes → clock ≡ next_clock d.epoch found → held ≡ with_clock found clock → IsVolumeOf (G.volume d.vault) held.cells
-    → IsNewCoordinator d.server (d.epoch + 1) n.kept.coordinator → IsRight (start_in G n) held n
-again_right G d n held clock h told low opening is kept found left notes next_is held_is volume fresh =
-    let r : IsPastRight (start_of G d) (G.volume d.vault) d = h.right told in
-    let o : Start = start_of G d in
-    let a : Account = r.state in
-    let same_start : o ≡ start_in G n = (λ i. start_by G (sym (ap (λ (k : ServerState _). k.server) kept) i) (sym opening i).vault.value) in
-    let l : IsLeftOf (account_state a) found = subst (λ (z : State). IsLeftOf z found) r.says (h.left told found left) in
-    let to : LeadsTo a (entry_again (next_clock d.epoch found)) held (new_kept n.kept a.holder.server (G.volume d.vault) (next_clock d.epoch found)) =
-    again n.kept d.server (G.servers d.vault) d.epoch (G.volume d.vault) a r.past h.raised low found held (subst (λ (m : ℕ). AreNotesSoFar m (G.servers d.vault) found.notes) h.number notes) (held_is ∙ ap (with_clock found) next_is) volume
-    (subst (λ (m : ℕ). IsNewCoordinator m (d.epoch + 1) n.kept.coordinator) (sym r.past.number) fresh) l in
-    let e : Entry = entry_again clock in
-    let leads : Leads false a e to.next = subst (λ (c : ClockNote). Leads false a (entry_again c) to.next) (sym next_is) to.leads in
-    subst (λ (x : Start). IsRight x held n) same_start (record {
-      opening = r.opening;
-      lawful = subst (IsLawful o) (sym is) (Along-push next IsLawfulEntry (opened o) d.journal e r.lawful (subst (λ (z : State). IsLawfulEntry z e) (sym r.says) leads.lawful));
-      caused = subst (IsAnswered o) (sym is)
-          (Along-push next IsAnsweredSo (opened o) d.journal e r.caused.0 (false, subst (λ (z : State). IsAnsweredEntry false z e) (sym r.says) leads.answered), fits_again d.journal e refl r.caused.1);
-      own = subst AreOwnEvents (sym is) (all-append (λ (y : Entry). IsOwnEvent y.event) d.journal (e ∷ []) r.own (tt, tt));
-      state = to.next;
-      says = ap (state_of o) is ∙ state_after-push next (opened o) d.journal e ∙ ap (λ (z : State). next z e) r.says ∙ leads.leaves;
-      kept = subst (IsAs to.next held) (sym (kept ∙ (λ i. new_kept n.kept (sym r.past.number i) (G.volume d.vault) (next_is i)))) to.kept;
-    })
-
-module _ {V : Type 0} (G : Ghosts V) (d : DownState V) (n : NodeState V) (clock : ClockNote) (h : IsFallen G d) (b : HasBegunEpoch G d.epoch d.vault n.kept.vault clock) (low : d.epoch < 4294967295)
-    (opening : n.opening ≡ d.opening) (servers : n.servers ≡ d.servers) (journal : n.journal ≡ d.journal ++ entry_again clock ∷ []) (nobody : KeepsNobody n.kept) (server : n.kept.server ≡ d.server)
-    (sizes : n.kept.sizes ≡ G.volume n.kept.vault) (epoch : n.kept.epoch ≡ clock.epoch) (time : n.kept.clock ≡ clock.clock) (run : IsOf d.server clock.epoch 0 n.kept.coordinator) where
-  fresh : IsNewCoordinator d.server clock.epoch n.kept.coordinator
-  fresh = record { run = run; none = nobody.fates }
-
-  told_down : IsTrue (G.tells n.kept.vault) → IsTrue (G.tells d.vault)
+  told_down : IsTrue (G.tells v) → IsTrue (G.tells d.vault)
   told_down told = subst IsTrue b.same.telling told
 
-  kept_is : n.kept ≡ new_kept n.kept d.server (G.volume n.kept.vault) clock
+  epoch_next : clock.epoch ≡ d.epoch + 1
+  epoch_next = ap (λ (c : ClockNote). c.epoch) b.next
+
+  time_is : clock.clock ≡ (clock_kept notes).clock
+  time_is = ap (λ (c : ClockNote). c.clock) b.next
+
+  later : (clock_before clock.epoch notes).epoch < clock.epoch
+  later = before_less (clock_kept notes).epoch clock.epoch (omega (arith, epoch_next))
+
+  last_epoch : clock.epoch < 2 ^ 32
+  last_epoch = (let low : d.epoch < 4294967295 = b.low in omega (arith, epoch_next, low))
+
+  fits : clock_form.Fits clock
+  fits = time_fits clock last_epoch b.within
+
+  sizes_is : n.kept.sizes ≡ G.volume d.vault
+  sizes_is = s.volume ∙ b.same.sizes
+
+  abbrev kept_then : ServerState V
+  kept_then = found_kept (G.tells d.vault) d.server d.servers area (G.volume d.vault) clock.epoch clock.clock b.found.cells notes b.alone later f.lives f.locks f.joins f.coordinator b.finds.found n.kept
+
+  kept_is : n.kept ≡ kept_then
   kept_is = λ i. record (n.kept) {
-    server = server i;
-    sizes = sizes i;
-    epoch = epoch i;
-    clock = time i;
-    given = nobody.given i;
-    sessions = nobody.sessions i;
-    lives = nobody.lives i;
-    dead = nobody.dead i;
-    waits = nobody.waits i;
-    locks = nobody.locks i;
-    is_down = nobody.up i;
+    server = s.number i;
+    servers = s.of_all i;
+    sizes = sizes_is i;
+    epoch = s.epoch i;
+    clock = s.time i;
+    given = s.given i;
+    coordinator = s.coordinator i;
+    joins = s.joins i;
+    sessions = s.sessions i;
+    lives = s.lives i;
+    dead = s.dead i;
+    waits = s.waits i;
+    locks = s.locks i;
+    is_down = s.up i;
   }
 
-  -- a server that starts again keeps to all that holds of servers
-  pub restarted_kept : IsSound n.kept.locks → 64 ≤ (G.volume n.kept.vault).area → (IsTrue (G.tells n.kept.vault) → IsVolumeOf (G.volume n.kept.vault) (G.held n.kept.vault).cells)
-      → (IsTrue (G.tells n.kept.vault) → Only (G.held n.kept.vault) (G.may_leave n.kept.vault)) → IsConsistent G n
-  restarted_kept sound area volume only = record {
-    number = b.same.number ∙ h.number ∙ sym server;
-    all = b.same.of_all ∙ h.all ∙ sym servers;
-    sizes = sizes;
-    ready = subst (IsReady (length n.journal) (G.serves n.kept.vault)) (sym kept_is)
-        (new_ready (length n.journal) n.kept d.server (G.volume n.kept.vault) clock (G.serves n.kept.vault) b.serving b.within (omega (arith, b.epoch)) (omega (arith, b.epoch, low)) area (subst IsSound nobody.locks sound) fresh);
-    noted = ((λ up. b.format), (λ up. ap (λ (c : ClockNote). c.epoch) b.note ∙ sym epoch));
-    mute = sent_pushed d.journal n.journal (entry_again clock) journal h.mute refl;
-    right = right;
-    durable = λ told. up_durable (start_in G n) (G.held n.kept.vault) n (G.may_leave n.kept.vault) (right told) nobody.up (only told);
+  -- a server that starts again keeps what its journal says
+  again_right : (IsTrue (G.tells v) → IsVolumeOf (G.volume v) (G.held v).cells) → IsTrue (G.tells v) → IsRight (start_in G n) (G.held v) n
+  again_right volume tells =
+      let told : IsTrue (G.tells d.vault) = told_down tells in
+      let r : IsPastRight (start_of G d) (G.volume d.vault) d = h.right told in
+      let g : HasRegained G d.server d.servers d.vault v b.found clock = b.regained told in
+      let o : Start = start_of G d in
+      let a : Account = r.state in
+      let same_start : o ≡ start_in G n = (λ i. start_by G (sym s.number i) (sym opening i).vault.value) in
+      let cells_now : (G.held v).cells ≡ b.found.cells = ap (λ (c : Contents). c.cells) g.held in
+      let sound : IsVolumeOf (G.volume d.vault) b.found.cells = subst (λ (z : Sizes). IsVolumeOf z b.found.cells) b.same.sizes (subst (IsVolumeOf (G.volume v)) cells_now (volume tells)) in
+      let k : IsKnownAs a b.found = known_as a d.server d.servers d.epoch (G.volume d.vault) r.past b.found (subst (λ (z : State). IsLeftOf z b.found) r.says (h.left told b.found g.left)) in
+      let m : Account = restarted_at k.it.account k.it.clock in
+      let at : k.it.clock ≡ clock.clock = clock_found a d.server d.servers d.epoch (G.volume d.vault) r.past h.raised k.state k.it k.near b.found k.stored clock.epoch area epoch_next b.alone later ∙ sym time_is in
+      let leads_found : Leads false a (restart_entry a k.it.clock (joins_noted (ready_kept notes)) (stamps_noted (decisions_kept notes))) m =
+      found_leads a d.server d.servers d.epoch (G.volume d.vault) r.past h.raised k.state k.it k.near b.found k.stored clock.epoch area epoch_next b.alone later in
+      let e : Entry = entry_again clock f.ready f.decided in
+      let entry_is : restart_entry a k.it.clock (joins_noted (ready_kept notes)) (stamps_noted (decisions_kept notes)) ≡ e =
+      (λ i. entry_again (record { epoch = (ap (λ (x : ℕ). x + 1) r.past.now ∙ sym epoch_next) i; clock = at i }) (sym b.finds.ready i) (sym b.finds.decided i)) in
+      let leads : Leads false a e m = subst (λ (x : Entry). Leads false a x m) entry_is leads_found in
+      let told_of : IsTold (G.tells d.vault) d.server d.servers area (G.volume d.vault) clock.epoch clock.clock b.found.cells notes b.alone later f.lives f.locks f.joins f.coordinator b.finds.found m =
+      found_told a d.server d.servers d.epoch (G.volume d.vault) r.past h.raised k.state k.it k.near b.found k.stored clock.epoch area epoch_next b.alone later (G.tells d.vault) f.lives f.locks f.joins f.coordinator b.finds.found sound clock.clock time_is in
+      let kept : IsAs m (G.held v) n.kept = subst (IsAs m (G.held v)) (sym kept_is)
+      (found_as (G.tells d.vault) d.server d.servers area (G.volume d.vault) clock.epoch clock.clock b.found.cells notes b.alone later f.lives f.locks f.joins f.coordinator b.finds.found m told_of n.kept (G.held v) told fits cells_now b.notes g.together.room) in
+      subst (λ (x : Start). IsRight x (G.held v) n) same_start (record {
+        opening = r.opening;
+        lawful = subst (IsLawful o) (sym journal) (Along-push next IsLawfulEntry (opened o) d.journal e r.lawful (subst (λ (z : State). IsLawfulEntry z e) (sym r.says) leads.lawful));
+        caused = subst (IsAnswered o) (sym journal)
+            (Along-push next IsAnsweredSo (opened o) d.journal e r.caused.0 (false, subst (λ (z : State). IsAnsweredEntry false z e) (sym r.says) leads.answered), fits_again d.journal e refl r.caused.1);
+        state = m;
+        says = ap (state_of o) journal ∙ state_after-push next (opened o) d.journal e ∙ ap (λ (z : State). next z e) r.says ∙ leads.leaves;
+        kept = kept;
+      })
+
+  -- and to all that holds of servers
+  pub restarted_kept : 64 ≤ (G.volume v).area → (IsTrue (G.tells v) → IsVolumeOf (G.volume v) (G.held v).cells) → (IsTrue (G.tells v) → Only (G.held v) (G.may_leave v)) → IsConsistent G n
+  restarted_kept least volume only = record {
+    number = b.same.number ∙ h.number ∙ sym s.number;
+    all = b.same.of_all ∙ h.all ∙ sym s.of_all;
+    sizes = s.volume;
+    ready = subst (IsReady (length n.journal) (G.serves v)) (sym kept_is)
+        (found_ready (G.tells d.vault) d.server d.servers area (G.volume d.vault) clock.epoch clock.clock b.found.cells notes b.alone later f.lives f.locks f.joins f.coordinator b.finds.found (length n.journal) (G.serves v) n.kept b.serving refl
+        (subst (λ (z : Sizes). 64 ≤ z.area) b.same.sizes least) (omega (arith, time_is)) b.within last_epoch);
+    noted = λ up. subst (λ (x : ServerState V). AreNotesFor x (G.held v).notes) (sym kept_is)
+        (subst (AreNotesFor kept_then) (sym b.notes)
+        (raised_noted (G.tells d.vault) d.server d.servers area (G.volume d.vault) clock.epoch clock.clock b.found.cells notes b.alone later f.lives f.locks f.joins f.coordinator b.finds.found fits));
+    said = sent_pushed d.journal n.journal (entry_again clock f.ready f.decided) journal h.said tt;
+    right = again_right volume;
+    durable = λ tells. up_durable (start_in G n) (G.held v) n (G.may_leave v) (again_right volume tells) s.up (only tells);
   }
-    where
-      right : IsTrue (G.tells n.kept.vault) → IsRight (start_in G n) (G.held n.kept.vault) n
-      right told =
-          let x : HasRegained G d.epoch d.vault n.kept.vault clock = b.regained (told_down told) in
-          again_right G d n (G.held n.kept.vault) clock h (told_down told) low opening journal (kept_is ∙ (λ i. new_kept n.kept d.server (b.same.sizes i) clock)) x.found x.left x.notes x.next x.held
-          (subst (λ (s : Sizes). IsVolumeOf s (G.held n.kept.vault).cells) b.same.sizes (volume told)) (subst (λ (m : ℕ). IsNewCoordinator d.server m n.kept.coordinator) b.epoch fresh)
 
   clock_is : clock ≡ record { epoch = n.kept.epoch; clock = n.kept.clock }
-  clock_is = λ i. record { epoch = sym epoch i; clock = sym time i }
+  clock_is = λ i. record { epoch = sym s.epoch i; clock = sym s.time i }
 
   pub has_restarted : HasRestarted G d n
   has_restarted = record {
-    low = low;
+    low = b.low;
     opening = opening;
-    server = server;
-    servers = servers;
-    epoch = epoch ∙ b.epoch;
-    journal = journal ∙ ap (λ (c : ClockNote). d.journal ++ entry_again c ∷ []) clock_is;
-    nobody = nobody;
-    regained = λ told. subst (HasRegained G d.epoch d.vault n.kept.vault) clock_is (b.regained told);
+    server = s.number;
+    servers = s.of_all;
+    epoch = s.epoch ∙ epoch_next;
+    joins = f.ready;
+    stamps = f.decided;
+    journal = journal ∙ ap (λ (c : ClockNote). d.journal ++ entry_again c f.ready f.decided ∷ []) clock_is;
+    found = b.found;
+    alone = subst (λ (e : ℕ). AreNotesTogether d.server d.servers e area notes) (sym s.epoch) b.alone;
+    ready = b.finds.ready;
+    decided = b.finds.decided;
+    time = s.time ∙ time_is;
+    nobody = subst (KeepsFound (G.tells d.vault) b.found) (sym kept_is) (record { all = b.finds.found; given = refl; sessions = refl; dead = refl; waits = refl; up = refl });
+    regained = λ told. subst (HasRegained G d.server d.servers d.vault v b.found) clock_is (b.regained told);
     same = b.same;
     faults = b.counted;
     allowance = b.free;
-    note = b.note ∙ clock_is;
+    note = ap clock_kept b.notes ∙ note_back notes clock fits ∙ clock_is;
     crash = b.crash;
   }
 
@@ -365,7 +288,7 @@ handed_no_more G old new P h told c here = (h.crash told).crash c (before h.back
     before (inr (on, off)) = (off.left (subst IsTrue (sym h.same.telling) told)).was c here
 
 -- a server that was refused its restart may be started again
-module _ {V : Type 0} (G : Ghosts V) (d : DownState V) (new : V) (journal : List Entry) (f : StartFault) (is : journal ≡ d.journal) (h : IsFallen G d) (b : HasNotBegun G d.epoch d.vault new f) where
+module _ {V : Type 0} (G : Ghosts V) (d : DownState V) (new : V) (journal : List Entry) (f : StartFault) (is : journal ≡ d.journal) (h : IsFallen G d) (b : HasNotBegun G d.server d.servers d.epoch d.vault new f) where
   abbrev then_down : DownState V
   then_down = record d { vault = new; journal = journal }
 
@@ -377,24 +300,23 @@ module _ {V : Type 0} (G : Ghosts V) (d : DownState V) (new : V) (journal : List
     last = h.last;
     rests = b.rests;
     free = b.free;
-    mute = h.mute;
+    said = h.said;
     right = λ told. (
         let r : IsPastRight (start_of G d) (G.volume d.vault) d = h.right (subst IsTrue b.same.telling told) in
         record {
           opening = r.opening;
           lawful = r.lawful;
           caused = r.caused;
-          own = r.own;
           state = r.state;
           says = r.says;
-          past = subst (IsPast r.state d.server d.epoch) (sym b.same.sizes) r.past;
+          past = subst (IsPast r.state d.server d.servers d.epoch) (sym b.same.sizes) r.past;
         }
         );
-    left = λ told. (let before : IsTrue (G.tells d.vault) = subst IsTrue b.same.telling told in still_left G d new h before (handed_no_more G d.vault new (IsLeftOrRaised G d.epoch d.vault) b.back before));
+    left = λ told. (let before : IsTrue (G.tells d.vault) = subst IsTrue b.same.telling told in still_left G d new h before (handed_no_more G d.vault new (IsLeftOrRaised G d.server d.servers d.epoch d.vault) b.back before));
   })
 
-  pub still_down : (d.epoch ≡ 4294967295 → f ≡ start_fault.EpochEnd) → IsStillDown G d then_down f
-  still_down end = record {
+  pub still_down : (d.epoch ≡ 4294967295 → f ≡ start_fault.EpochEnd) → IsServer (G.server d.vault) (G.servers d.vault) → 64 ≤ (G.volume d.vault).area → IsStillDown G d then_down f
+  still_down end seat least = record {
     opening = refl;
     journal = is;
     server = refl;
@@ -403,9 +325,13 @@ module _ {V : Type 0} (G : Ghosts V) (d : DownState V) (new : V) (journal : List
     same = b.same;
     cause = b.cause;
     end = end;
-    sound = λ told e. (
+    sound = λ one told e. (
+        let r : IsPastRight (start_of G d) (G.volume d.vault) d = h.right told in
         let bad = (subst (HasRaiseCause G d.epoch d.vault new) e b.cause).1 told in
-        bad.2 (notes_left G d h told bad.0 bad.1)
+        let left : IsLeftOf (account_state r.state) bad.0 = subst (λ (z : State). IsLeftOf z bad.0) r.says (h.left told bad.0 bad.1) in
+        let format : AreServerNotes d.server d.servers bad.0.notes = known_format r.state d.server d.servers d.epoch (G.volume d.vault) r.past bad.0 (known_as r.state d.server d.servers d.epoch (G.volume d.vault) r.past bad.0 left) in
+        alone_apart (G.tells d.vault) (G.server d.vault) (G.servers d.vault) (d.epoch + 1) (G.volume d.vault) bad.0 seat (h.all ∙ one) least
+        (subst (λ (n : ℕ). AreServerNotes n (G.servers d.vault) bad.0.notes) (sym h.number) (subst (λ (n : ℕ). AreServerNotes d.server n bad.0.notes) (sym h.all) format)) bad.2
         );
     back = b.back;
   }

@@ -1,12 +1,12 @@
 -- joins and votes of transactions that are not decided, as a coordinator goes on
-use Rattle.std.specs.Prelude.{cond, Bool, true, false, not, ◌&&◌, ◌||◌, ◌==◌, ◌≢◌, max, Option, None, Some}
+use Rattle.std.specs.Prelude.{cond, Bool, true, false, not, ◌&&◌, ◌||◌, ◌==◌, ◌≢◌, max, None, Some}
 use Rattle.std.specs.List.{list_all}
 use Rattle.std.proofs.lemmas.Bool.{and_parts, and_from, eqb-true, not-true, or_parts}
 use Rattle.std.proofs.Common.{◌≡◌, ℕ, ◌^◌, ◌≤◌, List, [], ◌∷◌, ◌++◌, refl, sym, ◌∙◌, ap, subst, arith, eq-eqb}
 use Rattle.alp_base.specs.declared.ids.JoinNo.{JoinNo}
 use Rattle.alp_base.specs.declared.ids.TransId.{TransId}
 use Rattle.alp_journal.specs.Account.{is_other, are_servers_apart, AreJoins}
-use Rattle.alp_journal.specs.Coordinator.{Fate, Undrawn, Running, Finishing, Committed, Forgotten, Ended, Vote, client_of, begun, registered, finishing, heard, acknowledged, has_all, voted, with_vote}
+use Rattle.alp_journal.specs.Coordinator.{Fate, Undrawn, Running, Finishing, Committed, Forgotten, Ended, Vote, client_of, begun, registered, finishing, heard, acknowledged, has_all, voted}
 use Rattle.alp_journal.specs.Deeds.{Begins, Registers, Finishes, Hears, Acknowledges}
 use Rattle.alp_journal.specs.Ids.{same_trans, has_join, has_server}
 use Rattle.alp_journal.specs.Laws.{latest_vote}
@@ -17,9 +17,9 @@ use Rattle.alp_coord.specs.declared.answers.Registration.TheVariants as registra
 use Rattle.alp_coord.specs.declared.coordinator.Coordinator.{Coordinator}
 use Rattle.alp_coord.specs.Coordinators.{AfterRegistration, Comes, ComesLike, Keeps, epoch_of, fate_in, forgotten_as, forgotten_fate, is_known, registration_in, registration_of, server_of}
 use Rattle.alp_coord.specs.Coordinators as coord
-use Rattle.alp_coord.specs.Likeness.{AreLikeVotes, IsLike}
+use Rattle.alp_coord.specs.Likeness.{IsLike}
 use Rattle.alp_coord.specs.Likeness as like
-use Rattle.alp_node.specs.EarlyFates.{AreEarly, IsEarlyFate, IsToDecide}
+use Rattle.alp_node.specs.EarlyFates.{AreEarly, IsEarlyFate}
 
 -- ---- one of a server more
 
@@ -46,11 +46,11 @@ servers-last (k ∷ js) j h none =
 
 -- ---- one vote more
 
-latest-last : (n : ℕ) (vs : List Vote) (v : Vote) → latest_vote n (vs ++ v ∷ []) ≡ max (latest_vote n vs) v.1
+pub latest-last : (n : ℕ) (vs : List Vote) (v : Vote) → latest_vote n (vs ++ v ∷ []) ≡ max (latest_vote n vs) v.1
 latest-last n [] v = refl
 latest-last n (w ∷ vs) v = latest-last (max n w.1) vs v
 
-latest-with : (b : Bool) (vs : List Vote) (v : Vote) → latest_vote 0 vs ≤ 2 ^ 62 → v.1 ≤ 2 ^ 62 → latest_vote 0 (cond {A = List Vote} b vs (vs ++ v ∷ [])) ≤ 2 ^ 62
+pub latest-with : (b : Bool) (vs : List Vote) (v : Vote) → latest_vote 0 vs ≤ 2 ^ 62 → v.1 ≤ 2 ^ 62 → latest_vote 0 (cond {A = List Vote} b vs (vs ++ v ∷ [])) ≤ 2 ^ 62
 latest-with true vs v low new = low
 latest-with false vs v low new = (let same : latest_vote 0 (vs ++ v ∷ []) ≡ max (latest_vote 0 vs) v.1 = latest-last 0 vs v in omega (arith, same, low, new))
 

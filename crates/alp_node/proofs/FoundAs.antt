@@ -176,21 +176,24 @@ module _ (tells : Bool) (server servers area : ℕ) (sizes : Sizes) (epoch clock
         let live : m.holder.lives u ≡ Some nk.life = ap m.holder.lives (sym trans) ∙ nk.live in
         let v = voted_life n.join s.part.trans s.part.client s.part.ts nk.life nk.phase_is nk.live in
         let left : IsLeftLife nk.life (m.locked u) = q.lives u nk.life live in
-        let intents : intents_of n.edits ≡ intents_of nk.life.edits = ap (λ (z : ReadyNote). intents_of z.edits) (sym s.same) ∙ nk.kept.intents in
-        (nk.life, live, subst (λ (z : Live). IsLife m.holder.cells t.held (m.locked u) u z nk.life) (sym found.is) (record {
-          client = v.0 ∙ ap (λ (z : ReadyNote). z.client) s.same ∙ sym found.of.client;
-          join = v.1 ∙ ap (λ (j : JoinNo). Some j) (sym found.of.join);
-          intents = found.of.intents ∙ intents;
-          held = λ r. sym (nk.kept.held r) ∙ ap (λ (z : ReadyNote). held_by z.locks r) s.same
-              ∙ sym (note_held tells server servers area sizes epoch clock cells notes h later l t k c f n found.has r) ∙ ap (λ (w : TransId). holding t.held w r) found.trans;
-          calls = λ none. absurd (differ nk.life.vote s.part.ts none v.2);
-          counts = subst (λ (z : Cells). AreCountsOf z nk.life.edits found.part.part.counts) (sym q.cells_is) (same_counts cells n.edits nk.life.edits found.part.part.counts intents (found.of.counts tell));
-          within = left.within;
-          intended = left.intended;
-          sized = left.sized;
-          count = found.of.locks ∙ q.counts u nk.life n live found.has found.trans;
-          known = left.known;
-        }))
+        let intents : intents_of n.edits ≡ intents_of nk.life.edits = ap (λ (z : ReadyNote). intents_of z.edits) (sym s.same) ∙ nk.kept.intents in (
+          nk.life,
+          live,
+          subst (λ (z : Live). IsLife m.holder.cells t.held (m.locked u) u z nk.life) (sym found.is) (record {
+            client = v.0 ∙ ap (λ (z : ReadyNote). z.client) s.same ∙ sym found.of.client;
+            join = v.1 ∙ ap (λ (j : JoinNo). Some j) (sym found.of.join);
+            intents = found.of.intents ∙ intents;
+            held = λ r. sym (nk.kept.held r) ∙ ap (λ (z : ReadyNote). held_by z.locks r) s.same
+                ∙ sym (note_held tells server servers area sizes epoch clock cells notes h later l t k c f n found.has r) ∙ ap (λ (w : TransId). holding t.held w r) found.trans;
+            calls = λ none. absurd (differ nk.life.vote s.part.ts none v.2);
+            counts = subst (λ (z : Cells). AreCountsOf z nk.life.edits found.part.part.counts) (sym q.cells_is) (same_counts cells n.edits nk.life.edits found.part.part.counts intents (found.of.counts tell));
+            within = left.within;
+            intended = left.intended;
+            sized = left.sized;
+            count = found.of.locks ∙ q.counts u nk.life n live found.has found.trans;
+            known = left.known;
+          }),
+        )
 
     -- what is not found is not live
     none_there : (u : TransId) → ((n : ReadyNote) → Has n (ready_kept notes) → n.trans ≡ u → ⊥) → (x : Option Life) → m.holder.lives u ≡ x → x ≡ None

@@ -37,13 +37,13 @@ use Rattle.alp_regain.specs.Regained.{PutsAreSized}
 use Rattle.alp_regain.specs.Together.{clock_before, IsPartNote, AreApart, AreNotesTogether, AreSoundTogether}
 use Rattle.alp_regain.proofs.LockLemmas.{are_intended, are_within}
 use Rattle.alp_regain.proofs.OwnerLemmas.{joins_apart, are_ready_here, are_decided_here}
-use Rattle.alp_node.specs.Covers.{AreSizedEdits}
+use Rattle.alp_node.specs.Covers.{AreHeld, AreSizedEdits}
 use Rattle.alp_node.specs.Found.{IsFoundIn}
 use Rattle.alp_node.specs.Nodes.{IsSoundStart}
 use Rattle.alp_node.specs.ServerState.{IsToCome, PutNoneBeyond}
 use Rattle.alp_node.specs.Totals.{LiveMap}
-use Rattle.alp_node.proofs.FoundAs.{IsTold, IsLeftLife, IsAtRest}
-use Rattle.alp_node.proofs.FoundNotes.{Has, differ, all_has, IsLifeNoted, life_or, IsFateNoted, fate_or, one_trans}
+use Rattle.alp_node.proofs.FoundAs.{IsTold, IsLeftLife, IsAtRest, IsNotOpen}
+use Rattle.alp_node.proofs.FoundNotes.{Has, differ, all_has, IsLifeNoted, life_or, IsFateNoted, fate_or, phase_or, one_trans}
 use Rattle.alp_node.proofs.FoundReady.{part_live, joins_are}
 use Rattle.alp_node.proofs.FoundStart.{opening, opening_keeps, opening_fits, opening_decided_fits, part_of_note, decided_drawn, decided_time, drawn_epoch, quiet}
 use Rattle.alp_node.proofs.LockCountLemmas.{held_then}
@@ -126,7 +126,7 @@ module _ (tells : Bool) (server servers area : ℕ) (sizes : Sizes) (epoch clock
             within = are_within (held_by n.locks) n.edits p.locks.covered;
             intended = are_intended n.locks p.locks.intended;
             sized = note_sized n y.has;
-            known = λ r. ap (has_resource r) (locked_looked (ready_kept notes) u n h.apart y.has y.of) ∙ held_then no_locks n.locks [] (λ q. refl) r;
+            known = subst (AreHeld (held_by n.locks)) (sym (locked_looked (ready_kept notes) u n h.apart y.has y.of)) (held_then no_locks n.locks [] (λ q. refl, tt));
           })
 
   beyond : (u : TransId) (x : Life) → lives_noted (ready_kept notes) u ≡ Some x → PutNoneBeyond server epoch 0 x.edits
@@ -167,13 +167,14 @@ module _ (tells : Bool) (server servers area : ℕ) (sizes : Sizes) (epoch clock
     fit = opening_fits server servers area sizes epoch clock cells notes h later;
     fit_decided = opening_decided_fits server servers area sizes epoch clock cells notes h later;
     lives = left_life;
-    counts = λ u x n live has at. ap (λ (rs : List Resource). length rs) (sym (locked_looked (ready_kept notes) u n h.apart has at));
     fates = λ u. (elim (fate_or (decisions_kept notes) u) [
       | inl none ↦ subst IsAtRest (sym none) tt
       | inr y ↦ subst IsAtRest (sym y.says) refl
     ]);
-    joins = joins_are tells server servers area sizes epoch clock cells notes h later l t k c f;
-    applied = λ u stamp js now is. absurd (differ (decision_in (fate_noted (decisions_kept notes) u)) (stamp, js) (ap decision_in (undecided u now)) is);
+    phases = λ j. (elim (phase_or (ready_kept notes) j) [
+      | inl none ↦ subst IsNotOpen (sym none) tt
+      | inr y ↦ subst IsNotOpen (sym y.says) tt
+    ]);
     unborn = beyond;
     made = record { early = []; old = tt; all = refl };
     born = none_born server epoch (clock_before epoch notes).epoch cells own later;

@@ -344,7 +344,7 @@ module _ (tells : Bool) (server servers area : ℕ) (sizes : Sizes) (epoch clock
     format = h.format;
   }
 
-  pub found_noted : AreNoted server servers (clock_before epoch notes).epoch l k c notes
+  pub found_noted : AreNoted server servers (clock_kept notes).epoch l k c notes
   found_noted = record { epoch = refl; ready = found_keeps.ready; decided = found_keeps.decided; format = h.format }
 
   abbrev notes_then : Notes
@@ -384,11 +384,11 @@ module _ (tells : Bool) (server servers area : ℕ) (sizes : Sizes) (epoch clock
 
   -- the clock may be raised
   pub raise_changes : clock_form.Fits (record { epoch = epoch; clock = clock }) → AreNoteChanges server servers notes (clock_put (record { epoch = epoch; clock = clock }) ∷ [])
-  raise_changes fits = clock_changes server servers notes (record { epoch = epoch; clock = clock }) h.format (raised_noted fits).format (notes_few server servers (clock_before epoch notes).epoch l k c notes found_noted counted_most)
+  raise_changes fits = clock_changes server servers notes (record { epoch = epoch; clock = clock }) h.format (raised_noted fits).format (notes_few server servers (clock_kept notes).epoch l k c notes found_noted counted_most)
 
   pub raise_room : record_pages (live_bytes notes) + record_pages (commit_bytes 0 (clock_put (record { epoch = epoch; clock = clock }) ∷ [])) ≤ area
   raise_room =
-      small_room server servers (clock_before epoch notes).epoch l k c notes found_noted counted_most area (ready_room l k.lives).greatest (sum_by (λ (n : NoteChange). noted_bytes n.name n.value) (clock_put (record { epoch = epoch; clock = clock }) ∷ []))
+      small_room server servers (clock_kept notes).epoch l k c notes found_noted counted_most area (ready_room l k.lives).greatest (sum_by (λ (n : NoteChange). noted_bytes n.name n.value) (clock_put (record { epoch = epoch; clock = clock }) ∷ []))
       log_fits (omega (arith, clock_length (record { epoch = epoch; clock = clock })))
 
   within_limits : (u : TransId) (x : Live) → map.get l u ≡ Some x → sizes.area ≡ area → IsWithin sizes x

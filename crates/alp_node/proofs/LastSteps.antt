@@ -1,21 +1,19 @@
 -- with the last vote from elsewhere this server votes for the commit: the intents of its part, the clock and the note of the decision stand
 -- in one write, and all parts elsewhere are told
-use Rattle.std.specs.Prelude.{cond, Bool, true, false, ◌==◌, ◌&&◌, max, sum_by, flat_map, IsTrue, Option, None, Some, is_some, Result, Ok}
-use Rattle.std.specs.List.{list_any, list_all, AllByRecursion}
+use Rattle.std.specs.Prelude.{cond, Bool, true, false, ◌==◌, max, sum_by, flat_map, IsTrue, Option, None, Some, is_some, Ok}
+use Rattle.std.specs.List.{list_any, list_all}
 use Rattle.std.specs.FinMap as map
 use Rattle.std.specs.FinMap.Entries as entries
 use Rattle.std.specs.FinMap.Entries.{put}
-use Rattle.std.proofs.Common.{◌≡◌, ℕ, ◌+◌, ◌*◌, ◌^◌, ◌<◌, ◌≤◌, List, [], ◌∷◌, ◌++◌, append-nil, length, suc, refl, sym, ◌∙◌, ap, subst, arith, eq-eqb}
+use Rattle.std.proofs.Common.{◌≡◌, ℕ, ◌+◌, ◌*◌, ◌^◌, ◌<◌, ◌≤◌, List, [], ◌∷◌, ◌++◌, append-nil, length, refl, sym, ◌∙◌, ap, subst, arith, eq-eqb}
 use Rattle.std.proofs.lemmas.Bool.{and_parts}
 use Rattle.alp_base.specs.Notes.{Notes, noted, notes_after}
-use Rattle.alp_base.specs.declared.allowance.Allowance.{Allowance}
 use Rattle.alp_base.specs.declared.bytes.NoteChange.{NoteChange}
 use Rattle.alp_base.specs.declared.ids.JoinNo.{JoinNo}
 use Rattle.alp_base.specs.declared.ids.Stamp.{Stamp}
 use Rattle.alp_base.specs.declared.ids.TransId.{TransId}
 use Rattle.alp_base.specs.declared.key.Key.{Key}
 use Rattle.alp_fields.specs.ClockNote.{clock_name, clock_form}
-use Rattle.alp_fields.specs.declared.clock_note.ClockNote.{ClockNote}
 use Rattle.alp_fields.specs.DecisionNote.{decision_name, decision_form, decision_noted}
 use Rattle.alp_fields.specs.declared.decision_note.Decision.{Decision}
 use Rattle.alp_files.specs.Cells.{Cells}
@@ -30,19 +28,18 @@ use Rattle.alp_journal.specs.declared.event.Event.{Event}
 use Rattle.alp_journal.specs.declared.event.Event.TheVariants as event
 use Rattle.alp_journal.specs.declared.message.Message.{Message}
 use Rattle.alp_journal.specs.declared.message.Message.TheVariants as msg
-use Rattle.alp_journal.specs.Account.{Account, state_of, AreEarlier, IsQuiet, Leads, grant_acts, sent_acts, with_granted, granted_calls}
+use Rattle.alp_journal.specs.Account.{Account, state_of, AreEarlier, IsQuiet, Leads, grant_acts, with_granted, granted_calls}
 use Rattle.alp_journal.specs.Along.{Along, state_after}
 use Rattle.alp_journal.specs.Answered.{IsWalk, in_turn}
-use Rattle.alp_journal.specs.Coordinator.{Fate, Finishing, Committed, Vote, client_of, decision_in, joins_of, votes_in, with_vote}
+use Rattle.alp_journal.specs.Coordinator.{Fate, Finishing, Vote, client_of, decision_in, joins_of, votes_in, with_vote}
 use Rattle.alp_journal.specs.Coordinator as fate
 use Rattle.alp_journal.specs.Counts.{lock_set}
 use Rattle.alp_journal.specs.Deeds.{Deed, Decides, Hears, Releases}
 use Rattle.alp_journal.specs.Holder.{Holder, Life, commits, with_life}
 use Rattle.alp_journal.specs.Ids.{has_join, same_trans, stamp_cmp}
 use Rattle.alp_journal.specs.Laws.{IsLawfulDeed, latest_vote}
-use Rattle.alp_journal.specs.Messages.{Mail, has_all_votes, to_each, why_not_own}
+use Rattle.alp_journal.specs.Messages.{has_all_votes, why_not_own}
 use Rattle.alp_journal.specs.Moves.{act_deeds, abort_in, ends_for, first_sent, hears, is_stop, tried}
-use Rattle.alp_journal.specs.Participant.{Phase}
 use Rattle.alp_journal.specs.State.{State, state_deed}
 use Rattle.alp_journal.proofs.DecideSteps.{decide_leads}
 use Rattle.alp_journal.proofs.HaltSteps.{stop_of, stop_entry, with_stop, vote_stop_leads}
@@ -51,8 +48,6 @@ use Rattle.alp_calls.proofs.PartLaws.{same_change}
 use Rattle.alp_coord.specs.declared.answers.Ballot.TheVariants as ballot
 use Rattle.alp_coord.specs.declared.coordinator.Coordinator.{Coordinator}
 use Rattle.alp_coord.specs.Coordinators.{IsAlong, Comes, ComesLike, ballot_of, count_of, epoch_of, fate_in, server_of}
-use Rattle.alp_locks.specs.Releases.{released}
-use Rattle.alp_locks.proofs.WalkLemmas.{released-length}
 use Rattle.alp_vault.specs.Contents.{Contents}
 use Rattle.alp_vault.specs.Volumes.{AreNoteChanges, is_another, noted_bytes}
 use Rattle.alp_vault.specs.declared.vault.Vault.{Ghosts}
@@ -60,7 +55,6 @@ use Rattle.alp_worker.specs.Rooms.{applying_of}
 use Rattle.alp_node.specs.Durable.{AreNotesOf, IsSaidBy, IsStoredBy, IsWritten}
 use Rattle.alp_node.specs.EarlyFates.{IsEarlyFate, IsToDecide}
 use Rattle.alp_node.specs.Eases.{eased, new_blocks}
-use Rattle.alp_node.specs.Halts.{HaveCauses}
 use Rattle.alp_node.specs.Noted.{AreNoted, AreNotesFor, decision_kept, size_in, size_of}
 use Rattle.alp_node.specs.Releases.{granted_behind, let_go}
 use Rattle.alp_node.specs.Says.{said_each}
@@ -82,7 +76,7 @@ use Rattle.alp_node.proofs.EndingLemmas.{said_is}
 use Rattle.alp_node.proofs.FatedLemmas.{fated_like, fated_noted, fated_ready}
 use Rattle.alp_node.proofs.FewJoins.{few_joins, others_another}
 use Rattle.alp_node.proofs.KeptLemmas.{IsLive, live_there, earlier_more}
-use Rattle.alp_node.proofs.LastVotes.{IsLast, is_last, its_join, last_by, last_decided, last_kept, last_lets, last_told, latest_above, latest_low, latest_timely, others_kept}
+use Rattle.alp_node.proofs.LastVotes.{IsLast, is_last, last_by, last_decided, last_kept, last_lets, last_told, latest_above, latest_low, latest_timely, others_kept}
 use Rattle.alp_node.proofs.LetGoWrites.{grants_bring, lets, lets_cells, lets_notes, said_notes}
 use Rattle.alp_node.proofs.LogLemmas.{commit_room, notes_few}
 use Rattle.alp_node.proofs.MadeAs.{Made, earlier_put, made_as, made_blocks, made_gone, state_made, woken_calls}
@@ -91,19 +85,8 @@ use Rattle.alp_node.proofs.NotedLemmas.{noted_on, voters_same, voters_then}
 use Rattle.alp_node.proofs.PairedLemmas.{running_part}
 use Rattle.alp_node.proofs.ReadyLemmas.{LetsPart, own_lets, ready_with, stepped_ready}
 use Rattle.alp_node.proofs.ReleaseLemmas.{let_go_of, let_go_ready, let_go_voters, grants_go_with, grants_caused_with}
-use Rattle.alp_node.proofs.TransactionLemmas.{LetsGo, run_along}
+use Rattle.alp_node.proofs.TransactionLemmas.{run_along}
 use Rattle.alp_node.proofs.WriteSteps.{HasCome, IsStop, written_stepped}
-
--- no more are granted than wait
-pub grants_length : (ts : List TransId) → length (grant_acts ts) ≡ length ts
-grants_length [] = refl
-grants_length (t ∷ ts) = ap suc (grants_length ts)
-
-pub few_granted : {V : Type 0} (n : ℕ) (serves : Bool) (k : ServerState V) (t : TransId) → IsReady n serves k → length (granted_behind k t) ≤ length k.locks.waiting
-few_granted n serves k t h =
-    let all : length (released k.locks t).waiting + length (released k.locks t).woken ≤ length k.locks.waiting + length k.locks.woken = released-length k.locks t in
-    let none : length k.locks.woken ≡ 0 = ap (λ (ts : List TransId). length ts) h.taken in
-    omega (arith, all, none)
 
 -- no grant is the word of an end, nor is a commit
 first_behind : (f : Message → Option Cause) (ts : List TransId) (acts : List Act) → first_sent f (grant_acts ts ++ acts) ≡ first_sent f acts

@@ -1,14 +1,12 @@
 -- the last vote from elsewhere: what is known of its transaction, and what becomes of that as it is heard and decided
-use Rattle.std.specs.Prelude.{cond, Bool, true, false, ◌==◌, ◌&&◌, max, Option, None, Some}
+use Rattle.std.specs.Prelude.{cond, Bool, true, false, ◌&&◌, max, Option, None, Some}
 use Rattle.std.specs.List.{list_all}
 use Rattle.std.proofs.lemmas.Bool.{and_parts}
 use Rattle.std.proofs.Common.{◌≡◌, ℕ, ◌+◌, ◌^◌, ◌≤◌, List, [], ◌∷◌, ◌++◌, refl, sym, ◌∙◌, ap, subst, arith}
 use Rattle.alp_base.specs.declared.ids.JoinNo.{JoinNo}
 use Rattle.alp_base.specs.declared.ids.Stamp.{Stamp}
 use Rattle.alp_base.specs.declared.ids.TransId.{TransId}
-use Rattle.alp_fields.specs.declared.decision_note.Decision.{Decision}
-use Rattle.alp_journal.specs.Account.{Account}
-use Rattle.alp_journal.specs.Coordinator.{Fate, Undrawn, Running, Finishing, Committed, Forgotten, Ended, Vote, client_of, decision_in, fate_after, has_votes, joins_of, votes_in, voted, with_vote}
+use Rattle.alp_journal.specs.Coordinator.{Fate, Undrawn, Running, Finishing, Committed, Forgotten, Ended, Vote, decision_in, fate_after, has_votes, joins_of, votes_in, voted, with_vote}
 use Rattle.alp_journal.specs.Coordinator as fate
 use Rattle.alp_journal.specs.Deeds.{Decides, Finishes, Hears}
 use Rattle.alp_journal.specs.Ids.{has_join, same_trans}
@@ -23,12 +21,9 @@ use Rattle.alp_coord.specs.Likeness.{IsFateOf, IsLike}
 use Rattle.alp_coord.specs.Likeness as like
 use Rattle.alp_coord.proofs.LikeLemmas.{like-joins, like-votes}
 use Rattle.alp_coord.proofs.TieLemmas.{known-after, known-ballot}
-use Rattle.alp_vault.specs.Contents.{Contents}
-use Rattle.alp_node.specs.EarlyFates.{IsToDecide}
 use Rattle.alp_node.specs.Noted.{decision_kept}
-use Rattle.alp_node.specs.ServerState.{IsAs}
 use Rattle.alp_node.specs.Transactions.{AreDecidedBy, IsCoordinatorBy}
-use Rattle.alp_node.specs.declared.server_state.ServerState.{ServerState}
+use Rattle.alp_node.proofs.EarlyLemmas.{latest-last, latest-with}
 use Rattle.alp_node.proofs.LapseLemmas.{IsFinishingSo, finishing_told}
 use Rattle.alp_node.proofs.TransactionLemmas.{LetsGo, lets_decide, run_along}
 
@@ -40,14 +35,6 @@ latest_from n (v ∷ vs) =
     let here : latest_vote (max n v.1) vs ≡ max (max n v.1) (latest_vote 0 vs) = latest_from (max n v.1) vs in
     let there : latest_vote (max 0 v.1) vs ≡ max (max 0 v.1) (latest_vote 0 vs) = latest_from (max 0 v.1) vs in
     omega (arith, here, there)
-
-latest_last : (n : ℕ) (vs : List Vote) (v : Vote) → latest_vote n (vs ++ v ∷ []) ≡ max (latest_vote n vs) v.1
-latest_last n [] v = refl
-latest_last n (w ∷ vs) v = latest_last (max n w.1) vs v
-
-latest_with : (b : Bool) (vs : List Vote) (v : Vote) → latest_vote 0 vs ≤ 2 ^ 62 → v.1 ≤ 2 ^ 62 → latest_vote 0 (cond {A = List Vote} b vs (vs ++ v ∷ [])) ≤ 2 ^ 62
-latest_with true vs v low new = low
-latest_with false vs v low new = (let same : latest_vote 0 (vs ++ v ∷ []) ≡ max (latest_vote 0 vs) v.1 = latest_last 0 vs v in omega (arith, same, low, new))
 
 -- ---- with it all have voted
 
@@ -101,7 +88,7 @@ module _ (j : JoinNo) (ts least latest : ℕ) (f : Fate) (o : IsLast j ts least 
   latest_low before now end =
       let from : latest_vote least (with_vote j ts o.votes) ≡ max least (latest_vote 0 (with_vote j ts o.votes)) = latest_from least (with_vote j ts o.votes) in
       let time : latest ≡ latest_vote least (with_vote j ts o.votes) = o.time in
-      let low : latest_vote 0 (with_vote j ts o.votes) ≤ 2 ^ 62 = latest_with (voted j o.votes) o.votes (j, ts) before now in
+      let low : latest_vote 0 (with_vote j ts o.votes) ≤ 2 ^ 62 = latest-with (voted j o.votes) o.votes (j, ts) before now in
       omega (arith, from, time, low, end)
 
   -- it is no later than one may be behind the votes that the transaction had
@@ -115,7 +102,7 @@ module _ (j : JoinNo) (ts least latest : ℕ) (f : Fate) (o : IsLast j ts least 
     where
       go : (b : Bool) → latest_vote 0 (cond {A = List Vote} b o.votes (o.votes ++ (j, ts) ∷ [])) ≤ max ts (latest_vote 0 o.votes)
       go true = omega arith
-      go false = (let same : latest_vote 0 (o.votes ++ (j, ts) ∷ []) ≡ max (latest_vote 0 o.votes) ts = latest_last 0 o.votes (j, ts) in omega (arith, same))
+      go false = (let same : latest_vote 0 (o.votes ++ (j, ts) ∷ []) ≡ max (latest_vote 0 o.votes) ts = latest-last 0 o.votes (j, ts) in omega (arith, same))
 
 -- the journal says so too
 pub last_told : (epoch : ℕ) (t : TransId) (j : JoinNo) (ts least latest : ℕ) (known told : Fate) (o : IsLast j ts least latest known) → IsFateOf epoch t known told → ballot_of j ts least known ≡ ballot.Last latest

@@ -96,6 +96,7 @@ pub mod StopLemmas
 pub mod PastLemmas
 pub mod DownLemmas
 pub mod RaiseLemmas
+mod RestartTold
 pub mod RestLemmas
 pub mod LeastOpens
 pub mod NoteLemmas

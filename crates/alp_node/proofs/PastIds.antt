@@ -58,4 +58,3 @@ unsaid servers server epoch begun t (Finishing c js vs) now h = absurd (none_dra
 unsaid servers server epoch begun t (Committed stamp js ds) now h = absurd (none_drawn server epoch t now h.0.0)
 unsaid servers server epoch begun t (Forgotten stamp js) now h = absurd (none_drawn server epoch t now h.0.0)
 unsaid servers server epoch begun t (Ended c) now h = absurd (none_drawn server epoch t now h.0)
-

@@ -1,5 +1,5 @@
 -- what stays of a server that fell, and what a restart finds made of what it went down in
-use Rattle.std.specs.Prelude.{cond, max, Bool, true, false, ◌||◌, Option, None, Some}
+use Rattle.std.specs.Prelude.{cond, max, Bool, true, false, ◌==◌, ◌||◌, Option, None, Some}
 use Rattle.std.specs.List.{list_any}
 use Rattle.std.specs.FinMap as map
 use Rattle.std.specs.FinMap.Entries.{put}
@@ -363,7 +363,7 @@ module _ (a : Account) (server servers epoch : ℕ) (sizes : Sizes) (past : IsPa
           go false e = refl
           go true e =
               let wrong : true ≡ false = sym h ∙ notes.decided x ∙ ap (λ (u : TransId). is_standing x (cond {A = Fate} (same_trans c.trans u) (Forgotten c.stamp c.joins) (a.fates u))) (same_trans-true x.trans c.trans e)
-                  ∙ ap (λ (b : Bool). is_standing x (cond {A = Fate} b (Forgotten c.stamp c.joins) (a.fates c.trans))) (same_trans-itself c.trans) in
+              ∙ ap (λ (b : Bool). is_standing x (cond {A = Fate} b (Forgotten c.stamp c.joins) (a.fates c.trans))) (same_trans-itself c.trans) in
               cc
 
   -- ---- a join that is over

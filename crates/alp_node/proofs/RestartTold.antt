@@ -260,31 +260,31 @@ live_seen p is some = by (sym (ap (λ (q : Phase). is_some (live_in q)) is) ∙ 
 
 -- ---- what is found
 
-module _ (a : Account) (server servers last : ℕ) (sizes : Sizes) (past : IsPast a server servers last sizes) (some : 0 < last) (s : State) (as : IsFoundAs a s) (near : ℕ) (found : Contents) (stored : IsStoredBy near s found) (epoch area : ℕ) (at : epoch ≡ last + 1)
+module _ (a : Account) (server servers last : ℕ) (sizes : Sizes) (past : IsPast a server servers last sizes) (some : 0 < last) (s : State) (it : IsFoundAs a s) (near : ℕ) (found : Contents) (stored : IsStoredBy near s found) (epoch area : ℕ) (at : epoch ≡ last + 1)
     (alone : AreNotesTogether server servers epoch area found.notes) (later : (clock_before epoch found.notes).epoch < epoch) where
   abbrev b : Account
-  b = as.account
+  b = it.account
 
   abbrev notes : Notes
   notes = found.notes
 
   abbrev m : Account
-  m = restarted_at as.account as.clock
+  m = restarted_at it.account it.clock
 
-  pub clock_found : as.clock ≡ (clock_kept notes).clock
-  clock_found = sym as.last.kept ∙ ap (λ (c : ClockNote). c.clock) (sym stored.notes.clock)
+  pub clock_found : it.clock ≡ (clock_kept notes).clock
+  clock_found = sym it.last.kept ∙ ap (λ (c : ClockNote). c.clock) (sym stored.notes.clock)
 
   ready_before : (j : JoinNo) → ready_name.Fits j → IsReadyNote s.holder.lives (b.phases j) (ready_at notes j)
-  ready_before j fits = subst (λ (p : Phase). IsReadyNote s.holder.lives p (ready_at notes j)) (as.last.phases j) (stored.notes.ready j fits)
+  ready_before j fits = subst (λ (p : Phase). IsReadyNote s.holder.lives p (ready_at notes j)) (it.last.phases j) (stored.notes.ready j fits)
 
   fits_before : (j : JoinNo) → is_ready (b.phases j) ≡ true → ready_name.Fits j
-  fits_before j is = stored.notes.fit j (ap is_ready (as.last.phases j) ∙ is)
+  fits_before j is = stored.notes.fit j (ap is_ready (it.last.phases j) ∙ is)
 
   kept_before : (u : TransId) → decision_name.Fits u → decision_at notes u ≡ decision_kept (b.fates u)
-  kept_before u fits = stored.notes.decided u fits ∙ ap decision_kept (as.last.fates u)
+  kept_before u fits = stored.notes.decided u fits ∙ ap decision_kept (it.last.fates u)
 
   fits_kept : (u : TransId) → is_some (decision_kept (b.fates u)) ≡ true → decision_name.Fits u
-  fits_kept u is = stored.notes.fit_decided u (ap (λ (f : Fate). is_some (decision_kept f)) (as.last.fates u) ∙ is)
+  fits_kept u is = stored.notes.fit_decided u (ap (λ (f : Fate). is_some (decision_kept f)) (it.last.fates u) ∙ is)
 
   -- a join that is ready has its note
   ready_noted : (j : JoinNo) → is_ready (b.phases j) ≡ true → (p : ReadyPart) × (ready_at notes j ≡ Some p)
@@ -326,7 +326,7 @@ module _ (a : Account) (server servers last : ℕ) (sizes : Sizes) (past : IsPas
           let is : IsDecisionAt notes d.0 = decision_stands notes d.0 d.1 in
           let of : d.0.stamp.trans ≡ x.trans = same_trans-true d.0.stamp.trans x.trans both.1 in
           let kept : decision_kept (b.fates x.trans) ≡ Some is.decision = ap (λ (u : TransId). decision_kept (b.fates u)) (sym of) ∙ sym (kept_before d.0.stamp.trans is.named) ∙ is.at in
-          kept_stands (b.fates x.trans) is.decision x kept (is.ts ∙ eqb-true d.0.stamp.ts x.ts both.0) (λ stamp js ds e. as.so.own x.trans stamp js ds e)
+          kept_stands (b.fates x.trans) is.decision x kept (is.ts ∙ eqb-true d.0.stamp.ts x.ts both.0) (λ stamp js ds e. it.so.own x.trans stamp js ds e)
 
       has_decision : (x : Stamp) → is_standing x (b.fates x.trans) ≡ true → has_stamp x (stamps_noted (decisions_kept notes)) ≡ true
       has_decision x h =
@@ -335,8 +335,8 @@ module _ (a : Account) (server servers last : ℕ) (sizes : Sizes) (past : IsPas
           let has = decision_has notes x.trans k.decision fits (kept_before x.trans fits ∙ k.kept) in
           has_stamped x (record { stamp = record { ts = k.decision.ts; trans = x.trans }; joins = k.decision.joins }) (decisions_kept notes) (and_from (k.decision.ts == x.ts) (same_trans x.trans x.trans) k.time (same_trans-itself x.trans)) has
 
-  pub found_leads : Leads false a (restart_entry a as.clock (joins_noted (ready_kept notes)) (stamps_noted (decisions_kept notes))) m
-  found_leads = as.so.leads (joins_noted (ready_kept notes)) (stamps_noted (decisions_kept notes)) found_noted
+  pub found_leads : Leads false a (restart_entry a it.clock (joins_noted (ready_kept notes)) (stamps_noted (decisions_kept notes))) m
+  found_leads = it.so.leads (joins_noted (ready_kept notes)) (stamps_noted (decisions_kept notes)) found_noted
 
   abbrev quiet : IsQuiet m
   quiet = found_leads.quiet
@@ -348,19 +348,19 @@ module _ (a : Account) (server servers last : ℕ) (sizes : Sizes) (past : IsPas
 
   module _ (tells : Bool) (l : LiveMap) (t : Table) (k : Joins) (c : Coordinator) (f : IsFoundIn tells found.cells server epoch found.notes l t k c) (volume : IsVolumeOf sizes found.cells) (time : ℕ) (time_is : time ≡ (clock_kept notes).clock) where
     number_is : m.holder.server ≡ server
-    number_is = as.so.number ∙ past.number
+    number_is = it.so.number ∙ past.number
 
     epoch_is : b.ids.epoch + 1 ≡ epoch
-    epoch_is = ap (λ (i : Ids). i.epoch + 1) as.so.now ∙ ap (λ (n : ℕ). n + 1) past.now ∙ sym at
+    epoch_is = ap (λ (i : Ids). i.epoch + 1) it.so.now ∙ ap (λ (n : ℕ). n + 1) past.now ∙ sym at
 
     ids_is : m.ids ≡ record { epoch = epoch; transactions = 0; joins = 0; files = 0 }
     ids_is = λ i. record { epoch = epoch_is i; transactions = 0; joins = 0; files = 0 }
 
     cells_is : m.holder.cells ≡ found.cells
-    cells_is = sym (stored.cells ∙ as.last.cells)
+    cells_is = sym (stored.cells ∙ it.last.cells)
 
     ready_is : (j : JoinNo) → ready_name.Fits j → IsReadyNote m.holder.lives (m.phases j) (ready_at notes j)
-    ready_is j fits = ready_again s.holder.lives b.holder.lives as.last.lives j (b.phases j) (ready_at notes j) (stands.held j) (ready_before j fits)
+    ready_is j fits = ready_again s.holder.lives b.holder.lives it.last.lives j (b.phases j) (ready_at notes j) (stands.held j) (ready_before j fits)
 
     -- ---- its joins
 
@@ -417,13 +417,13 @@ module _ (a : Account) (server servers last : ℕ) (sizes : Sizes) (past : IsPas
     lives_is : (u : TransId) (x : Life) → m.holder.lives u ≡ Some x → IsLeftLife x (m.locked u)
     lives_is u x is =
         let v : IsVoted (b.holder.lives u) x (b.locked u) = life_was u x is in
-        let p : IsPartPast x (b.locked u) = (as.so.parts u x v.was).0 in
+        let p : IsPartPast x (b.locked u) = (it.so.parts u x v.was).0 in
         subst (IsLeftLife x) (sym v.locks) (record { vote = v.vote; voted = v.voted; within = p.within; intended = p.intended; sized = p.sized; known = p.known })
 
     counts_is : (u : TransId) (x : Life) (n : ReadyNote) → m.holder.lives u ≡ Some x → Has n (ready_kept notes) → n.trans ≡ u → length (with_resources n.locks []) ≡ length (m.locked u)
     counts_is u x n is has its =
         let v : IsVoted (b.holder.lives u) x (b.locked u) = life_was u x is in
-        let p : IsPartPast x (b.locked u) = (as.so.parts u x v.was).0 in
+        let p : IsPartPast x (b.locked u) = (it.so.parts u x v.was).0 in
         let r : IsReadyAt notes n = ready_stands notes n has in
         let nk : IsNoteKept m.holder.lives (m.phases n.join) r.part = note_kept m.holder.lives (m.phases n.join) r.part (subst (IsReadyNote m.holder.lives (m.phases n.join)) r.at (ready_is n.join r.named)) in
         let one : nk.life ≡ x = same-some nk.life x (sym nk.live ∙ ap m.holder.lives (ap (λ (y : ReadyNote). y.trans) r.same ∙ its) ∙ is) in
@@ -436,13 +436,13 @@ module _ (a : Account) (server servers last : ℕ) (sizes : Sizes) (past : IsPas
     -- ---- its files
 
     comes_before : (g : FileId) → IsToCome m.holder.server m.ids.epoch 0 g → IsToCome a.holder.server a.ids.epoch a.ids.files g
-    comes_before g comes = comes_after a.holder.server a.ids.epoch a.ids.files g (subst (λ (i : Ids). IsToCome a.holder.server (i.epoch + 1) 0 g) as.so.now (subst (λ (n : ℕ). IsToCome n (b.ids.epoch + 1) 0 g) as.so.number comes))
+    comes_before g comes = comes_after a.holder.server a.ids.epoch a.ids.files g (subst (λ (i : Ids). IsToCome a.holder.server (i.epoch + 1) 0 g) it.so.now (subst (λ (n : ℕ). IsToCome n (b.ids.epoch + 1) 0 g) it.so.number comes))
 
     made_is : AreMade m.holder.server m.ids.epoch 0 m.holder.made
     made_is =
-        subst (λ (n : ℕ). AreMade n (b.ids.epoch + 1) 0 b.holder.made) (sym as.so.number)
-        (subst (λ (i : Ids). AreMade a.holder.server (i.epoch + 1) 0 b.holder.made) (sym as.so.now)
-        (subst (λ (fs : List FileId). AreMade a.holder.server (a.ids.epoch + 1) 0 fs) (sym as.so.made)
+        subst (λ (n : ℕ). AreMade n (b.ids.epoch + 1) 0 b.holder.made) (sym it.so.number)
+        (subst (λ (i : Ids). AreMade a.holder.server (i.epoch + 1) 0 b.holder.made) (sym it.so.now)
+        (subst (λ (fs : List FileId). AreMade a.holder.server (a.ids.epoch + 1) 0 fs) (sym it.so.made)
         (made_again a.holder.server a.ids.epoch a.ids.files a.holder.made (subst (λ (n : ℕ). 0 < n) (sym past.now) some) past.made)))
 
     -- ---- all of it
@@ -450,8 +450,8 @@ module _ (a : Account) (server servers last : ℕ) (sizes : Sizes) (past : IsPas
     pub found_told : IsTold tells server servers area sizes epoch time found.cells notes alone later l t k c f m
     found_told = record {
       server_is = number_is;
-      servers_is = as.so.among ∙ past.among;
-      sizes_is = as.so.volume ∙ past.volume;
+      servers_is = it.so.among ∙ past.among;
+      sizes_is = it.so.volume ∙ past.volume;
       ids_is = ids_is;
       clock_is = clock_found ∙ sym time_is;
       kept_is = clock_found ∙ sym time_is;
@@ -470,9 +470,9 @@ module _ (a : Account) (server servers last : ℕ) (sizes : Sizes) (past : IsPas
       fates = λ u. at_rest (b.ids.epoch + 1) (b.fates u);
       joins = joins_is;
       applied = λ u stamp js now is. absurd (differ (decision_in (m.fates u)) (stamp, js) (ap decision_in (unsaid m.servers m.holder.server m.ids.epoch m.begun u (m.fates u) now (stands.fates u))) is);
-      unborn = λ u x is g comes. (as.so.parts u x (life_was u x is).was).1 g (comes_before g comes);
+      unborn = λ u x is g comes. (it.so.parts u x (life_was u x is).was).1 g (comes_before g comes);
       made = made_is;
-      born = λ g comes. as.so.born g (comes_before g comes);
-      earlier = as.so.earlier;
+      born = λ g comes. it.so.born g (comes_before g comes);
+      earlier = it.so.earlier;
       quiet = quiet;
     }

@@ -227,8 +227,13 @@ module _ (m : Cells) (lives : TransId → Option Life) (h : KeepApart m lives) w
       go true w (inl r) = absurd (two_apart u r.0 (other r.0 r.1) k (may_is (lives u) k w) (may_is (lives r.0) k r.2))
       go true w (inr r) = inl (u, head, w, λ x. split x ∙ r.1 (edits_map (edits_in (lives u)) x))
       go false w (inl r) =
-          inl (r.0, tail r.0 r.1, r.2, λ x. split x ∙ r.3 (edits_map (edits_in (lives u)) x)
-            ∙ same_map_where (λ q. q ≡ k) (edits_in (lives r.0)) (edits_map (edits_in (lives u)) x) x (λ q e. subst (λ (z : Key). map.get (edits_map (edits_in (lives u)) x) z ≡ map.get x z) (sym e) (unwritten u k w x)) k refl)
+          inl (
+            r.0,
+            tail r.0 r.1,
+            r.2,
+            λ x. split x ∙ r.3 (edits_map (edits_in (lives u)) x)
+                ∙ same_map_where (λ q. q ≡ k) (edits_in (lives r.0)) (edits_map (edits_in (lives u)) x) x (λ q e. subst (λ (z : Key). map.get (edits_map (edits_in (lives u)) x) z ≡ map.get x z) (sym e) (unwritten u k w x)) k refl,
+          )
       go false w (inr r) = inr (λ t there. in_rest w t r.0 there, λ x. split x ∙ r.1 (edits_map (edits_in (lives u)) x) ∙ unwritten u k w x)
 
 -- ---- files are well formed

@@ -303,12 +303,13 @@ module _ {V : Type 0} (G : Ghosts V) (old mid new : V) (left : IsLeft G old mid)
 
   pub put_cause : (f : StoreFault) (v : VaultFault) → (v ≡ vault_fault.Failed → f ≡ store_fault.Failed) → (v ≡ vault_fault.Stopped → f ≡ store_fault.Stopped) → Ends {T = Unit {0}} G mid new (Err f)
       → HasFaultCause (G.faults old) (G.faults new) (G.allowance new) v × (G.faults old ≤ G.faults new)
-  put_cause f v failed stopped ended =
-      (record {
-        failed = λ e. subst (λ (n : ℕ). Rose n (G.faults new)) count (ended_as store_fault.Failed (failed e)).1;
-        stopped = λ e. (ended_as store_fault.Stopped (stopped e)).1;
-      },
-      subst (λ (n : ℕ). n ≤ G.faults new) count (ends_later G mid new f ended))
+  put_cause f v failed stopped ended = (
+    record {
+      failed = λ e. subst (λ (n : ℕ). Rose n (G.faults new)) count (ended_as store_fault.Failed (failed e)).1;
+      stopped = λ e. (ended_as store_fault.Stopped (stopped e)).1;
+    },
+    subst (λ (n : ℕ). n ≤ G.faults new) count (ends_later G mid new f ended),
+  )
     where
       ended_as : (g : StoreFault) → f ≡ g → Ends {T = Unit {0}} G mid new (Err g)
       ended_as g is = subst (λ (x : StoreFault). Ends {T = Unit {0}} G mid new (Err x)) is ended

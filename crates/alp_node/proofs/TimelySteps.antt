@@ -1,6 +1,6 @@
 -- how far the clock comes with an event, by what the server keeps
 use Rattle.std.specs.Prelude.{Bool, true, false, max, ◌==◌, Option, Result, Ok, Err}
-use Rattle.std.proofs.Common.{◌≡◌, ℕ, ◌+◌, ◌≤◌, List, refl, sym, ap, subst, arith}
+use Rattle.std.proofs.Common.{◌≡◌, ℕ, ◌+◌, ◌≤◌, List, refl, sym, arith}
 use Rattle.alp_base.specs.declared.ids.TransId.{TransId}
 use Rattle.alp_base.specs.declared.memory.OutOfMemory.{OutOfMemory}
 use Rattle.alp_files.specs.declared.reply.Reply.{Reply}
@@ -16,7 +16,6 @@ use Rattle.alp_coord.specs.declared.coordinator.Coordinator.{Coordinator}
 use Rattle.alp_coord.specs.Coordinators.{fate_in}
 use Rattle.alp_coord.specs.Likeness.{IsFateOf, IsLike, IsLikeOld, is_over, standing, nothing}
 use Rattle.alp_coord.specs.Likeness as like
-use Rattle.alp_vault.specs.Contents.{Contents}
 use Rattle.alp_vault.specs.declared.vault.Vault.{Ghosts}
 use Rattle.alp_node.specs.ServerState.{IsAs}
 use Rattle.alp_node.specs.Steps.{IsEntered, seen_with}

@@ -190,6 +190,7 @@ HasRaiseCause G last old new fault.EpochEnd = (last ≡ 4294967295) × (new ≡ 
 -- It serves in the epoch after the last one, at the clock that was found, and this is found in what it held. Through the whole step a
 -- crash leaves what it might have left before, or that with the note of the next epoch.
 pub record HasBegunEpoch {V : Type 0} (G : Ghosts V) (server servers last : ℕ) (old new : V) (clock : ClockNote) (f : Found) : Type 0 where
+  pub low : last < 4294967295
   pub found : Contents
   pub serving : IsTrue (G.serves new)
   pub next : clock ≡ next_clock last found
@@ -232,7 +233,6 @@ pub record HasNotBegun {V : Type 0} (G : Ghosts V) (server servers last : ℕ) (
 
 -- the server that begins the next epoch with what it found, of which the journal has the entry
 pub record HasEntered {V : Type 0} (G : Ghosts V) (server servers last : ℕ) (old : V) (before after : List Entry) (k : ServerState V) : Type 0 where
-  pub low : last < 4294967295
   pub clock : ClockNote
   pub all : Found
   pub begun : HasBegunEpoch G server servers last old k.vault clock all

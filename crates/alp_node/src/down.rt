@@ -152,13 +152,7 @@ fn make_room(alloc: Global, journal: &mut Journal) -> Result<Vec<Act>, OutOfMemo
 }
 
 // The entry of the restart fills the place.
-fn fill(
-    journal: &mut Journal,
-    mut acts: Vec<Act>,
-    clock: ClockNote,
-    ready: Parts,
-    decided: Stamps,
-)
+fn fill(journal: &mut Journal, mut acts: Vec<Act>, clock: ClockNote, ready: Parts, decided: Stamps)
     requires none { acts.items ≡ [] }
     requires room { 1 ≤ vec_capacity acts }
     ensures { (before : List AnEntry) (last : AnEntry) → journal.old ≡ before ++ last ∷ [] → journal.new ≡ before ++ entry_again clock ready decided ∷ [] }

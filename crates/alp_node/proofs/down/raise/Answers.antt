@@ -1,71 +1,105 @@
 use Rattle.std.specs.Prelude.{Err}
-use Rattle.std.proofs.Common.{◌≡◌, arith, refl, ap, sym, subst}
-use Rattle.alp_calls.proofs.PartLaws.{part_begins}
-use Rattle.alp_trans.specs.declared.counts.Counts.{Counts}
-use Rattle.alp_vault.specs.Volumes.{IsVolumeOf}
-use Rattle.alp_node.specs.Halts.{Ends}
-use Rattle.alp_node.specs.declared.start.StartFault.TheVariants as start_fault
+use Rattle.std.proofs.Common.{◌≡◌, ℕ, ◌+◌, ◌<◌, ◌≤◌, ◌^◌, [], ◌∷◌, arith, refl, ap, sym, ◌∙◌, subst}
+use Rattle.alp_base.specs.declared.faults.Sizes.{Sizes}
 use Rattle.alp_base.specs.declared.faults.VaultFault.TheVariants as vault_fault
+use Rattle.alp_calls.specs.Looks.{IsLeft}
+use Rattle.alp_fields.specs.ClockNote.{clock_form}
+use Rattle.alp_fields.specs.declared.clock_note.ClockNote.{ClockNote}
+use Rattle.alp_vault.specs.Contents.{Contents}
+use Rattle.alp_vault.specs.Volumes.{AreNoteChanges, record_pages, live_bytes, commit_bytes}
+use Rattle.alp_node.specs.Starts.{PutsClock}
+use Rattle.alp_node.specs.Writes.{clock_put}
 use Rattle.alp_node.specs.declared.stored.StoreFault.{StoreFault}
 use Rattle.alp_node.specs.declared.stored.StoreFault.TheVariants as store_fault
-use Rattle.alp_node.proofs.StartLemmas.{no_change}
-use Rattle.alp_node.proofs.RaiseLemmas.{no_next, raised_whole, not_raised, not_written, write_refused, still_free}
+use Rattle.alp_node.proofs.ClockLaws.{time_fits}
+use Rattle.alp_node.proofs.FoundReady.{raise_changes, raise_room}
+use Rattle.alp_node.proofs.RaiseLemmas.{no_next, not_found, raised_whole, not_raised, not_written, next_later}
 use Rattle.alp_node.proofs.down.raise.Goals as goal
 
-pub store-requires-clause-clock : goal.store-requires-clause-clock
-store-requires-clause-clock g c = c.in-Ok.ensures.within
+pub find_all-requires : goal.find_all-requires
+find_all-requires g c = record { serving = c.requires.serving }
 
-pub store-requires-clause-part : goal.store-requires-clause-part
-store-requires-clause-part g c = part_begins c.new.result c.new.ensures.intents c.new.ensures.counts
+pub put_clock-requires-clause-serving : goal.put_clock-requires-clause-serving
+put_clock-requires-clause-serving g c = c.in-Ok-find_all.ensures.looked.1
 
-pub store-requires-clause-log : goal.store-requires-clause-log
-store-requires-clause-log g c =
-    let none : c.new.result.counts.cells ≡ 0 = ap (λ (n : Counts). n.cells) c.new.ensures.counts in
-    omega (arith, none, c.knows.ensures.limits.area_least)
+pub put_clock-requires-clause-time : goal.put_clock-requires-clause-time
+put_clock-requires-clause-time g c = c.in-Ok.ensures.within
 
-pub store-requires-clause-format : goal.store-requires-clause-format
-store-requires-clause-format g c = c.in-Ok.ensures.notes
+pub put_clock-requires-clause-noted : goal.put_clock-requires-clause-noted
+put_clock-requires-clause-noted g c =
+    let G = g.V.Vault in
+    let old = c.args.vault in
+    let held : Contents = G.held old in
+    let k : ClockNote = c.in-Ok.clock in
+    let e = c.in-Ok-find_all.ensures in
+    let left : IsLeft G old c.find_all.new.vault = e.looked.0 in
+    let at : k.epoch ≡ c.args.last + 1 = ap (λ (x : ClockNote). x.epoch) c.in-Ok.ensures.next in
+    let low = c.requires.low in
+    let fits : clock_form.Fits k = time_fits k (omega (arith, at, low)) c.in-Ok.ensures.within in
+    let own : AreNoteChanges c.args.of.0 c.args.of.1 held.notes (clock_put k ∷ []) =
+    raise_changes (G.tells old) c.args.of.0 c.args.of.1 (G.volume old).area (G.volume old) k.epoch k.clock held.cells held.notes e.notes (next_later c.args.last held k c.in-Ok.ensures.next) c.in-Ok-find_all.found.lives c.in-Ok-find_all.found.locks
+    c.in-Ok-find_all.found.joins c.in-Ok-find_all.found.coordinator e.found.found fits in
+    subst (λ (x : Contents). AreNoteChanges (G.server c.find_all.new.vault) (G.servers c.find_all.new.vault) x.notes (clock_put k ∷ [])) (sym left.contents)
+    (subst (λ (n : ℕ). AreNoteChanges (G.server c.find_all.new.vault) n held.notes (clock_put k ∷ [])) (sym (left.same.of_all ∙ c.requires.number.1))
+    (subst (λ (n : ℕ). AreNoteChanges n c.args.of.1 held.notes (clock_put k ∷ [])) (sym (left.same.number ∙ c.requires.number.0)) own))
 
-pub store-requires-clause-room : goal.store-requires-clause-room
-store-requires-clause-room g c told =
-    let before = g.V.Vault.held c.args.vault in
-    subst (IsVolumeOf (g.V.Vault.volume c.args.vault)) (sym (no_change before.cells c.new.result c.new.ensures.intents)) (c.knows.ensures.fitting before told (c.knows.ensures.as_held told c.requires.serving))
+pub put_clock-requires-clause-log : goal.put_clock-requires-clause-log
+put_clock-requires-clause-log g c =
+    let G = g.V.Vault in
+    let old = c.args.vault in
+    let held : Contents = G.held old in
+    let k : ClockNote = c.in-Ok.clock in
+    let e = c.in-Ok-find_all.ensures in
+    let left : IsLeft G old c.find_all.new.vault = e.looked.0 in
+    subst (λ (x : Contents). record_pages (live_bytes x.notes) + record_pages (commit_bytes 0 (clock_put k ∷ [])) ≤ (G.volume c.find_all.new.vault).area) (sym left.contents)
+    (subst (λ (s : Sizes). record_pages (live_bytes held.notes) + record_pages (commit_bytes 0 (clock_put k ∷ [])) ≤ s.area) (sym left.same.sizes)
+    (raise_room (G.tells old) c.args.of.0 c.args.of.1 (G.volume old).area (G.volume old) k.epoch k.clock held.cells held.notes e.notes (next_later c.args.last held k c.in-Ok.ensures.next) c.in-Ok-find_all.found.lives c.in-Ok-find_all.found.locks
+    c.in-Ok-find_all.found.joins c.in-Ok-find_all.found.coordinator e.found.found))
 
 pub returns-in-Err : goal.returns-in-Err
-returns-in-Err g c = no_next g.V.Vault c.args.last c.args.vault c.rested.result c.in-Err.fault c.requires.serving (λ told. c.knows.ensures.as_held told c.requires.serving) c.rested.ensures c.in-Err.ensures
+returns-in-Err g c = no_next g.V.Vault c.args.of.0 c.args.of.1 c.args.last c.args.vault c.rested.result c.in-Err.fault c.requires.serving (λ told. c.knows.ensures.as_held told c.requires.serving) c.rested.ensures c.in-Err.ensures
+
+pub returns-in-Err-find_all : goal.returns-in-Err-find_all
+returns-in-Err-find_all g c =
+    not_found g.V.Vault c.args.of.0 c.args.of.1 c.args.last c.in-Ok.clock.epoch c.args.vault c.find_all.new.vault c.rested-in-Err-find_all.result c.in-Err-find_all.fault (ap (λ (x : ClockNote). x.epoch) c.in-Ok.ensures.next) c.requires.number.0 c.requires.number.1 c.requires.free
+    (λ told. c.knows.ensures.as_held told c.requires.serving) c.rested-in-Err-find_all.ensures c.in-Err-find_all.ensures.looked c.in-Err-find_all.ensures.cause
 
 pub returns-in-Err-OutOfMemory : goal.returns-in-Err-OutOfMemory
 returns-in-Err-OutOfMemory g c =
     let G = g.V.Vault in
     let old = c.args.vault in
-    let mid = c.store.new.vault in
-    let off = c.rested-in-Err-OutOfMemory in
-    not_written G c.args.last old mid off.result c.new.result c.in-Ok.clock c.requires.low c.in-Ok.ensures (λ told. c.knows.ensures.as_held told c.requires.serving) c.new.ensures.intents
-    (subst (λ (f : StoreFault). Ends {T = Unit {0}} G old mid (Err f)) c.in-Err-OutOfMemory.field-0-is c.in-Err-OutOfMemory.ensures.ended) c.store.ensures.kept off.ensures c.store.ensures.leaves
+    let e = c.in-Ok-find_all.ensures in
+    let left : IsLeft G old c.find_all.new.vault = e.looked.0 in
+    not_written G c.args.of.0 c.args.of.1 c.args.last old c.find_all.new.vault c.put_clock.new.vault c.in-Ok.clock c.requires.low c.in-Ok.ensures (λ told. c.knows.ensures.as_held told c.requires.serving) left e.looked.2 c.requires.free e.notes
+    c.rested-in-Err-OutOfMemory.result c.in-Err-OutOfMemory.field-0 c.in-Err-OutOfMemory.field-0-is c.in-Err-OutOfMemory.ensures c.rested-in-Err-OutOfMemory.ensures
 
 pub returns-in-Err-Failed : goal.returns-in-Err-Failed
 returns-in-Err-Failed g c =
     let G = g.V.Vault in
     let old = c.args.vault in
-    let new = c.store.new.vault in
-    let ended = subst (λ (f : StoreFault). Ends {T = Unit {0}} G old new (Err f)) c.in-Err-Failed.field-0-is c.in-Err-Failed.ensures.ended in
-    not_raised G c.args.last old new c.new.result c.in-Ok.clock (start_fault.Vault vault_fault.Failed) c.requires.low c.in-Ok.ensures (λ told. c.knows.ensures.as_held told c.requires.serving) c.new.ensures.intents ended.0 c.store.ensures.kept
-    (still_free (G.allowance old) (G.allowance new) c.requires.free c.store.ensures.allowance) (write_refused G c.args.last old new store_fault.Failed vault_fault.Failed ended (λ e. refl) (λ e. cc) (λ e. cc) tt) c.store.ensures.leaves
+    let e = c.in-Ok-find_all.ensures in
+    let left : IsLeft G old c.find_all.new.vault = e.looked.0 in
+    let put : PutsClock G c.find_all.new.vault c.put_clock.new.vault c.in-Ok.clock (Err store_fault.Failed) =
+    subst (λ (f : StoreFault). PutsClock G c.find_all.new.vault c.put_clock.new.vault c.in-Ok.clock (Err f)) c.in-Err-Failed.field-0-is c.in-Err-Failed.ensures in
+    not_raised G c.args.of.0 c.args.of.1 c.args.last old c.find_all.new.vault c.put_clock.new.vault c.in-Ok.clock c.requires.low c.in-Ok.ensures (λ told. c.knows.ensures.as_held told c.requires.serving) left e.looked.2 c.requires.free e.notes
+    store_fault.Failed vault_fault.Failed put put.ended.0 (λ e. refl) (λ e. cc) (λ e. cc) tt
 
 pub returns : goal.returns
 returns g c =
     let G = g.V.Vault in
     let old = c.args.vault in
-    let new = c.store.new.vault in
-    let ended = subst (λ (f : StoreFault). Ends {T = Unit {0}} G old new (Err f)) c.in-Err-Stopped.field-0-is c.in-Err-Stopped.ensures.ended in
-    not_raised G c.args.last old new c.new.result c.in-Ok.clock (start_fault.Vault vault_fault.Stopped) c.requires.low c.in-Ok.ensures (λ told. c.knows.ensures.as_held told c.requires.serving) c.new.ensures.intents ended.0 c.store.ensures.kept
-    (still_free (G.allowance old) (G.allowance new) c.requires.free c.store.ensures.allowance) (write_refused G c.args.last old new store_fault.Stopped vault_fault.Stopped ended (λ e. cc) (λ e. refl) (λ e. cc) tt) c.store.ensures.leaves
+    let e = c.in-Ok-find_all.ensures in
+    let left : IsLeft G old c.find_all.new.vault = e.looked.0 in
+    let put : PutsClock G c.find_all.new.vault c.put_clock.new.vault c.in-Ok.clock (Err store_fault.Stopped) =
+    subst (λ (f : StoreFault). PutsClock G c.find_all.new.vault c.put_clock.new.vault c.in-Ok.clock (Err f)) c.in-Err-Stopped.field-0-is c.in-Err-Stopped.ensures in
+    not_raised G c.args.of.0 c.args.of.1 c.args.last old c.find_all.new.vault c.put_clock.new.vault c.in-Ok.clock c.requires.low c.in-Ok.ensures (λ told. c.knows.ensures.as_held told c.requires.serving) left e.looked.2 c.requires.free e.notes
+    store_fault.Stopped vault_fault.Stopped put put.ended.0 (λ e. cc) (λ e. refl) (λ e. cc) tt
 
-pub returns-in-Ok-store : goal.returns-in-Ok-store
-returns-in-Ok-store g c =
+pub returns-in-Ok-put_clock : goal.returns-in-Ok-put_clock
+returns-in-Ok-put_clock g c =
     let G = g.V.Vault in
     let old = c.args.vault in
-    let new = c.store.new.vault in
-    let stored = c.in-Ok-store.ensures in
-    raised_whole G c.args.last old new c.new.result c.in-Ok.clock c.requires.low c.in-Ok.ensures (λ told. c.knows.ensures.as_held told c.requires.serving) c.new.ensures.intents stored.ended.0 c.store.ensures.kept
-    (still_free (G.allowance old) (G.allowance new) c.requires.free c.store.ensures.allowance) stored.ended.1 stored.cells stored.notes stored.format stored.clock c.store.ensures.leaves
+    let e = c.in-Ok-find_all.ensures in
+    let left : IsLeft G old c.find_all.new.vault = e.looked.0 in
+    raised_whole G c.args.of.0 c.args.of.1 c.args.last old c.find_all.new.vault c.put_clock.new.vault c.in-Ok.clock c.requires.low c.in-Ok.ensures (λ told. c.knows.ensures.as_held told c.requires.serving) left e.looked.2 c.requires.free e.notes
+    c.in-Ok-find_all.found e.found e.together c.in-Ok-put_clock.ensures

@@ -1,6 +1,6 @@
 use Rattle.std.specs.Prelude.{false, None, Some, Ok, Err, List, length, max}
 use Rattle.std.specs.FinMap as map
-use Rattle.std.proofs.Common.{◌≡◌, ℕ, ◌+◌, ◌≤◌, ◌++◌, ◌∷◌, [], refl, sym, ap, ◌∙◌, subst, arith, length-append}
+use Rattle.std.proofs.Common.{◌≡◌, ◌+◌, ◌≤◌, ◌++◌, ◌∷◌, [], sym, ap, ◌∙◌, subst, arith, length-append}
 use Rattle.alp_base.specs.declared.bytes.NoteChange.{NoteChange}
 use Rattle.alp_base.specs.declared.ids.JoinNo.{JoinNo}
 use Rattle.alp_base.specs.declared.ids.Stamp.{Stamp}
@@ -16,7 +16,7 @@ use Rattle.alp_journal.specs.Coordinator.{joins_of}
 use Rattle.alp_journal.specs.Deeds.{Hears}
 use Rattle.alp_journal.specs.Messages.{why_not_own}
 use Rattle.alp_coord.specs.declared.coordinator.Coordinator.{Coordinator}
-use Rattle.alp_coord.specs.Coordinators.{ComesLike, IsAlong, fate_in}
+use Rattle.alp_coord.specs.Coordinators.{ComesLike, IsAlong}
 use Rattle.alp_node.specs.Eases.{eased}
 use Rattle.alp_node.specs.Releases.{grant_acts, granted_behind, let_go}
 use Rattle.alp_node.specs.Says.{said_each}
@@ -29,8 +29,9 @@ use Rattle.alp_node.specs.declared.lives.Live.{Live}
 use Rattle.alp_node.specs.declared.server_state.ServerState.{ServerState}
 use Rattle.alp_node.specs.declared.stored.StoreFault.TheVariants as fault
 use Rattle.alp_node.proofs.FinishedFates.{kept_coordinator}
-use Rattle.alp_node.proofs.LastSteps.{few_granted, grants_length, last_changes, last_come, last_few, last_joins, last_log, last_low, last_of, last_part, last_stop, last_then, last_written}
+use Rattle.alp_node.proofs.LastSteps.{last_changes, last_come, last_few, last_joins, last_log, last_low, last_of, last_part, last_stop, last_written}
 use Rattle.alp_node.proofs.LastVotes.{hears_from, heard_all, heard_late}
+use Rattle.alp_node.proofs.LetGoWrites.{granted_few}
 use Rattle.alp_node.proofs.ReleaseLemmas.{let_go_of}
 use Rattle.alp_node.proofs.WriteSteps.{halted_step, wanting_result, written_step}
 use Rattle.alp_node.proofs.server_state.ServerState.commit_all.Goals as goal
@@ -148,12 +149,11 @@ tell_commits-requires g c =
     let said : length acts ≡ length (p.acts.items ++ grant_acts (granted_behind k p.stamp.trans)) = ap (λ (xs : List Act). length xs) h.said in
     let both : length (p.acts.items ++ grant_acts (granted_behind k p.stamp.trans)) ≡ length p.acts.items + length (grant_acts (granted_behind k p.stamp.trans)) = length-append p.acts.items (grant_acts (granted_behind k p.stamp.trans)) in
     let two : length p.acts.items ≡ 2 = ap (λ (xs : List Act). length xs) c.in_ok-pending.ensures.acts in
-    let granted : length (grant_acts (granted_behind k p.stamp.trans)) ≡ length (granted_behind k p.stamp.trans) = grants_length (granted_behind k p.stamp.trans) in
-    let few : length (granted_behind k p.stamp.trans) ≤ length k.locks.waiting = few_granted c.requires.ready.0 (G.serves k.vault) k p.stamp.trans c.requires.ready.2 in
+    let few : length (grant_acts (granted_behind k p.stamp.trans)) ≤ length k.locks.waiting = granted_few k p.stamp.trans c.requires.ready.2.taken in
     let keeps : KeepsPlaces p (decided.Made c.in-Made.acts) = subst (KeepsPlaces p) c.in-Made.is c.in_ok-acts.ensures.capacity in
     let places = c.in_ok-pending.ensures.room in
     let same : length c.as_slice-2.result.now ≡ length c.as_slice.result.now = ap (λ (xs : List JoinNo). length xs) (c.as_slice-2.ensures.value ∙ sym c.as_slice.ensures.value) in
-    omega (arith, said, both, two, granted, few, keeps, places, same)
+    omega (arith, said, both, two, few, keeps, places, same)
 
 pub returns-in-Halted : goal.returns-in-Halted
 returns-in-Halted g c from =

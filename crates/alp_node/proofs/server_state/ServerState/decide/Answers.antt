@@ -1,15 +1,12 @@
-use Rattle.std.specs.Prelude.{max, Ok}
-use Rattle.std.proofs.Common.{true, ◌≡◌, ◌≤◌, ℕ, List, refl, sym, ap, ◌∙◌, subst}
+use Rattle.std.proofs.Common.{◌≡◌, ◌≤◌, sym, ap, ◌∙◌, subst}
 use Rattle.alp_base.specs.declared.ids.TransId.{TransId}
-use Rattle.alp_journal.specs.declared.act.Act.{Act}
-use Rattle.alp_journal.specs.Coordinator.{Fate, joins_of, has_votes, votes_in}
+use Rattle.alp_journal.specs.Coordinator.{Fate, has_votes, votes_in}
 use Rattle.alp_journal.specs.Laws.{latest_vote}
-use Rattle.alp_journal.specs.Deeds.{Finishes, Decides}
+use Rattle.alp_journal.specs.Deeds.{Finishes}
 use Rattle.alp_coord.specs.declared.coordinator.Coordinator.{Coordinator}
-use Rattle.alp_coord.specs.Coordinators.{Comes, IsAlong, fate_in}
-use Rattle.alp_node.specs.Writes.{HasHalted, HasKept, KeepsPlaces, WasKept}
+use Rattle.alp_coord.specs.Coordinators.{Comes, IsAlong}
+use Rattle.alp_node.specs.Writes.{HasKept, KeepsPlaces, WasKept}
 use Rattle.alp_node.specs.declared.decide.Decided.{Decided}
-use Rattle.alp_node.specs.declared.server_state.ServerState.{ServerState}
 use Rattle.alp_node.proofs.FinishedFates.{finished_at, kept_coordinator}
 use Rattle.alp_node.proofs.server_state.ServerState.decide.Goals as goal
 

@@ -1,5 +1,5 @@
 use Rattle.std.specs.Prelude.{max, Ok, Err}
-use Rattle.std.proofs.Common.{true, ◌≡◌, ◌≤◌, ℕ, List, refl, sym, ap, ◌∙◌, subst, inl, inr}
+use Rattle.std.proofs.Common.{true, ◌≡◌, List, refl, sym, ap, ◌∙◌, subst, inl, inr}
 use Rattle.alp_base.specs.declared.bytes.NoteChange.{NoteChange}
 use Rattle.alp_base.specs.declared.ids.TransId.{TransId}
 use Rattle.alp_journal.specs.declared.act.Act.TheVariants as act

@@ -1,15 +1,7 @@
-use Rattle.std.specs.Prelude.{None, Some, Ok, IfOk, List, Option}
-use Rattle.std.specs.FinMap as map
-use Rattle.std.proofs.Common.{◌≡◌, ℕ, ◌+◌, ◌++◌, ◌∷◌, [], refl, sym, ap, ◌∙◌, subst}
-use Rattle.alp_base.specs.declared.ids.JoinNo.{JoinNo}
-use Rattle.alp_files.specs.declared.refusal.Cause.TheVariants as cause
+use Rattle.std.specs.Prelude.{None, Some}
+use Rattle.std.proofs.Common.{◌≡◌, ◌+◌, sym, ap, ◌∙◌}
 use Rattle.alp_journal.specs.Coordinator.{client_of, joins_of}
-use Rattle.alp_journal.specs.declared.act.Act.TheVariants as act
-use Rattle.alp_journal.specs.declared.message.Message.TheVariants as msg
 use Rattle.alp_coord.specs.Coordinators.{fate_in}
-use Rattle.alp_node.specs.Releases.{grant_acts, granted_behind}
-use Rattle.alp_node.specs.Says.{said_each}
-use Rattle.alp_node.specs.Steps.{told_answer}
 use Rattle.alp_node.proofs.AgainstSteps.{against_lapsed}
 use Rattle.alp_node.proofs.LastVotes.{IsLast, is_last}
 use Rattle.alp_node.proofs.PairedLemmas.{running_part}
