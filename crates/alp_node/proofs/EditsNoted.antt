@@ -138,14 +138,14 @@ module _ (W : Key → Type 0) where
 
 -- ---- a whole file
 
-page_in : Resource → ℕ
+abbrev page_in : Resource → ℕ
 page_in (Whole f) = 0
 page_in (Leaf (Leader f)) = 0
 page_in (Leaf (PageOf f n)) = n
 page_in (Leaf (OwnerOf name)) = 0
 
 -- no page from this number on is locked
-bound : List Need → ℕ
+abbrev bound : List Need → ℕ
 bound [] = 0
 bound (n ∷ ns) = max (suc (page_in n.0)) (bound ns)
 
@@ -175,7 +175,7 @@ whole_locked ns f all =
 
 -- ---- the change of a note
 
-all_listed : {X : Type 0} (p : X → Bool) (xs : List X) → AllByRecursion (λ x. p x ≡ true) xs → list_all p xs ≡ true
+pub all_listed : {X : Type 0} (p : X → Bool) (xs : List X) → AllByRecursion (λ x. p x ≡ true) xs → list_all p xs ≡ true
 all_listed p [] h = refl
 all_listed p (x ∷ xs) h = ap (λ (b : Bool). b && list_all p xs) h.0 ∙ all_listed p xs h.1
 
@@ -243,11 +243,11 @@ module _ (server epoch : ℕ) (held : Holding) (intended : IsIntended held) (own
 
   pub own_edits : (es : List Edit) → list_all (is_covered held) es ≡ true → list_all (is_own_edit server epoch) es ≡ true
   own_edits [] h = refl
-  own_edits (e ∷ es) h = go (is_covered held e) refl h
+  own_edits (e ∷ es) h = go (is_covered held e) refl h (λ g. own_edits es g)
     where
-      go : (b : Bool) → is_covered held e ≡ b → (b && list_all (is_covered held) es) ≡ true → list_all (is_own_edit server epoch) (e ∷ es) ≡ true
-      go true f g = ap (λ (b : Bool). b && list_all (is_own_edit server epoch) es) (own_edit e f) ∙ own_edits es g
-      go false f g = let wrong : false ≡ true = g in cc
+      go : (b : Bool) → is_covered held e ≡ b → (b && list_all (is_covered held) es) ≡ true → (list_all (is_covered held) es ≡ true → list_all (is_own_edit server epoch) es ≡ true) → list_all (is_own_edit server epoch) (e ∷ es) ≡ true
+      go true f g rest = ap (λ (b : Bool). b && list_all (is_own_edit server epoch) es) (own_edit e f) ∙ rest g
+      go false f g rest = let wrong : false ≡ true = g in cc
 
 -- as many edits as cells and files
 pub change_length : (c : Change) → length (edits_of c) ≡ changed_cells c

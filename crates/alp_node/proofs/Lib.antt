@@ -142,3 +142,4 @@ pub mod AgainstSteps
 pub mod TakeLemmas
 pub mod EditsNoted
 pub mod LocksNoted
+pub mod TogetherLemmas

@@ -21,14 +21,12 @@ use Rattle.alp_node.proofs.EditsNoted.{own_leaf}
 
 fewer : (ns : List Need) (rs : List Resource) → length (with_resources ns rs) ≤ length ns + length rs
 fewer [] rs = omega arith
-fewer (n ∷ ns) rs = go (has_resource n.0 rs)
+fewer (n ∷ ns) rs = go (has_resource n.0 rs) (fewer ns rs) (fewer ns (rs ++ n.0 ∷ []))
   where
-    go : (b : Bool) → length (with_resources ns (cond {A = List Resource} b rs (rs ++ n.0 ∷ []))) ≤ suc (length ns) + length rs
-    go true = (let rest : length (with_resources ns rs) ≤ length ns + length rs = fewer ns rs in omega (arith, rest))
-    go false =
-        let rest : length (with_resources ns (rs ++ n.0 ∷ [])) ≤ length ns + length (rs ++ n.0 ∷ []) = fewer ns (rs ++ n.0 ∷ []) in
-        let longer : length (rs ++ n.0 ∷ []) ≡ length rs + 1 = length-append rs (n.0 ∷ []) in
-        omega (arith, rest, longer)
+    go : (b : Bool) → length (with_resources ns rs) ≤ length ns + length rs → length (with_resources ns (rs ++ n.0 ∷ [])) ≤ length ns + length (rs ++ n.0 ∷ [])
+        → length (with_resources ns (cond {A = List Resource} b rs (rs ++ n.0 ∷ []))) ≤ suc (length ns) + length rs
+    go true rest more = omega (arith, rest)
+    go false rest more = (let longer : length (rs ++ n.0 ∷ []) ≡ length rs + 1 = length-append rs (n.0 ∷ []) in omega (arith, more, longer))
 
 parts_of : (a b : Bool) → (a || b) ≡ false → (a ≡ false) × (b ≡ false)
 parts_of false b e = (refl, e)
@@ -58,13 +56,14 @@ behind rs n (m ∷ ms) all h =
 
 once_each : (ns : List Need) (rs : List Resource) → length (with_resources ns rs) ≡ length ns + length rs → AreNew rs ns
 once_each [] rs same = tt
-once_each (n ∷ ns) rs same = go (has_resource n.0 rs) refl same
+once_each (n ∷ ns) rs same = go (has_resource n.0 rs) refl same (λ f. once_each ns (rs ++ n.0 ∷ []) f)
   where
-    go : (b : Bool) → has_resource n.0 rs ≡ b → length (with_resources ns (cond {A = List Resource} b rs (rs ++ n.0 ∷ []))) ≡ suc (length ns) + length rs → AreNew rs (n ∷ ns)
-    go true e f = (let most : length (with_resources ns rs) ≤ length ns + length rs = fewer ns rs in absurd (omega (arith, most, f)))
-    go false e f =
+    go : (b : Bool) → has_resource n.0 rs ≡ b → length (with_resources ns (cond {A = List Resource} b rs (rs ++ n.0 ∷ []))) ≡ suc (length ns) + length rs
+        → (length (with_resources ns (rs ++ n.0 ∷ [])) ≡ length ns + length (rs ++ n.0 ∷ []) → AreNew (rs ++ n.0 ∷ []) ns) → AreNew rs (n ∷ ns)
+    go true e f more = (let most : length (with_resources ns rs) ≤ length ns + length rs = fewer ns rs in absurd (omega (arith, most, f)))
+    go false e f more =
         let longer : length (rs ++ n.0 ∷ []) ≡ length rs + 1 = length-append rs (n.0 ∷ []) in
-        let rest : AreNew (rs ++ n.0 ∷ []) ns = once_each ns (rs ++ n.0 ∷ []) (omega (arith, f, longer)) in
+        let rest : AreNew (rs ++ n.0 ∷ []) ns = more (omega (arith, f, longer)) in
         let both = behind rs n ns ns rest in
         (
           (

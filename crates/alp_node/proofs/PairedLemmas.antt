@@ -431,7 +431,7 @@ has_right t (u ∷ us) vs h = go (same_trans u t) (has_right t us vs h)
     go true e = refl
     go false e = e
 
-abbrev joined_list : List LiveJoin → List TransId
+abbrev pub joined_list : List LiveJoin → List TransId
 joined_list ls = list_map (λ (x : LiveJoin). x.trans) ls
 
 pub joined_there : (j : JoinNo) (y : LiveJoin) (ls : List LiveJoin) → join_at ls j ≡ Some y → has_trans y.trans (joined_list ls) ≡ true

@@ -14,7 +14,7 @@ has_behind x (z ∷ xs) ys h = inr (has_behind x xs ys h)
 -- ---- one taken out
 
 module _ {B : Type 0} where
-  others : (ys : List B) (y : B) → Has y ys → List B
+  abbrev others : (ys : List B) (y : B) → Has y ys → List B
   others [] y h = absurd h
   others (z ∷ ys) y (inl is) = ys
   others (z ∷ ys) y (inr h) = z ∷ others ys y h
