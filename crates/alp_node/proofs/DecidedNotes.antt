@@ -1,5 +1,5 @@
 -- a decision with parts on other servers: its notes get the clock and one of the decision, and say the rest as before
-use Rattle.std.specs.Prelude.{Bool, true, false, cond, ◌&&◌, ◌==◌, max, sum_by, Option, None, Some}
+use Rattle.std.specs.Prelude.{Bool, true, false, cond, ◌&&◌, ◌==◌, max, sum_by, Option, None, Some, is_some}
 use Rattle.std.specs.List.{list_all}
 use Rattle.std.specs.FinMap as map
 use Rattle.std.specs.FinMap.{get-insert}
@@ -122,8 +122,15 @@ module _ (s : State) (t : TransId) (time : ℕ) (js : List JoinNo) (l : Life) (v
       put_decision alone.holder.server s.servers (record { epoch = epoch; clock = alone.holder.kept }) part (λ u. decision_kept (alone.fates u)) mid before (λ u. decision_kept (then.fates u)) t named other_same d fits (own ∙ sym (same_server (s.holder.lives t)))
       (subst (λ (n : ℕ). list_all (λ (j : JoinNo). is_another n s.servers j.server) d.joins ≡ true) (sym (same_server (s.holder.lives t))) far)
       (ap (λ (b : Bool). decision_kept (cond {A = Fate} b (decided stamp js (s.fates t)) (s.fates t))) (same_trans-itself t) ∙ kept) in
-      record { clock = k.clock; ready = k.ready; decided = k.decided; format = k.format }
+      record { clock = k.clock; ready = k.ready; decided = k.decided; fit = first.fit; fit_decided = fit_now first; format = k.format }
     where
+      fit_now : AreNotesOf alone epoch (noted clock_name (Some (clock_form.spell (record { epoch = epoch; clock = max s.holder.clock time }))) notes) → (u : TransId) → is_some (decision_kept (then.fates u)) ≡ true → decision_name.Fits u
+      fit_now first u is = go (same_trans t u) refl
+        where
+          go : (b : Bool) → same_trans t u ≡ b → decision_name.Fits u
+          go true e = subst decision_name.Fits (same_trans-true t u e) named
+          go false e = first.fit_decided u (ap (λ (f : Option Decision). is_some f) (ap (λ (b : Bool). decision_kept (cond {A = Fate} b (decided stamp [] (s.fates u)) (s.fates u))) e ∙ sym (ap (λ (b : Bool). decision_kept (cond {A = Fate} b (decided stamp js (s.fates u)) (s.fates u))) e)) ∙ is)
+
       same_server : (o : Option Life) → (commits s.holder stamp o).server ≡ s.holder.server
       same_server None = refl
       same_server (Some x) = refl

@@ -1,17 +1,12 @@
 -- a server that fell, and its journal when it starts again
-use Rattle.std.specs.Prelude.{Bool, true, false, IsTrue, Option, None, Some, slice_get}
-use Rattle.std.specs.List.{AllByRecursion}
-use Rattle.std.specs.FinMap as map
+use Rattle.std.specs.Prelude.{false, IsTrue, Some, slice_get}
 use Rattle.std.proofs.Common.{◌≡◌, ◌⊎◌, inl, inr, ⊎_elim, ℕ, zero, suc, ◌+◌, ◌<◌, ◌≤◌, ◌^◌, List, [], ◌∷◌, ◌++◌, length, refl, sym, ◌∙◌, ap, subst, arith}
 use Rattle.alp_base.specs.Crashes.{Only, NoMore}
 use Rattle.alp_base.specs.Notes.{Notes, noted}
 use Rattle.alp_base.specs.declared.allowance.Allowance.TheVariants.{Free}
 use Rattle.alp_base.specs.declared.faults.Sizes.{Sizes}
-use Rattle.alp_base.specs.declared.ids.JoinNo.{JoinNo}
-use Rattle.alp_base.specs.declared.ids.Stamp.{Stamp}
-use Rattle.alp_fields.specs.ClockNote.{clock_name, clock_form, clock_kept}
+use Rattle.alp_fields.specs.ClockNote.{clock_form, clock_kept}
 use Rattle.alp_fields.specs.declared.clock_note.ClockNote.{ClockNote}
-use Rattle.alp_files.specs.Cells.{Cells}
 use Rattle.alp_vault.specs.Contents.{Contents}
 use Rattle.alp_vault.specs.Vault.{IsServer, IsOneOf, IsSameVault}
 use Rattle.alp_vault.specs.Volumes.{AreServerNotes, IsVolumeOf}
@@ -29,7 +24,7 @@ use Rattle.alp_regain.specs.Together.{clock_before, AreNotesTogether}
 use Rattle.alp_node.specs.DownStates.{DownState}
 use Rattle.alp_node.specs.NodeStates.{NodeState}
 use Rattle.alp_node.specs.Durable.{IsStoredBy}
-use Rattle.alp_node.specs.Found.{HasBegun, FindsAll, KeepsFound, joins_noted, stamps_noted}
+use Rattle.alp_node.specs.Found.{HasBegun, KeepsFound, joins_noted, stamps_noted}
 use Rattle.alp_node.specs.Nodes.{IsConsistent, IsRight, state_of, start_by, start_in}
 use Rattle.alp_node.specs.Downs.{IsLeftOf, IsPast, IsPastRight, IsFallen, IsLeftOrRaised, HasRegained, IsPoweredOff, IsHandedBack, HasRaiseCause, HasBegunEpoch, HasNotBegun, HasRestarted, IsStillDown, next_clock, state_then, entry_again, start_of}
 use Rattle.alp_node.specs.Noted.{AreNotesFor}
@@ -43,10 +38,11 @@ use Rattle.alp_node.proofs.ClockLaws.{time_fits}
 use Rattle.alp_node.proofs.FoundAs.{IsTold, found_as}
 use Rattle.alp_node.proofs.FoundReady.{found_kept, found_ready, raised_noted}
 use Rattle.alp_node.proofs.NodeLemmas.{state_after-push, Along-push, sent_pushed, up_durable}
-use Rattle.alp_node.proofs.NoteLemmas.{note_back, raised_stored, alone_apart}
+use Rattle.alp_node.proofs.NoteLemmas.{raised_stored, alone_apart}
 use Rattle.alp_node.proofs.PastLemmas.{IsFoundAs, past_of, found_before, found_then}
 use Rattle.alp_node.proofs.RestartTold.{clock_found, found_leads, found_told}
 use Rattle.alp_node.proofs.StartLemmas.{before_less}
+use Rattle.alp_node.proofs.StartMade.{put_back}
 
 -- ---- a server falls
 
@@ -275,7 +271,7 @@ module _ {V : Type 0} (G : Ghosts V) (d : DownState V) (n : NodeState V) (clock 
     same = b.same;
     faults = b.counted;
     allowance = b.free;
-    note = ap clock_kept b.notes ∙ note_back notes clock fits ∙ clock_is;
+    note = ap clock_kept b.notes ∙ put_back notes clock fits ∙ clock_is;
     crash = b.crash;
   }
 

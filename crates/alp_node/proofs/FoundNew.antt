@@ -1,10 +1,10 @@
 -- a server that starts keeps what its opening says, which is sound
-use Rattle.std.specs.Prelude.{cond, Bool, true, false, ◌&&◌, ◌==◌, nat_le, IsTrue, Option, None, Some, is_some}
-use Rattle.std.specs.List.{list_all, AllByRecursion}
+use Rattle.std.specs.Prelude.{cond, Bool, true, false, ◌&&◌, ◌==◌, nat_le, Option, None, Some}
+use Rattle.std.specs.List.{list_all}
 use Rattle.std.specs.FinMap as map
 use Rattle.std.specs.Ordering.{eq_by_cmp}
 use Rattle.std.proofs.Common.{◌≡◌, ◌⊎◌, inl, inr, ℕ, ◌<◌, ◌≤◌, List, [], ◌∷◌, length, refl, sym, ◌∙◌, ap, subst, arith}
-use Rattle.std.proofs.lemmas.Bool.{eqb-true, leb-true, le-leb, and_parts}
+use Rattle.std.proofs.lemmas.Bool.{leb-true, le-leb, and_parts}
 use Rattle.std.proofs.lemmas.Map.Views.{tells_apart}
 use Rattle.alp_base.specs.KeyLaws.{exact_keys}
 use Rattle.alp_base.specs.Keys.{key_cmp}
@@ -13,7 +13,6 @@ use Rattle.alp_base.specs.declared.cell.Cell.{Cell}
 use Rattle.alp_base.specs.declared.faults.Sizes.{Sizes}
 use Rattle.alp_base.specs.declared.ids.FileId.{FileId}
 use Rattle.alp_base.specs.declared.ids.TransId.{TransId}
-use Rattle.alp_base.specs.declared.key.Key.{Key}
 use Rattle.alp_base.specs.declared.key.Key.TheVariants.{Leader}
 use Rattle.alp_base.specs.declared.key.Resource.{Resource}
 use Rattle.alp_fields.specs.ClockNote.{clock_kept}
@@ -25,8 +24,8 @@ use Rattle.alp_vault.specs.Volumes.{IsVolumeOf}
 use Rattle.alp_coord.specs.declared.coordinator.Coordinator.{Coordinator}
 use Rattle.alp_worker.specs.declared.joins.Joins.{Joins}
 use Rattle.alp_files.proofs.FilesLemmas.{same-some}
-use Rattle.alp_journal.specs.Counts.{has_resource, with_resources, locked_noted}
-use Rattle.alp_journal.specs.Coordinator.{Fate, Undrawn, decision_in, fate_noted}
+use Rattle.alp_journal.specs.Counts.{with_resources, locked_noted}
+use Rattle.alp_journal.specs.Coordinator.{Undrawn, decision_in, fate_noted}
 use Rattle.alp_journal.specs.Holder.{Life, early_life, lives_noted, no_locks}
 use Rattle.alp_journal.specs.Ids.{same_trans}
 use Rattle.alp_journal.specs.Opening.{Start, ReadyNote, DecisionNote, ready_kept, decisions_kept}
@@ -42,8 +41,8 @@ use Rattle.alp_node.specs.Found.{IsFoundIn}
 use Rattle.alp_node.specs.Nodes.{IsSoundStart}
 use Rattle.alp_node.specs.ServerState.{IsToCome, PutNoneBeyond}
 use Rattle.alp_node.specs.Totals.{LiveMap}
-use Rattle.alp_node.proofs.FoundAs.{IsTold, IsLeftLife, IsAtRest, IsNotOpen}
-use Rattle.alp_node.proofs.FoundNotes.{Has, differ, all_has, IsLifeNoted, life_or, IsFateNoted, fate_or, phase_or, one_trans}
+use Rattle.alp_node.proofs.FoundAs.{IsTold, IsLeftLife, IsAtRest}
+use Rattle.alp_node.proofs.FoundNotes.{Has, differ, all_has, IsLifeNoted, life_or, IsFateNoted, fate_or, one_trans}
 use Rattle.alp_node.proofs.FoundReady.{part_live, joins_are}
 use Rattle.alp_node.proofs.FoundStart.{opening, opening_keeps, opening_fits, opening_decided_fits, part_of_note, decided_drawn, decided_time, drawn_epoch, quiet}
 use Rattle.alp_node.proofs.LockCountLemmas.{held_then}
@@ -126,7 +125,7 @@ module _ (tells : Bool) (server servers area : ℕ) (sizes : Sizes) (epoch clock
             within = are_within (held_by n.locks) n.edits p.locks.covered;
             intended = are_intended n.locks p.locks.intended;
             sized = note_sized n y.has;
-            known = subst (AreHeld (held_by n.locks)) (sym (locked_looked (ready_kept notes) u n h.apart y.has y.of)) (held_then no_locks n.locks [] (λ q. refl, tt));
+            known = subst (AreHeld (held_by n.locks)) (sym (locked_looked (ready_kept notes) u n h.apart y.has y.of)) (held_then no_locks n.locks [] ((λ q. refl), tt));
           })
 
   beyond : (u : TransId) (x : Life) → lives_noted (ready_kept notes) u ≡ Some x → PutNoneBeyond server epoch 0 x.edits
@@ -167,14 +166,13 @@ module _ (tells : Bool) (server servers area : ℕ) (sizes : Sizes) (epoch clock
     fit = opening_fits server servers area sizes epoch clock cells notes h later;
     fit_decided = opening_decided_fits server servers area sizes epoch clock cells notes h later;
     lives = left_life;
+    counts = λ u x n live has at. ap (λ (rs : List Resource). length rs) (sym (locked_looked (ready_kept notes) u n h.apart has at));
     fates = λ u. (elim (fate_or (decisions_kept notes) u) [
       | inl none ↦ subst IsAtRest (sym none) tt
       | inr y ↦ subst IsAtRest (sym y.says) refl
     ]);
-    phases = λ j. (elim (phase_or (ready_kept notes) j) [
-      | inl none ↦ subst IsNotOpen (sym none) tt
-      | inr y ↦ subst IsNotOpen (sym y.says) tt
-    ]);
+    joins = joins_are tells server servers area sizes epoch clock cells notes h later l t k c f;
+    applied = λ u stamp js now is. absurd (differ (decision_in (fate_noted (decisions_kept notes) u)) (stamp, js) (ap decision_in (undecided u now)) is);
     unborn = beyond;
     made = record { early = []; old = tt; all = refl };
     born = none_born server epoch (clock_before epoch notes).epoch cells own later;

@@ -97,6 +97,7 @@ use Rattle.alp_node.specs.Writes.{clock_put}
 use Rattle.alp_node.specs.declared.lives.Live.{Live}
 use Rattle.alp_node.specs.declared.server_state.ServerState.{ServerState}
 use Rattle.alp_node.proofs.CommitNotes.{clock_changes}
+use Rattle.alp_node.proofs.EarlyLemmas.{early_gone}
 use Rattle.alp_node.proofs.FoundLives.{IsFoundLive, live_note, note_live, lives_or}
 use Rattle.alp_node.proofs.FoundNotes.{Has, each_has, IsReadyAt, ready_stands, ready_has, decision_has, IsPhaseNoted, phase_or, IsFateNoted, fate_or, phase_of, one_join}
 use Rattle.alp_node.proofs.FoundStart.{opening, part_of_note, decided_drawn, decided_time, drawn_epoch, join_drawn, trans_away, notes_agree, joins_noted_so, decided_said, vote_time}
@@ -508,6 +509,7 @@ module _ (tells : Bool) (server servers area : ℕ) (sizes : Sizes) (epoch clock
     replies = λ client w is. (let wrong : None ≡ Some w = sym (no_session client) ∙ is in cc);
     drawn = le_zero steps f.run.count_same;
     times = decided_times low;
+    fated = λ u. early_gone servers server (fate_in c u) (no_client u);
     given = omega arith;
     most = counted_most;
     fits = omega (arith, log_fits, its);

@@ -1,9 +1,7 @@
 -- the note of the clock, put where notes tell of a state, and where they go together
-use Rattle.std.specs.Prelude.{Bool, true, false, ◌&&◌, not, ◌==◌, nat_le, Option, None, Some, unwrap_or, IsTrue, map as list_map}
+use Rattle.std.specs.Prelude.{Bool, true, false, ◌&&◌, not, ◌==◌, nat_le, Option, None, Some, unwrap_or, map as list_map}
 use Rattle.std.specs.List.{list_all, AllByRecursion}
 use Rattle.std.specs.FinMap as map
-use Rattle.std.specs.FinMap.{get-insert}
-use Rattle.std.specs.Cmp.Lexicographic.{nat_list_cmp_total}
 use Rattle.std.proofs.Common.{◌≡◌, ℕ, ◌+◌, ◌<◌, ◌≤◌, ◌^◌, List, [], ◌∷◌, length, refl, sym, ◌∙◌, ap, subst, arith, eq-eqb}
 use Rattle.std.proofs.lemmas.Bool.{leb-true, and_parts}
 use Rattle.alp_base.specs.Notes.{Notes, noted}
@@ -12,7 +10,7 @@ use Rattle.alp_base.specs.declared.ids.JoinNo.{JoinNo}
 use Rattle.alp_fields.specs.Forms.{whole}
 use Rattle.alp_fields.specs.ClockNote.{clock_name, clock_form, clock_in, clock_kept, no_clock}
 use Rattle.alp_fields.specs.declared.clock_note.ClockNote.{ClockNote}
-use Rattle.alp_fields.proofs.ClockLemmas.{clock_back, clock_within}
+use Rattle.alp_fields.proofs.ClockLemmas.{clock_within}
 use Rattle.alp_ready.specs.NoteLooks.{Keeps}
 use Rattle.alp_ready.proofs.NoteViews.{put_clock}
 use Rattle.alp_vault.specs.Contents.{Contents}
@@ -44,10 +42,6 @@ value_within (Some value) = go (whole clock_form value) refl
 -- it is a time
 pub kept_within : (notes : Notes) → (clock_kept notes).clock ≤ 2 ^ 62
 kept_within notes = value_within (map.get notes clock_name)
-
--- the note that was put is read back
-pub note_back : (notes : Notes) (c : ClockNote) → clock_form.Fits c → clock_kept (map.insert notes clock_name (clock_form.spell c)) ≡ c
-note_back notes c fits = ap clock_in (get-insert nat_list_cmp_total notes clock_name (clock_form.spell c) clock_name) ∙ clock_back c fits
 
 -- ---- put where the notes tell of a state
 

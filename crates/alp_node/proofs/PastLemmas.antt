@@ -10,30 +10,27 @@ use Rattle.alp_base.specs.declared.ids.JoinNo.{JoinNo}
 use Rattle.alp_base.specs.declared.ids.Stamp.{Stamp}
 use Rattle.alp_base.specs.declared.ids.TransId.{TransId}
 use Rattle.alp_base.specs.declared.key.Key.TheVariants.{Leader}
-use Rattle.alp_base.specs.declared.key.Resource.{Resource}
-use Rattle.alp_files.specs.Cells.{Cells, View}
-use Rattle.alp_files.specs.Edits.{Edit, edits_at, edits_map}
+use Rattle.alp_files.specs.Cells.{View}
+use Rattle.alp_files.specs.Edits.{edits_at, edits_map}
 use Rattle.alp_files.specs.History.{Decided}
 use Rattle.alp_files.proofs.FilesLemmas.{same-some}
 use Rattle.alp_files.proofs.HistoryLemmas.{get-edits_map}
 use Rattle.alp_vault.specs.Contents.{Contents}
 use Rattle.alp_journal.specs.Along.{state_after}
-use Rattle.alp_journal.specs.Ids.{same_trans, same_join, same_stamp, has_stamp, stamp_cmp}
+use Rattle.alp_journal.specs.Ids.{same_trans, same_stamp, has_stamp, stamp_cmp}
 use Rattle.alp_journal.specs.Deeds.{Deed, Finishes, Hears, Decides, Readies, Applies, Aborts, Acknowledges, Forgets}
 use Rattle.alp_journal.specs.Coordinator.{Fate, Vote, Committed, Forgotten, with_vote}
 use Rattle.alp_journal.specs.Coordinator as fate
 use Rattle.alp_journal.specs.Participant.{Phase, Active, Ready}
-use Rattle.alp_journal.specs.Holder.{Holder, Life, commits, emptied, if_ready, in_history, lapsed, readies}
-use Rattle.alp_journal.specs.State.{State, Ids, state_deed}
+use Rattle.alp_journal.specs.Holder.{Life, commits, emptied, lapsed, readies}
+use Rattle.alp_journal.specs.State.{State, state_deed}
 use Rattle.alp_journal.specs.Laws.{is_standing, latest_vote}
-use Rattle.alp_journal.specs.Answered.{is_all_done}
-use Rattle.alp_journal.specs.Account.{Account, state_of, HasLife, IsFateOf, Stands, IsQuiet, HasTried, IsTriedCommit, IsTriedDecision, IsTriedVote, IsTriedApplication, IsTriedEnd, IsTriedAbort, AreEarlier, Leads}
+use Rattle.alp_journal.specs.Account.{Account, state_of, HasLife, IsFateOf, Stands, HasTried, IsTriedVote, IsTriedApplication, IsTriedEnd, IsTriedAbort, AreEarlier, Leads}
 use Rattle.alp_journal.specs.Restarts.{restart_entry, restarted_at, with_decided, with_vote_of, with_applied, with_forgotten, with_aborted}
 use Rattle.alp_journal.proofs.IdLemmas.{same_trans-true, same_trans-itself}
 use Rattle.alp_journal.proofs.RestartLemmas.{IsNoted, restart_leads}
 use Rattle.alp_journal.proofs.RestartMade.{commit_made_leads, decision_made_leads, vote_made_leads, application_made_leads, end_made_leads, abort_made_leads}
 use Rattle.alp_node.specs.Downs.{IsPartPast, IsPast, state_then}
-use Rattle.alp_node.specs.Noted.{decision_kept}
 use Rattle.alp_node.specs.ServerState.{IsAlike, IsAs, SeesNoneToCome, PutNoneBeyond, AreMade}
 use Rattle.alp_node.specs.declared.lives.Live.{Live}
 use Rattle.alp_node.specs.declared.server_state.ServerState.{ServerState}

@@ -20,7 +20,7 @@ use Rattle.alp_vault.specs.Contents.{Contents}
 use Rattle.alp_vault.specs.Vault.{IsSameVault}
 use Rattle.alp_vault.specs.declared.vault.Vault.{Ghosts}
 use Rattle.alp_regain.specs.Together.{clock_before, AreNotesTogether, AreTogether}
-use Rattle.alp_node.specs.Downs.{IsLeftOrRaised, HasRegained, IsNext, HasNextCause, HasRaiseCause, IsRecovered, IsUnrecovered, IsPoweredOff, IsHandedBack, HasBegunEpoch, HasNotBegun, next_clock}
+use Rattle.alp_node.specs.Downs.{IsLeftOrRaised, HasRegained, IsNext, HasNextCause, HasRaiseCause, IsRecovered, IsUnrecovered, IsPoweredOff, HasBegunEpoch, HasNotBegun, next_clock}
 use Rattle.alp_node.specs.Durable.{Leaves, Besides}
 use Rattle.alp_node.specs.Found.{FindsAll, GoApart, WasNotFound, look_in}
 use Rattle.alp_node.specs.Halts.{Ends}

@@ -27,10 +27,9 @@ use Rattle.alp_vault.specs.Volumes.{IsVolumeOf}
 use Rattle.alp_ready.specs.NoteLooks.{ready_at, decision_at}
 use Rattle.alp_coord.specs.declared.coordinator.Coordinator.{Coordinator}
 use Rattle.alp_worker.specs.Joins.{AreJoinsOf}
-use Rattle.alp_worker.specs.Lives.{live_at, join_at}
+use Rattle.alp_worker.specs.Lives.{live_at}
 use Rattle.alp_worker.specs.declared.joins.Joins.{Joins}
-use Rattle.alp_worker.specs.declared.live.LiveJoin.{LiveJoin}
-use Rattle.alp_journal.specs.Counts.{with_resources, kept_locks, has_resource}
+use Rattle.alp_journal.specs.Counts.{with_resources, kept_locks}
 use Rattle.alp_journal.specs.Coordinator.{Fate, Undrawn, Running, Finishing, Committed, Forgotten, Ended, decision_in}
 use Rattle.alp_journal.specs.Coordinator as fate
 use Rattle.alp_journal.specs.Participant.{Phase, Unseen, Joining, Active, Ready, Applied, Over, is_ready, live_in, phase_noted}
@@ -54,7 +53,7 @@ use Rattle.alp_node.specs.Downs.{IsPartPast, IsPast}
 use Rattle.alp_node.specs.Durable.{IsKeptOf, IsKeptIf, IsReadyNote, IsStoredBy}
 use Rattle.alp_node.specs.Found.{IsFoundIn, joins_noted, stamps_noted}
 use Rattle.alp_node.specs.Noted.{decision_kept}
-use Rattle.alp_node.specs.ServerState.{AreMade, IsToCome, SeesNoneToCome, PutNoneBeyond}
+use Rattle.alp_node.specs.ServerState.{AreMade, IsToCome}
 use Rattle.alp_node.specs.Totals.{LiveMap}
 use Rattle.alp_node.proofs.CountedLocks.{as_many}
 use Rattle.alp_node.proofs.FoundAs.{IsLeftLife, IsAtRest, IsNoteKept, note_kept, IsTold}
@@ -63,7 +62,7 @@ use Rattle.alp_node.proofs.FoundReady.{note_held}
 use Rattle.alp_node.proofs.FoundStart.{opening, joins_noted_so}
 use Rattle.alp_node.proofs.LockCountLemmas.{held_then}
 use Rattle.alp_node.proofs.PastIds.{made_again, unsaid}
-use Rattle.alp_node.proofs.PastLemmas.{IsThen, IsLast, IsFoundAs}
+use Rattle.alp_node.proofs.PastLemmas.{IsFoundAs}
 use Rattle.alp_node.proofs.StartLemmas.{volume_sized}
 use Rattle.alp_node.proofs.ToComeLemmas.{comes_after}
 

@@ -53,17 +53,23 @@ use Rattle.alp_node.proofs.StartLemmas.{before_less, before_same, raised_next, r
 pub put_back : (notes : Notes) (c : ClockNote) → clock_form.Fits c → clock_kept (map.insert notes clock_name (clock_form.spell c)) ≡ c
 put_back notes c fits = ap clock_in (get-insert nat_list_cmp_total notes clock_name (clock_form.spell c) clock_name) ∙ clock_back c fits
 
-module _ {V : Type 0} (server servers : ℕ) (tells : Bool) (sizes told_sizes : Sizes) (found now : Contents) (clock : ClockNote) (f : Found) (v : V) (k : ServerState V) (fits : clock_form.Fits clock)
-    (alone : AreNotesTogether server servers clock.epoch sizes.area found.notes) (later : (clock_before clock.epoch found.notes).epoch < clock.epoch) (finds : FindsAll tells found.cells server clock.epoch found.notes f)
-    (notes : now.notes ≡ noted clock_name (Some (clock_form.spell clock)) found.notes) (same : told_sizes ≡ sizes) (begun : HasBegun told_sizes server servers clock f v k) where
+module _ {V : Type 0} (G : Ghosts V) (server servers : ℕ) (before mid : V) (clock : ClockNote) (f : Found) (k : ServerState V) (left : IsLeft G before mid) (fits : clock_form.Fits clock)
+    (alone : AreNotesTogether server servers clock.epoch (G.volume before).area (G.held before).notes) (later : (clock_before clock.epoch (G.held before).notes).epoch < clock.epoch) (finds : FindsAll (G.tells before) (G.held before).cells server clock.epoch (G.held before).notes f)
+    (put : PutsClock G mid k.vault clock (Ok tt)) (begun : HasBegun (G.volume k.vault) server servers clock f k.vault k) where
+  abbrev pub held_before : Contents
+  held_before = G.held before
+
+  pub sizes_then : k.sizes ≡ G.volume before
+  sizes_then = begun.volume ∙ put.same.sizes ∙ left.same.sizes
+
   abbrev pub then_kept : ServerState V
-  then_kept = found_kept tells server servers sizes.area sizes clock.epoch clock.clock found.cells found.notes alone later f.lives f.locks f.joins f.coordinator finds.found k
+  then_kept = found_kept (G.tells before) server servers (G.volume before).area (G.volume before) clock.epoch clock.clock held_before.cells held_before.notes alone later f.lives f.locks f.joins f.coordinator finds.found k
 
   pub kept_is : k ≡ then_kept
   kept_is = λ i. record k {
     server = begun.number i;
     servers = begun.of_all i;
-    sizes = (begun.volume ∙ same) i;
+    sizes = sizes_then i;
     epoch = begun.epoch i;
     clock = begun.time i;
     given = begun.given i;
@@ -77,19 +83,25 @@ module _ {V : Type 0} (server servers : ℕ) (tells : Bool) (sizes told_sizes : 
     is_down = begun.up i;
   }
 
-  pub ready_then : (steps : ℕ) (serves : Bool) → IsTrue serves → 64 ≤ sizes.area → (clock_kept found.notes).clock ≤ clock.clock → clock.clock ≤ 2 ^ 62 → clock.epoch < 2 ^ 32 → IsReady steps serves k
-  ready_then steps serves serving area low within last =
-      subst (IsReady steps serves) (sym kept_is)
-      (found_ready tells server servers sizes.area sizes clock.epoch clock.clock found.cells found.notes alone later f.lives f.locks f.joins f.coordinator finds.found steps serves k serving refl area low within last)
+  pub notes_then : (G.held k.vault).notes ≡ noted clock_name (Some (clock_form.spell clock)) held_before.notes
+  notes_then = put.notes ∙ ap (λ (c : Contents). map.insert c.notes clock_name (clock_form.spell clock)) left.contents
 
-  pub noted_then : AreNotesFor k now.notes
+  pub cells_then : IsTrue (G.tells before) → (G.held k.vault).cells ≡ held_before.cells
+  cells_then told = put.cells (subst IsTrue (sym left.same.telling) told) ∙ ap (λ (c : Contents). c.cells) left.contents
+
+  pub ready_then : (steps : ℕ) → IsTrue (G.serves k.vault) → 64 ≤ (G.volume before).area → (clock_kept held_before.notes).clock ≤ clock.clock → clock.clock ≤ 2 ^ 62 → clock.epoch < 2 ^ 32 → IsReady steps (G.serves k.vault) k
+  ready_then steps serving area low within last =
+      subst (IsReady steps (G.serves k.vault)) (sym kept_is)
+      (found_ready (G.tells before) server servers (G.volume before).area (G.volume before) clock.epoch clock.clock held_before.cells held_before.notes alone later f.lives f.locks f.joins f.coordinator finds.found steps (G.serves k.vault) k serving refl area low within last)
+
+  pub noted_then : AreNotesFor k (G.held k.vault).notes
   noted_then =
-      subst (λ (s : ServerState V). AreNotesFor s now.notes) (sym kept_is)
-      (subst (AreNotesFor then_kept) (sym notes)
-      (raised_noted tells server servers sizes.area sizes clock.epoch clock.clock found.cells found.notes alone later f.lives f.locks f.joins f.coordinator finds.found fits))
+      subst (λ (s : ServerState V). AreNotesFor s (G.held k.vault).notes) (sym kept_is)
+      (subst (AreNotesFor then_kept) (sym notes_then)
+      (raised_noted (G.tells before) server servers (G.volume before).area (G.volume before) clock.epoch clock.clock held_before.cells held_before.notes alone later f.lives f.locks f.joins f.coordinator finds.found fits))
 
-  pub keeps_found : KeepsFound tells found k
-  keeps_found = subst (KeepsFound tells found) (sym kept_is) (record { all = finds.found; given = refl; sessions = refl; dead = refl; waits = refl; up = refl })
+  pub keeps_found : KeepsFound (G.tells before) held_before k
+  keeps_found = subst (KeepsFound (G.tells before) held_before) (sym kept_is) (record { all = finds.found; given = refl; sessions = refl; dead = refl; waits = refl; up = refl })
 
 -- ---- and one that starts
 
@@ -119,10 +131,10 @@ module _ {V : Type 0} (G : Ghosts V) (server servers : ℕ) (before mid : V) (cl
   v = n.kept.vault
 
   notes_now : (G.held v).notes ≡ noted clock_name (Some (clock_form.spell clock)) (G.held before).notes
-  notes_now = put.notes ∙ ap (λ (c : Contents). map.insert c.notes clock_name (clock_form.spell clock)) left.contents
+  notes_now = notes_then G server servers before mid clock f n.kept left fits_note alone later_than finds put begun
 
   cells_now : IsTrue (G.tells before) → (G.held v).cells ≡ (G.held before).cells
-  cells_now told = put.cells (subst IsTrue (sym left.same.telling) told) ∙ ap (λ (c : Contents). c.cells) left.contents
+  cells_now = cells_then G server servers before mid clock f n.kept left fits_note alone later_than finds put begun
 
   clock_now : clock_kept (G.held v).notes ≡ clock
   clock_now = ap clock_kept notes_now ∙ put_back (G.held before).notes clock fits_note
@@ -156,7 +168,7 @@ module _ {V : Type 0} (G : Ghosts V) (server servers : ℕ) (before mid : V) (cl
           caused = subst (IsAnswered o) (sym empty) (tt, λ i e at. inr (let within : i < 0 = slice_get_within [] i e at in omega (arith, within)));
           state = opened_on o;
           says = ap (state_of o) empty;
-          kept = subst (IsAs (opened_on o) (G.held v)) (sym (kept_is server servers (G.tells before) (G.volume before) (G.volume v) (G.held before) (G.held v) clock f v n.kept fits_note alone later_than finds notes_now (put.same.sizes ∙ left.same.sizes) begun))
+          kept = subst (IsAs (opened_on o) (G.held v)) (sym (kept_is G server servers before mid clock f n.kept left fits_note alone later_than finds put begun))
               (found_as (G.tells before) server servers (G.volume before).area (G.volume before) clock.epoch clock.clock (G.held before).cells (G.held before).notes alone later_than f.lives f.locks f.joins f.coordinator finds.found (opened_on o)
               (new_told (G.tells before) server servers (G.volume before).area (G.volume before) clock.epoch clock.clock (G.held before).cells (G.held before).notes alone later_than f.lives f.locks f.joins f.coordinator finds.found (volume told) (given_before (given told)))
               n.kept (G.held v) told fits_note (cells_now told) notes_now (together told).room);
@@ -168,8 +180,8 @@ module _ {V : Type 0} (G : Ghosts V) (server servers : ℕ) (before mid : V) (cl
       all = put.same.of_all ∙ left.same.of_all ∙ of_all ∙ sym begun.of_all;
       sizes = begun.volume;
       ready = subst (λ (m : ℕ). IsReady m (G.serves v) n.kept) (sym (ap (λ (es : List Entry). length es) empty))
-          (ready_then server servers (G.tells before) (G.volume before) (G.volume v) (G.held before) (G.held v) clock f v n.kept fits_note alone later_than finds notes_now (put.same.sizes ∙ left.same.sizes) begun 0 (G.serves v) serving area low_clock (raised_within (G.held before) clock next) (raised_last (G.held before) clock next));
-      noted = λ up. noted_then server servers (G.tells before) (G.volume before) (G.volume v) (G.held before) (G.held v) clock f v n.kept fits_note alone later_than finds notes_now (put.same.sizes ∙ left.same.sizes) begun;
+          (ready_then G server servers before mid clock f n.kept left fits_note alone later_than finds put begun 0 serving area low_clock (raised_within (G.held before) clock next) (raised_last (G.held before) clock next));
+      noted = λ up. noted_then G server servers before mid clock f n.kept left fits_note alone later_than finds put begun;
       said = subst (λ (es : List Entry). AllByRecursion (λ (x : Envelope). MaySay x.message) (sent_in es)) (sym empty) tt;
       right = right_then;
       durable = λ tells. up_durable (start_in G n) (G.held v) n (G.may_leave v) (right_then tells) begun.up (only tells);
@@ -182,5 +194,5 @@ module _ {V : Type 0} (G : Ghosts V) (server servers : ℕ) (before mid : V) (cl
     sizes = begun.volume;
     opening = opening_is;
     journal = empty;
-    found = keeps_found server servers (G.tells before) (G.volume before) (G.volume v) (G.held before) (G.held v) clock f v n.kept fits_note alone later_than finds notes_now (put.same.sizes ∙ left.same.sizes) begun;
+    found = keeps_found G server servers before mid clock f n.kept left fits_note alone later_than finds put begun;
   }

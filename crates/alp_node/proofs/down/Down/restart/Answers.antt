@@ -1,8 +1,4 @@
-use Rattle.std.specs.Prelude.{IsTrue}
-use Rattle.std.proofs.Common.{◌≤◌, refl, sym, ◌∙◌, ap, subst}
-use Rattle.alp_base.specs.Crashes.{Only}
-use Rattle.alp_vault.specs.Vault.{IsServer}
-use Rattle.alp_vault.specs.Volumes.{IsVolumeOf}
+use Rattle.std.proofs.Common.{refl, subst}
 use Rattle.alp_node.specs.DownStates.{DownState}
 use Rattle.alp_node.specs.NodeStates.{NodeState}
 use Rattle.alp_node.specs.Downs.{HasEntered, HasRestarted, IsStillDown}
