@@ -60,6 +60,15 @@ use Rattle.alp_node.proofs.NotedLemmas.{ready_on}
 pub keeps_of : (s : State) (epoch : ℕ) (notes : Notes) → AreNotesOf s epoch notes → Keeps s.holder.server s.servers (record { epoch = epoch; clock = s.holder.kept }) (λ i. IsReadyNote s.holder.lives (s.phases i)) (λ u. decision_kept (s.fates u)) notes
 keeps_of s epoch notes h = record { clock = h.clock; ready = h.ready; decided = h.decided; format = h.format }
 
+-- only that join may be ready now that was not
+fits_one : (s m : State) (j : JoinNo) → ready_name.Fits j → ((i : JoinNo) → same_join j i ≡ false → m.phases i ≡ s.phases i) → ((i : JoinNo) → is_ready (s.phases i) ≡ true → ready_name.Fits i)
+    → (i : JoinNo) → is_ready (m.phases i) ≡ true → ready_name.Fits i
+fits_one s m j named others was i is = go (same_join j i) refl
+  where
+    go : (b : Bool) → same_join j i ≡ b → ready_name.Fits i
+    go true e = subst (λ (x : JoinNo). ready_name.Fits x) (same_join-true j i e) named
+    go false e = was i (ap is_ready (sym (others i e)) ∙ is)
+
 no_note : (lives : TransId → Option Life) (p : Phase) → is_ready p ≡ false → IsReadyNote lives p None
 no_note lives (Ready t c ts) n = let wrong : true ≡ false = n in cc
 no_note lives Unseen n = refl
@@ -163,7 +172,7 @@ module _ (s : State) (j : JoinNo) (t : TransId) (client ts n : ℕ) (c : Cause) 
   pub aborted_notes : (epoch : ℕ) (notes : Notes) → ready_name.Fits j → AreNotesOf s epoch notes → AreNotesOf (state_deed s (Aborts j t n c)) epoch (noted (ready_name.spell j) None notes)
   aborted_notes epoch notes named h =
       let k = ended_keeps s aborted_state j t aborted_one aborted_over (record { epoch = epoch; clock = s.holder.kept }) (λ u. decision_kept (s.fates u)) notes named (keeps_of s epoch notes h) in
-      record { clock = k.clock; ready = k.ready; decided = k.decided; format = k.format }
+      record { clock = k.clock; ready = k.ready; decided = k.decided; fit = fits_one s aborted_state j named (λ i away. aborted_one.phases i away) h.fit; fit_decided = h.fit_decided; format = k.format }
 
 -- ---- it is applied, and the clock stands
 
@@ -208,6 +217,8 @@ module _ (s : State) (j : JoinNo) (t : TransId) (client ts time : ℕ) (l : Life
         clock = k.clock ∙ ap (λ (o : Option Life). record { epoch = epoch; clock = (commits s.holder stamp o).kept }) (sym live);
         ready = k.ready;
         decided = k.decided;
+        fit = fits_one s applied_state j named (λ i away. applied_one.phases i away) h.fit;
+        fit_decided = h.fit_decided;
         format = subst (λ (n : ℕ). AreServerNotes n s.servers (noted (ready_name.spell j) None (noted clock_name (Some (clock_form.spell now)) notes))) (sym (same_server (s.holder.lives t))) k.format;
       }
 
@@ -254,6 +265,8 @@ module _ (s : State) (j : JoinNo) (t : TransId) (client ts : ℕ) (who : List �
         clock = k.clock ∙ ap (λ (n : ℕ). record { epoch = epoch; clock = n }) (sym (readied_clock (s.holder.lives t)));
         ready = k.ready;
         decided = k.decided;
+        fit = fits_one s readied_state j named (λ i away. readied_one.phases i away) h.fit;
+        fit_decided = h.fit_decided;
         format = subst (λ (n : ℕ). AreServerNotes n s.servers (noted (ready_name.spell j) (Some (ready_form.spell p)) notes)) (sym (readied_server (s.holder.lives t))) k.format;
       }
 
@@ -270,9 +283,15 @@ forgotten_notes s m t epoch notes holder servers phases others gone named h =
       ready = λ i fits. subst (λ (x : Holder). IsReadyNote x.lives (m.phases i) (ready_at (noted (decision_name.spell t) None notes) i)) (sym holder)
           (subst (λ (f : JoinNo → Phase). IsReadyNote s.holder.lives (f i) (ready_at (noted (decision_name.spell t) None notes) i)) (sym phases) (k.ready i fits));
       decided = k.decided;
+      fit = λ i is. h.fit i (ap (λ (f : JoinNo → Phase). is_ready (f i)) (sym phases) ∙ is);
+      fit_decided = λ u is. fits_beside u (same_trans t u) refl is;
       format = subst (λ (x : Holder). AreServerNotes x.server m.servers (noted (decision_name.spell t) None notes)) (sym holder) (subst (λ (n : ℕ). AreServerNotes s.holder.server n (noted (decision_name.spell t) None notes)) (sym servers) k.format);
     }
   where
+    fits_beside : (u : TransId) (b : Bool) → same_trans t u ≡ b → is_some (decision_kept (m.fates u)) ≡ true → decision_name.Fits u
+    fits_beside u true e is = subst (λ (x : TransId). decision_name.Fits x) (same_trans-true t u e) named
+    fits_beside u false e is = h.fit_decided u (ap (λ (o : Option Decision). is_some o) (sym (others u e)) ∙ is)
+
     trans_away : (u : TransId) → (u ≡ t → ⊥) → same_trans t u ≡ false
     trans_away u other = go (same_trans t u) refl
       where
