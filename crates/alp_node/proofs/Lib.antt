@@ -143,3 +143,4 @@ pub mod TakeLemmas
 pub mod EditsNoted
 pub mod LocksNoted
 pub mod TogetherLemmas
+pub mod HeldHere
