@@ -220,7 +220,7 @@ module _ {V : Type 0} (G : Ghosts V) (d : DownState V) (n : NodeState V) (clock 
       let told_of : IsTold (G.tells d.vault) d.server d.servers area (G.volume d.vault) clock.epoch clock.clock b.found.cells notes b.alone later f.lives f.locks f.joins f.coordinator b.finds.found m =
       found_told a d.server d.servers d.epoch (G.volume d.vault) r.past h.raised k.state k.it k.near b.found k.stored clock.epoch area epoch_next b.alone later (G.tells d.vault) f.lives f.locks f.joins f.coordinator b.finds.found sound clock.clock time_is in
       let kept : IsAs m (G.held v) n.kept = subst (IsAs m (G.held v)) (sym kept_is)
-      (found_as (G.tells d.vault) d.server d.servers area (G.volume d.vault) clock.epoch clock.clock b.found.cells notes b.alone later f.lives f.locks f.joins f.coordinator b.finds.found m told_of n.kept (G.held v) told fits cells_now b.notes g.together.room) in
+      (found_as (G.tells d.vault) d.server d.servers area (G.volume d.vault) clock.epoch clock.clock b.found.cells notes b.alone later f.lives f.locks f.joins f.coordinator b.finds.found m told_of n.kept (G.held v) told fits (omega (arith, time_is)) cells_now b.notes g.together.room) in
       subst (λ (x : Start). IsRight x (G.held v) n) same_start (record {
         opening = r.opening;
         lawful = subst (IsLawful o) (sym journal) (Along-push next IsLawfulEntry (opened o) d.journal e r.lawful (subst (λ (z : State). IsLawfulEntry z e) (sym r.says) leads.lawful));

@@ -89,7 +89,7 @@ use Rattle.alp_node.specs.Noted.{AreNoted, IsNotedJoin, IsNoteOf, HasSize, decis
 use Rattle.alp_node.specs.Paired.{ArePaired, IsPairedWith, IsItsJoin}
 use Rattle.alp_node.specs.Rooms.{IsWithin}
 use Rattle.alp_node.specs.ServerState.{AreJoinsHere, IsReady}
-use Rattle.alp_node.specs.Sessions.{no_sessions, session_at}
+use Rattle.alp_node.specs.Sessions.{no_sessions, session_at, IsClient}
 use Rattle.alp_node.specs.Totals.{LiveMap}
 use Rattle.alp_node.specs.Transactions.{AreDecidedBy}
 use Rattle.alp_node.specs.Waits.{IsOfCalls}
@@ -501,6 +501,10 @@ module _ (tells : Bool) (server servers area : ℕ) (sizes : Sizes) (epoch clock
           let n : IsOfNote j x = join_noted j x is in
           (λ i. is_drawn (joins_are.server i) (joins_are.current i) (joins_are.count i) j.server j.epoch j.counter) ∙ ap (λ (y : JoinNo). is_drawn server epoch 0 y.server y.epoch y.counter) (sym n.of)
           ∙ join_drawn server servers area sizes epoch clock cells notes h later n.note n.has
+          );
+      clients = λ j x is. (
+          let n : IsOfNote j x = join_noted j x is in
+          subst (λ (y : LiveJoin). IsClient y.client) (sym n.is) (part_of_note server servers area sizes epoch clock cells notes h later n.note n.has).client
           );
       once = joins_are.once;
       single = joins_are.single;

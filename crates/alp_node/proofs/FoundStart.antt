@@ -250,14 +250,6 @@ module _ (server servers area : ℕ) (sizes : Sizes) (epoch clock : ℕ) (cells 
       go (inl none) = let wrong : false ≡ true = sym (ap (λ (f : Fate). is_some (decision_kept f)) none) ∙ is in cc
       go (inr x) = subst decision_name.Fits x.of (decision_stands notes x.note x.has).named
 
-  -- with the clock raised they say the opening
-  pub opening_noted : clock_form.Fits (record { epoch = epoch; clock = clock }) → AreNotesOf (state_of (opened_on opening)) epoch (noted clock_name (Some (clock_form.spell (record { epoch = epoch; clock = clock }))) notes)
-  opening_noted fits =
-      let now : ClockNote = record { epoch = epoch; clock = clock } in
-      let k : Keeps server servers now (λ j. IsReadyNote (lives_noted (ready_kept notes)) (phase_noted (ready_kept notes) j)) (λ t. decision_kept (fate_noted (decisions_kept notes) t)) (noted clock_name (Some (clock_form.spell now)) notes) =
-      put_clock server servers (clock_kept notes) (λ j. IsReadyNote (lives_noted (ready_kept notes)) (phase_noted (ready_kept notes) j)) (λ t. decision_kept (fate_noted (decisions_kept notes) t)) notes opening_keeps now fits in
-      record { clock = k.clock; ready = k.ready; decided = k.decided; fit = opening_fits; fit_decided = opening_decided_fits; format = k.format }
-
   -- times of votes
   pub vote_time : (n : ReadyNote) → Has n (ready_kept notes) → n.ts ≤ 2 ^ 62
   vote_time n has =

@@ -74,6 +74,7 @@ use Rattle.alp_node.specs.declared.waits.WaitingCall.{WaitingCall}
 use Rattle.alp_node.specs.declared.lock_counts.LockCounts.{LockCounts}
 use Rattle.alp_node.proofs.BesideLemmas.{AreNamed, AreOthers, file_named, others_told, queue_beside, asked_beside}
 use Rattle.alp_node.proofs.HeldHere.{same_here}
+use Rattle.alp_node.specs.Sessions.{IsClient}
 use Rattle.alp_node.proofs.KeptLemmas.{alike_set, each_set, none_held}
 use Rattle.alp_node.proofs.TotalLemmas.{added_room}
 use Rattle.alp_node.proofs.WithinLemmas.{new_within}
@@ -197,6 +198,7 @@ module _ {V : Type 0} (k : ServerState V) (j : JoinNo) (t : TransId) (y : LiveJo
       epoch = h.joins.epoch;
       drawn = h.joins.drawn;
       numbered = λ i x at. (let w = was_staged j (stage_after step.Enter) k.joins.lives i x at in h.joins.numbered i w.was w.there);
+      clients = λ i x at. (let w = was_staged j (stage_after step.Enter) k.joins.lives i x at in subst (λ (n : ℕ). IsClient n) (sym (staged_client j (stage_after step.Enter) w.was) ∙ ap (λ (z : LiveJoin). z.client) (sym w.now)) (h.joins.clients i w.was w.there));
       once = once_staged j (stage_after step.Enter) k.joins.lives h.joins.once;
       single = single_staged j (stage_after step.Enter) k.joins.lives h.joins.single;
       times = λ i x ts at voted. (let w = was_staged j (stage_after step.Enter) k.joins.lives i x at in h.joins.times i w.was ts w.there (staged_voted j w.was ts (ap (λ (z : LiveJoin). z.stage) (sym w.now) ∙ voted)));
@@ -279,7 +281,7 @@ module _ {V : Type 0} (k : ServerState V) (j : JoinNo) (t : TransId) (y : LiveJo
       };
       known = known_then;
       seat = h.seat;
-      joins = record { server = joins_then.server; epoch = joins_then.epoch; drawn = (let low : (with_entered k.joins j).drawn ≤ n = joins_then.drawn in omega arith); numbered = joins_then.numbered; once = joins_then.once; single = joins_then.single; times = joins_then.times };
+      joins = record { server = joins_then.server; epoch = joins_then.epoch; drawn = (let low : (with_entered k.joins j).drawn ≤ n = joins_then.drawn in omega arith); numbered = joins_then.numbered; clients = joins_then.clients; once = joins_then.once; single = joins_then.single; times = joins_then.times };
       paired = paired_then;
       idle = idle_then;
       opens = each_part (λ u x. x.part.last ≤ n + 1) (let zero_opens : p.last ≡ 0 = ap (λ (w : Own). w.last) fresh in omega (arith, zero_opens)) (λ u x there. (let low : x.part.last ≤ n = h.opens u x there in omega arith));

@@ -74,6 +74,7 @@ notes_along s m epoch notes h k = record {
   decided = λ t fits. k.decided t fits ∙ sym (h.decided t);
   fit = λ j is. k.fit j (ready_before s.holder.lives m.holder.lives (s.phases j) (m.phases j) (h.ready j) is);
   fit_decided = λ t is. k.fit_decided t (ap (λ (o : Option Decision). is_some o) (sym (h.decided t)) ∙ is);
+  timely = λ t d is. subst (λ (n : ℕ). d.ts ≤ n) (sym h.kept) (k.timely t d (sym (h.decided t) ∙ is));
   format = λ name value is. subst (λ (n : ℕ). is_server_note n m.servers name value ≡ true) (sym h.server) (subst (λ (n : ℕ). is_server_note s.holder.server n name value ≡ true) (sym h.servers) (k.format name value is));
 }
 

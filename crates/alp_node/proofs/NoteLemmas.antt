@@ -60,6 +60,7 @@ raised_stored near last s c low h =
         decided = k.decided;
         fit = h.notes.fit;
         fit_decided = h.notes.fit_decided;
+        timely = h.notes.timely;
         format = k.format;
       };
     }

@@ -172,7 +172,7 @@ module _ (s : State) (j : JoinNo) (t : TransId) (client ts n : ℕ) (c : Cause) 
   pub aborted_notes : (epoch : ℕ) (notes : Notes) → ready_name.Fits j → AreNotesOf s epoch notes → AreNotesOf (state_deed s (Aborts j t n c)) epoch (noted (ready_name.spell j) None notes)
   aborted_notes epoch notes named h =
       let k = ended_keeps s aborted_state j t aborted_one aborted_over (record { epoch = epoch; clock = s.holder.kept }) (λ u. decision_kept (s.fates u)) notes named (keeps_of s epoch notes h) in
-      record { clock = k.clock; ready = k.ready; decided = k.decided; fit = fits_one s aborted_state j named (λ i away. aborted_one.phases i away) h.fit; fit_decided = h.fit_decided; format = k.format }
+      record { clock = k.clock; ready = k.ready; decided = k.decided; fit = fits_one s aborted_state j named (λ i away. aborted_one.phases i away) h.fit; fit_decided = h.fit_decided; timely = h.timely; format = k.format }
 
 -- ---- it is applied, and the clock stands
 
@@ -207,9 +207,9 @@ module _ (s : State) (j : JoinNo) (t : TransId) (client ts time : ℕ) (l : Life
   pub applied_voted : AreVoted (state_deed s (Applies j (record { ts = time; trans = t })))
   applied_voted = ended_voted s applied_state j t applied_one applied_over voted
 
-  pub applied_notes : (epoch : ℕ) (notes : Notes) → ready_name.Fits j → clock_form.Fits (record { epoch = epoch; clock = max s.holder.clock time }) → AreNotesOf s epoch notes
+  pub applied_notes : (epoch : ℕ) (notes : Notes) → ready_name.Fits j → clock_form.Fits (record { epoch = epoch; clock = max s.holder.clock time }) → s.holder.kept ≤ s.holder.clock → AreNotesOf s epoch notes
       → AreNotesOf (state_deed s (Applies j (record { ts = time; trans = t }))) epoch (noted (ready_name.spell j) None (noted clock_name (Some (clock_form.spell (record { epoch = epoch; clock = max s.holder.clock time }))) notes))
-  applied_notes epoch notes named fits h =
+  applied_notes epoch notes named fits order h =
       let now : ClockNote = record { epoch = epoch; clock = max s.holder.clock time } in
       let first = put_clock s.holder.server s.servers (record { epoch = epoch; clock = s.holder.kept }) (λ i. IsReadyNote s.holder.lives (s.phases i)) (λ u. decision_kept (s.fates u)) notes (keeps_of s epoch notes h) now fits in
       let k = ended_keeps s applied_state j t applied_one applied_over now (λ u. decision_kept (s.fates u)) (noted clock_name (Some (clock_form.spell now)) notes) named first in
@@ -219,6 +219,7 @@ module _ (s : State) (j : JoinNo) (t : TransId) (client ts time : ℕ) (l : Life
         decided = k.decided;
         fit = fits_one s applied_state j named (λ i away. applied_one.phases i away) h.fit;
         fit_decided = h.fit_decided;
+        timely = λ u d is. subst (λ (o : Option Life). d.ts ≤ (commits s.holder stamp o).kept) (sym live) (let low : d.ts ≤ s.holder.kept = h.timely u d is in omega (arith, low, order));
         format = subst (λ (n : ℕ). AreServerNotes n s.servers (noted (ready_name.spell j) None (noted clock_name (Some (clock_form.spell now)) notes))) (sym (same_server (s.holder.lives t))) k.format;
       }
 
@@ -267,6 +268,7 @@ module _ (s : State) (j : JoinNo) (t : TransId) (client ts : ℕ) (who : List �
         decided = k.decided;
         fit = fits_one s readied_state j named (λ i away. readied_one.phases i away) h.fit;
         fit_decided = h.fit_decided;
+        timely = λ u d is. subst (λ (n : ℕ). d.ts ≤ n) (sym (readied_clock (s.holder.lives t))) (h.timely u d is);
         format = subst (λ (n : ℕ). AreServerNotes n s.servers (noted (ready_name.spell j) (Some (ready_form.spell p)) notes)) (sym (readied_server (s.holder.lives t))) k.format;
       }
 
@@ -285,12 +287,17 @@ forgotten_notes s m t epoch notes holder servers phases others gone named h =
       decided = k.decided;
       fit = λ i is. h.fit i (ap (λ (f : JoinNo → Phase). is_ready (f i)) (sym phases) ∙ is);
       fit_decided = λ u is. fits_beside u (same_trans t u) refl is;
+      timely = λ u d is. subst (λ (x : Holder). d.ts ≤ x.kept) (sym holder) (timely_beside u d (same_trans t u) refl is);
       format = subst (λ (x : Holder). AreServerNotes x.server m.servers (noted (decision_name.spell t) None notes)) (sym holder) (subst (λ (n : ℕ). AreServerNotes s.holder.server n (noted (decision_name.spell t) None notes)) (sym servers) k.format);
     }
   where
     fits_beside : (u : TransId) (b : Bool) → same_trans t u ≡ b → is_some (decision_kept (m.fates u)) ≡ true → decision_name.Fits u
     fits_beside u true e is = subst (λ (x : TransId). decision_name.Fits x) (same_trans-true t u e) named
     fits_beside u false e is = h.fit_decided u (ap (λ (o : Option Decision). is_some o) (sym (others u e)) ∙ is)
+
+    timely_beside : (u : TransId) (d : Decision) (b : Bool) → same_trans t u ≡ b → decision_kept (m.fates u) ≡ Some d → d.ts ≤ s.holder.kept
+    timely_beside u d true e is = let wrong : None ≡ Some d = sym gone ∙ ap (λ (x : TransId). decision_kept (m.fates x)) (same_trans-true t u e) ∙ is in cc
+    timely_beside u d false e is = h.timely u d (sym (others u e) ∙ is)
 
     trans_away : (u : TransId) → (u ≡ t → ⊥) → same_trans t u ≡ false
     trans_away u other = go (same_trans t u) refl

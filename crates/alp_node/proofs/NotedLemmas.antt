@@ -179,6 +179,7 @@ notes_on s m epoch notes kept server servers fates ready h = record {
   decided = λ t fits. h.decided t fits ∙ sym (fates t);
   fit = λ j is. h.fit j (ready_before s.holder.lives m.holder.lives (s.phases j) (m.phases j) (ready j) is);
   fit_decided = λ t is. h.fit_decided t (ap (λ (o : Option Decision). is_some o) (sym (fates t)) ∙ is);
+  timely = λ t d is. subst (λ (n : ℕ). d.ts ≤ n) (sym kept) (h.timely t d (sym (fates t) ∙ is));
   format = subst (λ (n : ℕ). AreServerNotes n m.servers notes) (sym server) (subst (λ (n : ℕ). AreServerNotes s.holder.server n notes) (sym servers) h.format);
 }
 

@@ -146,7 +146,7 @@ alive_buried client dead lives joins h = record {
 
 -- the joins of a server are within more steps
 pub joins_later : (server epoch m n : ℕ) (js : Joins) → m ≤ n → AreJoinsHere server epoch m js → AreJoinsHere server epoch n js
-joins_later server epoch m n js more h = record { server = h.server; epoch = h.epoch; drawn = omega (arith, more, h.drawn); numbered = h.numbered; once = h.once; single = h.single; times = h.times }
+joins_later server epoch m n js more h = record { server = h.server; epoch = h.epoch; drawn = omega (arith, more, h.drawn); numbered = h.numbered; clients = h.clients; once = h.once; single = h.single; times = h.times }
 
 
 module _ {V : Type 0} (n : ℕ) (serves : Bool) (k : ServerState V) where

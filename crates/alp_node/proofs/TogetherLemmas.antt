@@ -75,8 +75,8 @@ use Rattle.alp_node.specs.Covers.{AreHeld}
 use Rattle.alp_node.specs.Durable.{IsReadyNote, AreNotesOf}
 use Rattle.alp_node.specs.Noted.{decision_kept, size_in, size_of as live_size, HasSize, IsNotedAs, IsNotedJoin, AreNotesFor}
 use Rattle.alp_node.specs.ServerState.{IsLife, IsAlike, IsAs, IsReady}
+use Rattle.alp_node.specs.Sessions.{IsClient}
 use Rattle.alp_node.specs.SoundLives.{edits_in, all_edits, HasSoundLives}
-use Rattle.alp_node.specs.Tidy.{IsTidy}
 use Rattle.alp_node.specs.Totals.{LiveMap}
 use Rattle.alp_node.specs.declared.lives.Live.{Live}
 use Rattle.alp_node.specs.declared.server_state.ServerState.{ServerState}
@@ -172,6 +172,7 @@ record IsJoinNote (lives : LiveMap) (o : Option LiveJoin) (p : ReadyPart) : Type
   pub found : o ≡ Some joined
   pub voted : joined.stage ≡ stage.Ready p.ts
   pub trans : joined.trans ≡ p.trans
+  pub client_is : joined.client ≡ p.client
   pub size : HasSize (size_in lives p.trans) p
 
 join_note : (lives : LiveMap) (o : Option LiveJoin) (p : ReadyPart) → IsNotedJoin lives o (Some p) → IsJoinNote lives o p
@@ -186,6 +187,7 @@ join_note lives (Some x) p h = go x.stage refl h
       found = refl;
       voted = e ∙ ap stage.Ready (sym n.ts);
       trans = sym n.trans;
+      client_is = sym n.client;
       size = subst (λ (t : TransId). HasSize (size_in lives t) p) (sym n.trans) n.size;
     }
 
@@ -224,7 +226,7 @@ same_map_of m es fs e = sym (with_all es m) ∙ ap (λ (i : Intents). with_inten
 -- ---- all of it
 
 module _ {V : Type 0} (a : Account) (held : Contents) (k : ServerState V) (steps : ℕ) (serves : Bool) (h : IsAs a held k) (r : IsReady steps serves k) (up : k.is_down ≡ false) (noted : AreNotesFor k held.notes)
-    (tidy : IsTidy a) (sound : HasSoundLives a.holder) where
+    (sound : HasSoundLives a.holder) where
   abbrev notes : Notes
   notes = held.notes
 
@@ -276,6 +278,7 @@ module _ {V : Type 0} (a : Account) (held : Contents) (k : ServerState V) (steps
     pub found : join_at k.joins.lives j ≡ Some joined
     pub trans : joined.trans ≡ p.trans
     pub voted : joined.stage ≡ stage.Ready p.ts
+    pub client_is : joined.client ≡ p.client
     pub size : HasSize (live_size (Some live)) p
     pub drawn : is_drawn a.holder.server a.ids.epoch a.ids.joins j.server j.epoch j.counter ≡ true
 
@@ -299,6 +302,7 @@ module _ {V : Type 0} (a : Account) (held : Contents) (k : ServerState V) (steps
         found = n.found;
         trans = n.trans;
         voted = n.voted;
+        client_is = n.client_is;
         size = subst (λ (o : Option Live). HasSize (live_size o) p) q.1 n.size;
         drawn = (subst (IsPhaseOf a.servers a.holder.server a.ids.epoch a.ids.joins a.joined j) nk.phase_is (stands.phases j)).0.0;
       }
@@ -320,8 +324,12 @@ module _ {V : Type 0} (a : Account) (held : Contents) (k : ServerState V) (steps
     part_intended : IsIntended (held_by p.locks)
     part_intended = subst IsIntended (sym x.locked) x.alike.intended
 
+    -- what is held is what the note lists
+    held_is : (q : Resource) → holding k.locks.held p.trans q ≡ held_by p.locks q
+    held_is q = sym (x.alike.held q) ∙ ap (λ (g : Holding). g q) (sym x.locked)
+
     part_own : (f : FileId) (m : Mode) → held_by p.locks (Whole f) ≡ Some m → is_own server epoch f ≡ true
-    part_own f m e = (tidy.parts p.trans x.life x.there).own f m (ap (λ (g : Holding). g (Whole f)) (sym x.locked) ∙ e)
+    part_own f m e = (r.unheld p.trans).tidy.own f m (held_is (Whole f) ∙ e)
 
     part_covered : list_all (is_covered (held_by p.locks)) (edits_of p.change) ≡ true
     part_covered =
@@ -330,13 +338,12 @@ module _ {V : Type 0} (a : Account) (held : Contents) (k : ServerState V) (steps
 
     part_good : IsPartNote a.holder.server a.ids.epoch (part_note (j, p))
     part_good =
-        let tidy_part = tidy.parts p.trans x.life x.there in
         let limits = r.within p.trans x.live x.at in
         let fit : AllFit (intents_of x.life.edits).puts = subst (λ (i : Intents). AllFit i.puts) x.alike.intents limits.part.fit in
         let most : x.live.part.counts.cells ≤ 256 = limits.part.most in
         let few : x.live.locks ≤ 1024 = limits.locks in
         record {
-          modes = modes_all p.locks locks_once (λ q m e. tidy_part.modes q m (ap (λ (g : Holding). g (Leaf q)) (sym x.locked) ∙ e));
+          modes = modes_all p.locks locks_once (λ q m e. (r.unheld p.trans).tidy.modes q m (held_is (Leaf q) ∙ e));
           locks = record {
             intended = intended_all p.locks locks_once part_intended;
             covered = part_covered;
@@ -345,7 +352,7 @@ module _ {V : Type 0} (a : Account) (held : Contents) (k : ServerState V) (steps
           locked = own_all p.locks locks_once part_intended a.holder.server a.ids.epoch part_own;
           edited = own_edits a.holder.server a.ids.epoch (held_by p.locks) part_intended part_own (edits_of p.change) part_covered;
           join = drawn_by a.holder.server a.ids.epoch a.ids.joins j.server j.epoch j.counter x.drawn;
-          client = subst (λ (n : ℕ). (1 ≤ n) × (n ≤ 16)) x.client tidy_part.client;
+          client = subst (λ (n : ℕ). IsClient n) x.client_is (r.joins.clients j x.joined x.found);
           cells = omega (arith, changed_same, most);
           once = record {
             locks = locks_once;
@@ -457,9 +464,9 @@ module _ {V : Type 0} (a : Account) (held : Contents) (k : ServerState V) (steps
       let s : IsDecisionAt held.notes d = decision_stands held.notes d has in
       let stands_as : IsStanding a.servers a.holder.server a.ids.epoch a.ids.transactions a.begun d.stamp.trans (a.fates d.stamp.trans) s.decision =
       standing_of a.servers a.holder.server a.ids.epoch a.ids.transactions a.begun d.stamp.trans (a.fates d.stamp.trans) s.decision (sym (said.decided d.stamp.trans s.named) ∙ s.at) (stands.fates d.stamp.trans) in
-      let time : stands_as.stamp.ts ≤ a.holder.kept = tidy.decided d.stamp.trans stands_as.stamp stands_as.joins stands_as.said in
+      let time : s.decision.ts ≤ a.holder.kept = said.timely d.stamp.trans s.decision (sym (said.decided d.stamp.trans s.named) ∙ s.at) in
       let clock : (clock_kept held.notes).clock ≡ a.holder.kept = ap (λ (c : ClockNote). c.clock) said.clock in
-      let early : d.stamp.ts ≤ (clock_kept held.notes).clock = omega (arith, time, clock, stands_as.time, s.ts) in
+      let early : d.stamp.ts ≤ (clock_kept held.notes).clock = omega (arith, time, clock, s.ts) in
       ap (λ (e : ℕ). is_drawn_by e d.stamp.trans.epoch d.stamp.trans.counter && nat_le d.stamp.ts (clock_kept held.notes).clock) low_epoch
       ∙ (λ i. drawn_by a.holder.server a.ids.epoch a.ids.transactions d.stamp.trans.server d.stamp.trans.epoch d.stamp.trans.counter stands_as.drawn i && le-leb d.stamp.ts (clock_kept held.notes).clock early i)
 

@@ -99,6 +99,7 @@ use Rattle.alp_node.proofs.ReadyLemmas.{ready_with, stepped_ready}
 use Rattle.alp_node.proofs.SayLemmas.{away_told, quiet_step, said_caused, said_goes_on}
 use Rattle.alp_node.proofs.WaitLemmas.{none_waiting, named_all}
 use Rattle.alp_node.proofs.WriteSteps.{HasCome, IsStop, written_stepped}
+use Rattle.alp_node.specs.Sessions.{IsClient}
 
 -- ---- why there is a vote
 
@@ -283,6 +284,7 @@ module _ {V : Type 0} (n : ℕ) (serves : Bool) (k : ServerState V) (h : IsReady
       epoch = h.joins.epoch;
       drawn = h.joins.drawn;
       numbered = λ i x at. (let w = was_staged j f k.joins.lives i x at in h.joins.numbered i w.was w.there);
+      clients = λ i x at. (let w = was_staged j f k.joins.lives i x at in subst (λ (n : ℕ). IsClient n) (sym (staged_client j f w.was) ∙ ap (λ (z : LiveJoin). z.client) (sym w.now)) (h.joins.clients i w.was w.there));
       once = once_staged j f k.joins.lives h.joins.once;
       single = single_staged j f k.joins.lives h.joins.single;
       times = λ i x m at voted. (let w = was_staged j f k.joins.lives i x at in

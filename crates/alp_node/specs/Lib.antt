@@ -38,5 +38,4 @@ pub mod Says
 pub mod Writes
 pub mod Noting
 pub mod Ticks
-pub mod Tidy
 pub mod Timeouts

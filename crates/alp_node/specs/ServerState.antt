@@ -49,7 +49,7 @@ use Rattle.alp_node.specs.EarlyFates.{AreEarly}
 use Rattle.alp_node.specs.Noted.{HasReadyRoom, ready_room}
 use Rattle.alp_node.specs.Paired.{ArePaired}
 use Rattle.alp_node.specs.Rooms.{IsWithin}
-use Rattle.alp_node.specs.Sessions.{session_at}
+use Rattle.alp_node.specs.Sessions.{session_at, IsClient}
 use Rattle.alp_node.specs.Totals.{LiveMap, totals_of, HaveRoom}
 use Rattle.alp_node.specs.Transactions.{IsCoordinatorOf, AreDecidedBy}
 use Rattle.alp_node.specs.Turns.{IsKeepable}
@@ -176,12 +176,14 @@ pub record AreAlive (dead : List DeadPart) (lives : LiveMap) (ls : List LiveJoin
   pub parts : (t : TransId) (l : Live) → map.get lives t ≡ Some l → IsAlive dead l.client t
   pub joins : (j : JoinNo) (x : LiveJoin) → join_at ls j ≡ Some x → IsAlive dead x.client x.trans
 
--- The joins are of this server in this epoch, each was drawn here and is there once, and no vote is later than a time may be.
+-- The joins are of this server in this epoch, each was drawn here for a client of the run and is there once, and no vote is later than a
+-- time may be.
 pub record AreJoinsHere (here now steps : ℕ) (joins : Joins) : Type 0 where
   pub server : joins.server ≡ here
   pub epoch : joins.epoch ≡ now
   pub drawn : joins.drawn ≤ steps
   pub numbered : (j : JoinNo) (x : LiveJoin) → join_at joins.lives j ≡ Some x → is_drawn_in joins j ≡ true
+  pub clients : (j : JoinNo) (x : LiveJoin) → join_at joins.lives j ≡ Some x → IsClient x.client
   pub once : AreOnce joins.lives
   pub single : AreSingle joins.lives
   pub times : (j : JoinNo) (x : LiveJoin) (ts : ℕ) → join_at joins.lives j ≡ Some x → x.stage ≡ stage.Ready ts → ts ≤ 2 ^ 62
