@@ -41,6 +41,7 @@ use Rattle.alp_node.specs.Totals.{LiveMap}
 use Rattle.alp_node.specs.Writes.{FitDecision, clock_put}
 use Rattle.alp_node.proofs.CommitNotes.{decided_notes, decided_voted}
 use Rattle.alp_node.proofs.NoteLaw.{AreVoted, IsVoted}
+use Rattle.alp_files.proofs.FilesLemmas.{same-some}
 
 -- what is read back has a name that is spelled so
 pub named_from : (t : TransId) (d : Decision) (name value : List ℕ) → decision_in name value ≡ Some (t, d) → decision_name.Fits t
@@ -132,13 +133,10 @@ module _ (s : State) (t : TransId) (time : ℕ) (js : List JoinNo) (l : Life) (v
         where
           made : (zs : List JoinNo) → decision_kept (Committed stamp zs []) ≡ Some x → (x.ts ≡ time) ⊎ (decision_kept (Finishing client ks vs) ≡ Some x)
           made [] e = let wrong : None ≡ Some x = e in cc
-          made (z ∷ zs) e = inl (ap (λ (y : Decision). y.ts) (sym (same_some (record { ts = time; joins = z ∷ zs }) x e)))
+          made (z ∷ zs) e = inl (ap (λ (y : Decision). y.ts) (sym (same-some (record { ts = time; joins = z ∷ zs }) x e)))
       time_of (Committed s ks ds) x is = inr is
       time_of (Forgotten s ks) x is = inr is
       time_of (Ended c) x is = inr is
-
-      same_some : (x y : Decision) → Some x ≡ Some y → x ≡ y
-      same_some x y e = cc
 
       timely_now : s.holder.kept ≤ s.holder.clock → AreNotesOf s epoch notes → (u : TransId) (x : Decision) (b : Bool) → decision_kept (cond {A = Fate} b (decided stamp js (s.fates u)) (s.fates u)) ≡ Some x → x.ts ≤ (commits s.holder stamp (s.holder.lives t)).kept
       timely_now low was u x b is = subst (λ (o : Option Life). x.ts ≤ (commits s.holder stamp o).kept) (sym live) (go b is)

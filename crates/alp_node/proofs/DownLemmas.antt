@@ -14,13 +14,15 @@ use Rattle.alp_vault.specs.declared.vault.Vault.{Ghosts}
 use Rattle.alp_journal.specs.declared.entry.Entry.{Entry}
 use Rattle.alp_journal.specs.declared.event.Event.TheVariants as event
 use Rattle.alp_journal.specs.Opening.{Start, ready_kept, decisions_kept}
-use Rattle.alp_journal.specs.State.{State, opened}
+use Rattle.alp_journal.specs.Along.{state_after}
+use Rattle.alp_journal.specs.Deeds.{Deed}
+use Rattle.alp_journal.specs.State.{State, opened, state_deed}
 use Rattle.alp_journal.specs.Moves.{next}
 use Rattle.alp_journal.specs.Laws.{IsLawful, IsLawfulEntry}
 use Rattle.alp_journal.specs.Answered.{IsAnswered, IsAnsweredSo, IsAnsweredEntry, FitsJournal}
 use Rattle.alp_journal.specs.Account.{Account, state_of as account_state, Leads}
 use Rattle.alp_journal.specs.Restarts.{restart_entry, restarted_at}
-use Rattle.alp_regain.specs.Together.{clock_before, AreNotesTogether}
+use Rattle.alp_regain.specs.Together.{clock_before, AreNotesTogether, AreTogether}
 use Rattle.alp_node.specs.DownStates.{DownState}
 use Rattle.alp_node.specs.NodeStates.{NodeState}
 use Rattle.alp_node.specs.Durable.{IsStoredBy}
@@ -43,6 +45,8 @@ use Rattle.alp_node.proofs.PastLemmas.{IsFoundAs, past_of, found_before, found_t
 use Rattle.alp_node.proofs.RestartTold.{clock_found, found_leads, found_told}
 use Rattle.alp_node.proofs.StartLemmas.{before_less}
 use Rattle.alp_node.proofs.StartMade.{put_back}
+use Rattle.alp_node.specs.SoundLives.{HasSoundLives}
+use Rattle.alp_node.proofs.SoundLives.{journal_sound}
 
 -- ---- a server falls
 
@@ -62,7 +66,8 @@ module _ {V : Type 0} (G : Ghosts V) (n : NodeState V) (v : V) (h : IsConsistent
         caused = r.caused;
         state = r.state;
         says = r.says;
-        past = past_of r.state (G.held n.kept.vault) n.kept (G.volume v) r.kept (h.sizes ∙ sym same.sizes);
+        past = past_of r.state (G.held n.kept.vault) n.kept (G.volume v) r.kept (h.sizes ∙ sym same.sizes) (length n.journal) (G.serves n.kept.vault) h.ready
+            (subst (λ (s : State). HasSoundLives s.holder) r.says (journal_sound (opened (start_in G n)) n.journal r.lawful r.opening.parts));
       }
 
   here_last : IsRight (start_in G n) (G.held n.kept.vault) n → (state_of (start_in G n) n.journal).ids.epoch < 2 ^ 32
@@ -275,6 +280,27 @@ module _ {V : Type 0} (G : Ghosts V) (d : DownState V) (n : NodeState V) (clock 
     crash = b.crash;
   }
 
+-- what a crash leaves of a server that did not go down as it wrote goes together
+left_together : (a : Account) (server servers last : ℕ) (sizes : Sizes) → IsPast a server servers last sizes → a.pending ≡ [] → (c : Contents) → IsLeftOf (account_state a) c → (here all : ℕ) → here ≡ server → all ≡ servers → AreTogether here all (last + 1) sizes c.cells c.notes
+left_together a server servers last sizes past none c left here all is of_all =
+    subst (λ (n : ℕ). AreTogether n all (last + 1) sizes c.cells c.notes) (past.number ∙ sym is)
+    (subst (λ (n : ℕ). AreTogether a.holder.server n (last + 1) sizes c.cells c.notes) (past.among ∙ sym of_all)
+    (subst (λ (n : ℕ). AreTogether a.holder.server a.servers (n + 1) sizes c.cells c.notes) past.now
+    (subst (λ (z : Sizes). AreTogether a.holder.server a.servers (a.ids.epoch + 1) z c.cells c.notes) past.volume (past.together left.epoch c late stored))))
+  where
+    late : a.ids.epoch ≤ left.epoch
+    late = go left.near
+      where
+        go : (left.epoch ≡ a.ids.epoch) ⊎ (left.epoch ≡ a.ids.epoch + 1) → a.ids.epoch ≤ left.epoch
+        go (inl same) = omega (arith, same)
+        go (inr next) = omega (arith, next)
+
+    stored : IsStoredBy left.epoch (account_state a) c
+    stored = elim left.either [
+      | inl one ↦ one
+      | inr two ↦ subst (λ (ds : List Deed). IsStoredBy left.epoch (state_after state_deed (account_state a) ds) c) none two
+    ]
+
 -- a vault that is handed back may be left with no more
 handed_no_more : {V : Type 0} (G : Ghosts V) (old new : V) (P : Contents → Type 0) → IsHandedBack G old new P → IsTrue (G.tells old) → NoMore P (G.may_leave new)
 handed_no_more G old new P h told c here = (h.crash told).crash c (before h.back)
@@ -328,6 +354,12 @@ module _ {V : Type 0} (G : Ghosts V) (d : DownState V) (new : V) (journal : List
         let format : AreServerNotes d.server d.servers bad.0.notes = known_format r.state d.server d.servers d.epoch (G.volume d.vault) r.past bad.0 (known_as r.state d.server d.servers d.epoch (G.volume d.vault) r.past bad.0 left) in
         alone_apart (G.tells d.vault) (G.server d.vault) (G.servers d.vault) (d.epoch + 1) (G.volume d.vault) bad.0 seat (h.all ∙ one) least
         (subst (λ (n : ℕ). AreServerNotes n (G.servers d.vault) bad.0.notes) (sym h.number) (subst (λ (n : ℕ). AreServerNotes d.server n bad.0.notes) (sym h.all) format)) bad.2
+        );
+    whole = λ none told e. (
+        let r : IsPastRight (start_of G d) (G.volume d.vault) d = h.right told in
+        let bad = (subst (HasRaiseCause G d.epoch d.vault new) e b.cause).1 told in
+        let left : IsLeftOf (account_state r.state) bad.0 = subst (λ (z : State). IsLeftOf z bad.0) r.says (h.left told bad.0 bad.1) in
+        bad.2.told told (left_together r.state d.server d.servers d.epoch (G.volume d.vault) r.past (sym (ap (λ (z : State). z.pending) r.says) ∙ none) bad.0 left (G.server d.vault) (G.servers d.vault) h.number h.all)
         );
     back = b.back;
   }

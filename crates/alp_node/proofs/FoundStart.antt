@@ -47,6 +47,7 @@ use Rattle.alp_node.specs.Durable.{IsKeptOf, IsKeptIf, IsReadyNote, AreNotesOf}
 use Rattle.alp_node.specs.Noted.{decision_kept}
 use Rattle.alp_node.proofs.FoundNotes.{Has, each_has, all_has, IsReadyAt, ready_stands, ready_has, IsDecisionAt, decision_stands, decision_has, IsPhaseNoted, phase_or, IsLifeNoted, life_or, IsFateNoted, fate_or, phase_of, life_of, fate_of, ready_apart, decided_apart}
 use Rattle.alp_node.proofs.MapLemmas.{tied_same}
+use Rattle.alp_node.proofs.EditsNoted.{change_length}
 
 -- ---- ids
 
@@ -195,7 +196,8 @@ module _ (server servers area : ℕ) (sizes : Sizes) (epoch clock : ℕ) (cells 
   ready_said : (j : JoinNo) → ready_name.Fits j → (x : Option NotedPart) → ready_at notes j ≡ x → IsReadyNote (lives_noted (ready_kept notes)) (phase_noted (ready_kept notes) j) x
   ready_said j fits (Some p) is =
       let has : Has (part_note (j, p)) (ready_kept notes) = ready_has notes j p fits is in
-      let kept : IsKeptOf (early_life (part_note (j, p))) p = record { held = λ r. refl; intents = refl } in
+      let kept : IsKeptOf (early_life (part_note (j, p))) p =
+      (let its : IsPartNote server (clock_before epoch notes).epoch (part_note (j, p)) = part_of_note (part_note (j, p)) has in record { held = λ r. refl; intents = refl; once = its.once.locks; cells = sym (change_length p.change) ∙ its.once.edits }) in
       subst (λ (q : Phase). IsReadyNote (lives_noted (ready_kept notes)) q (Some p)) (sym (phase_of notes (part_note (j, p)) has))
       (refl, refl, refl, subst (λ (y : Option Life). IsKeptIf y p) (sym (life_of (ready_kept notes) h.apart (part_note (j, p)) has)) kept)
   ready_said j fits None is = go (phase_or (ready_kept notes) j)

@@ -1,5 +1,5 @@
 -- locks of a note that names no resource twice: each is just what is held on its resource
-use Rattle.std.specs.Prelude.{cond, Bool, true, false, ◌&&◌, ◌||◌, Option, None, Some}
+use Rattle.std.specs.Prelude.{cond, Bool, true, false, ◌&&◌, ◌||◌, Option, None, Some, is_some}
 use Rattle.std.specs.List.{list_all, list_any, AllByRecursion}
 use Rattle.std.specs.Cmp.{eq_by_cmp_equiv}
 use Rattle.std.specs.Ordering.{eq_by_cmp}
@@ -18,6 +18,11 @@ use Rattle.alp_files.specs.Locks.{Need}
 use Rattle.alp_journal.specs.Counts.{has_resource, with_resources}
 use Rattle.alp_regain.specs.Named.{is_leaf_mode, is_own, is_mode_on, is_own_resource, is_beside_intention}
 use Rattle.alp_node.proofs.EditsNoted.{own_leaf}
+use Rattle.std.specs.FinMap as map
+use Rattle.alp_journal.specs.Holder.{no_locks}
+use Rattle.alp_node.specs.Covers.{AreHeld}
+use Rattle.alp_node.proofs.CountedLocks.{one_each, as_many}
+use Rattle.alp_node.proofs.LockCountLemmas.{held_then}
 
 fewer : (ns : List Need) (rs : List Resource) → length (with_resources ns rs) ≤ length ns + length rs
 fewer [] rs = omega arith
@@ -108,3 +113,9 @@ module _ (ns : List Need) (same : length ns ≡ length (with_resources ns [])) w
         good : (r : Resource) (m : Mode) → held_by ns r ≡ Some m → is_own_resource server epoch r ≡ true
         good (Whole f) m e = own f m e
         good (Leaf k) m e = own_leaf server epoch (held_by ns) intended own k m e
+
+-- as many as a map has of which the list tells
+pub once_listed : (ns : List Need) (m : map.FinMap resource_cmp Mode) → ((r : Resource) → held_by ns r ≡ map.get m r) → length ns ≡ length (map.entries m) → length ns ≡ length (with_resources ns [])
+once_listed ns m same count =
+    let all : AreHeld (held_by ns) (with_resources ns []) = held_then no_locks ns [] (λ r. refl, tt) in
+    count ∙ sym (one_each (map.entries m)) ∙ as_many (with_resources ns []) m (λ r. all.0 r ∙ ap is_some (same r)) all.1

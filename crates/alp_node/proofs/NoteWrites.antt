@@ -255,7 +255,7 @@ module _ (s : State) (j : JoinNo) (t : TransId) (client ts : ℕ) (who : List �
   readied_life : (p : ReadyPart) → IsKeptOf l p → IsKeptIf ((state_deed s (Readies j t ts)).holder.lives t) p
   readied_life p kept =
       subst (λ (o : Option Life). IsKeptIf ((readies s.holder t ts o).lives t) p) (sym live)
-      (subst (λ (b : Bool). IsKeptIf (cond {A = Option Life} b (Some (record l { vote = Some ts })) (s.holder.lives t)) p) (sym (same_trans-itself t)) (record { held = kept.held; intents = kept.intents }))
+      (subst (λ (b : Bool). IsKeptIf (cond {A = Option Life} b (Some (record l { vote = Some ts })) (s.holder.lives t)) p) (sym (same_trans-itself t)) (record { held = kept.held; intents = kept.intents; once = kept.once; cells = kept.cells }))
 
   pub readied_notes : (p : ReadyPart) (epoch : ℕ) (notes : Notes) → ready_name.Fits j → ready_form.Fits p → j.server ≡ s.holder.server → is_another s.holder.server s.servers t.server ≡ true → p.trans ≡ t → p.client ≡ client → p.ts ≡ ts → IsKeptOf l p
       → AreNotesOf s epoch notes → AreNotesOf (state_deed s (Readies j t ts)) epoch (noted (ready_name.spell j) (Some (ready_form.spell p)) notes)

@@ -1,11 +1,11 @@
--- what a server that is up keeps goes together, so that a restart takes it
+-- what a server keeps goes together, so that a restart takes it, of which its vault has what the journal says
 use Rattle.std.specs.Prelude.{cond, min, Bool, true, false, not, ◌&&◌, ◌||◌, ◌==◌, nat_le, nat_lt, IsTrue, sum_by, flat_map, Option, None, Some, is_some, map as list_map}
 use Rattle.std.specs.List.{list_all, AllByRecursion}
 use Rattle.std.specs.FinMap as map
 use Rattle.std.specs.FinMap.{get-entries}
 use Rattle.std.specs.FinMap.Entries.{find}
 use Rattle.std.specs.Ordering.{eq_by_cmp}
-use Rattle.std.proofs.Common.{◌≡◌, ◌⊎◌, inl, inr, ℕ, suc, ◌+◌, ◌-◌, ◌<◌, ◌≤◌, List, [], ◌∷◌, ◌++◌, append-nil, length, refl, sym, ◌∙◌, ap, subst, arith}
+use Rattle.std.proofs.Common.{◌≡◌, ◌⊎◌, inl, inr, ℕ, suc, ◌+◌, ◌-◌, ◌<◌, ◌≤◌, List, [], ◌∷◌, ◌++◌, append-nil, length, refl, sym, ◌∙◌, ap, subst, arith, eq-eqb}
 use Rattle.std.proofs.lemmas.Bool.{and_parts, eqb-true, ltb-true, le-leb, or_parts, not-true}
 use Rattle.std.proofs.lemmas.List.{length-map}
 use Rattle.std.proofs.lemmas.Map.Views.{tells_apart}
@@ -45,7 +45,7 @@ use Rattle.alp_calls.specs.Parts.{AllFit, IsPart}
 use Rattle.alp_calls.proofs.IntentCounts.{with_all}
 use Rattle.alp_coord.specs.Coordinators.{counted_of, fate_in}
 use Rattle.alp_ready.specs.NoteLooks.{ready_at, decision_at}
-use Rattle.alp_worker.specs.Lives.{is_at, join_at, phase_of, phase_in}
+use Rattle.alp_worker.specs.Lives.{is_at, live_at, join_at, phase_of, phase_in}
 use Rattle.alp_worker.specs.Rooms.{sum_of}
 use Rattle.alp_worker.specs.Walks.{ready_in}
 use Rattle.alp_worker.specs.declared.live.LiveJoin.{LiveJoin}
@@ -53,12 +53,11 @@ use Rattle.alp_worker.specs.declared.live.Stage.{Stage}
 use Rattle.alp_worker.specs.declared.live.Stage.TheVariants as stage
 use Rattle.alp_worker.specs.declared.room.PartSize.{PartSize}
 use Rattle.alp_journal.specs.Account.{Account, state_of, Stands, IsJoined, IsPhaseOf, IsFateOf, has_trans, are_trans_apart}
-use Rattle.alp_journal.specs.Answers.{is_counted}
 use Rattle.alp_journal.specs.Coordinator.{Fate, Undrawn, Running, Finishing, Committed, Forgotten, Ended, decision_in}
 use Rattle.alp_journal.specs.Counts.{has_resource, with_resources, ready_sum}
 use Rattle.alp_journal.specs.Holder.{Life, no_locks}
 use Rattle.alp_journal.specs.Ids.{same_trans, same_join, has_join, is_drawn}
-use Rattle.alp_journal.specs.Laws.{IsHolding, are_joins_apart}
+use Rattle.alp_journal.specs.Laws.{IsHolding, are_joins_apart, is_standing}
 use Rattle.alp_journal.specs.Messages.{trans_ready}
 use Rattle.alp_journal.specs.Opening.{ReadyNote, DecisionNote, ready_kept, decisions_kept}
 use Rattle.alp_journal.specs.Participant.{Phase, Unseen, Joining, Active, Ready, Applied, Over}
@@ -72,8 +71,8 @@ use Rattle.alp_regain.specs.Together.{IsPartNote, AreTwo, AreApart, clock_before
 use Rattle.alp_regain.proofs.ChangeLemmas.{same_counts}
 use Rattle.alp_regain.proofs.OwnerLemmas.{joins_apart}
 use Rattle.alp_node.specs.Covers.{AreHeld}
-use Rattle.alp_node.specs.Durable.{IsReadyNote, AreNotesOf}
-use Rattle.alp_node.specs.Noted.{decision_kept, size_in, size_of as live_size, HasSize, IsNotedAs, IsNotedJoin, AreNotesFor}
+use Rattle.alp_node.specs.Durable.{IsReadyNote, AreNotesOf, IsStoredBy}
+use Rattle.alp_node.specs.Noted.{decision_kept, size_in, size_of as live_size}
 use Rattle.alp_node.specs.ServerState.{IsLife, IsAlike, IsAs, IsReady}
 use Rattle.alp_node.specs.Sessions.{IsClient}
 use Rattle.alp_node.specs.SoundLives.{edits_in, all_edits, HasSoundLives}
@@ -89,6 +88,7 @@ use Rattle.alp_node.proofs.LockCountLemmas.{held_then}
 use Rattle.alp_node.proofs.LocksNoted.{modes_all, intended_all, own_all}
 use Rattle.alp_node.proofs.MapLemmas.{tied_same}
 use Rattle.alp_node.proofs.PairedLemmas.{within, counted_list, counted_there, joined_list, joined_there, length_joined}
+use Rattle.alp_node.proofs.RestLemmas.{standing_counts}
 use Rattle.alp_node.proofs.TakeLemmas.{has_behind, HaveOwn, sum_less, log_less}
 
 -- ---- ids
@@ -166,56 +166,18 @@ kept_there cells locks rs t (Some l) None y is h = absurd h
 kept_there cells locks rs t None (Some z) y is h = absurd h
 kept_there cells locks rs t (Some l) (Some z) y is h = (l, refl, subst (IsLife cells locks rs t l) (same-some z y is) h)
 
--- the live join that a note is of
-record IsJoinNote (lives : LiveMap) (o : Option LiveJoin) (p : ReadyPart) : Type 0 where
-  pub joined : LiveJoin
-  pub found : o ≡ Some joined
-  pub voted : joined.stage ≡ stage.Ready p.ts
-  pub trans : joined.trans ≡ p.trans
-  pub client_is : joined.client ≡ p.client
-  pub size : HasSize (size_in lives p.trans) p
-
-join_note : (lives : LiveMap) (o : Option LiveJoin) (p : ReadyPart) → IsNotedJoin lives o (Some p) → IsJoinNote lives o p
-join_note lives None p h = let wrong : Some p ≡ None = h in cc
-join_note lives (Some x) p h = go x.stage refl h
-  where
-    go : (s : Stage) → x.stage ≡ s → IsNotedAs lives x s (Some p) → IsJoinNote lives (Some x) p
-    go (stage.Joining who) e n = let wrong : Some p ≡ None = n in cc
-    go (stage.Active who) e n = let wrong : Some p ≡ None = n in cc
-    go (stage.Ready ts) e n = record {
-      joined = x;
-      found = refl;
-      voted = e ∙ ap stage.Ready (sym n.ts);
-      trans = sym n.trans;
-      client_is = sym n.client;
-      size = subst (λ (t : TransId). HasSize (size_in lives t) p) (sym n.trans) n.size;
-    }
-
-kept_counts : (f : Fate) (d : Decision) → decision_kept f ≡ Some d → is_counted f ≡ true
-kept_counts Undrawn d e = let wrong : None ≡ Some d = e in cc
-kept_counts (Running c js) d e = let wrong : None ≡ Some d = e in cc
-kept_counts (Finishing c js vs) d e = let wrong : None ≡ Some d = e in cc
-kept_counts (Committed s [] ds) d e = let wrong : None ≡ Some d = e in cc
-kept_counts (Committed s (j ∷ js) ds) d e = refl
-kept_counts (Forgotten s js) d e = let wrong : None ≡ Some d = e in cc
-kept_counts (Ended c) d e = let wrong : None ≡ Some d = e in cc
-
--- a decision that stands is known, and has its time
-record IsStanding (servers server epoch count : ℕ) (begun : List TransId) (t : TransId) (f : Fate) (d : Decision) : Type 0 where
+-- a decision that stands is known
+record IsStanding (servers server epoch count : ℕ) (begun : List TransId) (t : TransId) (f : Fate) : Type 0 where
   pub stamp : Stamp
-  pub joins : List JoinNo
-  pub said : decision_in f ≡ Some (stamp, joins)
-  pub time : stamp.ts ≡ d.ts
+  pub stands : is_standing stamp f ≡ true
   pub drawn : is_drawn server epoch count t.server t.epoch t.counter ≡ true
 
-standing_of : (servers server epoch count : ℕ) (begun : List TransId) (t : TransId) (f : Fate) (d : Decision) → decision_kept f ≡ Some d → IsFateOf servers server epoch count begun t f → IsStanding servers server epoch count begun t f d
+standing_of : (servers server epoch count : ℕ) (begun : List TransId) (t : TransId) (f : Fate) (d : Decision) → decision_kept f ≡ Some d → IsFateOf servers server epoch count begun t f → IsStanding servers server epoch count begun t f
 standing_of servers server epoch count begun t Undrawn d e h = let wrong : None ≡ Some d = e in cc
 standing_of servers server epoch count begun t (Running c js) d e h = let wrong : None ≡ Some d = e in cc
 standing_of servers server epoch count begun t (Finishing c js vs) d e h = let wrong : None ≡ Some d = e in cc
 standing_of servers server epoch count begun t (Committed s [] ds) d e h = let wrong : None ≡ Some d = e in cc
-standing_of servers server epoch count begun t (Committed s (j ∷ js) ds) d e h =
-    let same : record { ts = s.ts; joins = j ∷ js } ≡ d = same-some (record { ts = s.ts; joins = j ∷ js }) d e in
-    record { stamp = s; joins = j ∷ js; said = refl; time = ap (λ (x : Decision). x.ts) same; drawn = h.0.0 }
+standing_of servers server epoch count begun t (Committed s (j ∷ js) ds) d e h = record { stamp = s; stands = (λ i. eq-eqb s.ts s.ts refl i && same_trans-itself s.trans i); drawn = h.0.0 }
 standing_of servers server epoch count begun t (Forgotten s js) d e h = let wrong : None ≡ Some d = e in cc
 standing_of servers server epoch count begun t (Ended c) d e h = let wrong : None ≡ Some d = e in cc
 
@@ -225,10 +187,10 @@ same_map_of m es fs e = sym (with_all es m) ∙ ap (λ (i : Intents). with_inten
 
 -- ---- all of it
 
-module _ {V : Type 0} (a : Account) (held : Contents) (k : ServerState V) (steps : ℕ) (serves : Bool) (h : IsAs a held k) (r : IsReady steps serves k) (up : k.is_down ≡ false) (noted : AreNotesFor k held.notes)
-    (sound : HasSoundLives a.holder) where
+module _ {V : Type 0} (a : Account) (held : Contents) (k : ServerState V) (steps : ℕ) (serves : Bool) (h : IsAs a held k) (r : IsReady steps serves k) (sound : HasSoundLives a.holder)
+    (near : ℕ) (late : a.ids.epoch ≤ near) (c : Contents) (stored : IsStoredBy near (state_of a) c) where
   abbrev notes : Notes
-  notes = held.notes
+  notes = c.notes
 
   abbrev server : ℕ
   server = a.holder.server
@@ -239,8 +201,8 @@ module _ {V : Type 0} (a : Account) (held : Contents) (k : ServerState V) (steps
   abbrev cells : Cells
   cells = a.holder.cells
 
-  said : AreNotesOf (state_of a) a.ids.epoch held.notes
-  said = h.notes up
+  said : AreNotesOf (state_of a) near c.notes
+  said = stored.notes
 
   stands : Stands a
   stands = h.quiet.settled.stands
@@ -279,7 +241,8 @@ module _ {V : Type 0} (a : Account) (held : Contents) (k : ServerState V) (steps
     pub trans : joined.trans ≡ p.trans
     pub voted : joined.stage ≡ stage.Ready p.ts
     pub client_is : joined.client ≡ p.client
-    pub size : HasSize (live_size (Some live)) p
+    pub once : length p.locks ≡ length (with_resources p.locks [])
+    pub cells : changed_cells p.change ≡ changed (edits_of p.change)
     pub drawn : is_drawn a.holder.server a.ids.epoch a.ids.joins j.server j.epoch j.counter ≡ true
 
   part_of : (j : JoinNo) (p : ReadyPart) → ready_name.Fits j → ready_at notes j ≡ Some p → IsOfPart j p
@@ -287,7 +250,6 @@ module _ {V : Type 0} (a : Account) (held : Contents) (k : ServerState V) (steps
       let nk : IsNoteKept a.holder.lives (a.phases j) p = note_kept a.holder.lives (a.phases j) p (subst (IsReadyNote a.holder.lives (a.phases j)) at (said.ready j fits)) in
       let v = voted_life j p.trans p.client p.ts nk.life nk.phase_is nk.live in
       let q = kept_there a.holder.cells k.locks.held (a.locked p.trans) p.trans (map.get k.lives p.trans) (a.holder.lives p.trans) nk.life nk.live (h.lives p.trans) in
-      let n : IsJoinNote k.lives (join_at k.joins.lives j) p = join_note k.lives (join_at k.joins.lives j) p (subst (IsNotedJoin k.lives (join_at k.joins.lives j)) at (noted.ready j fits)) in
       record {
         life = nk.life;
         there = nk.live;
@@ -298,25 +260,26 @@ module _ {V : Type 0} (a : Account) (held : Contents) (k : ServerState V) (steps
         live = q.0;
         at = q.1;
         alike = q.2;
-        joined = n.joined;
-        found = n.found;
-        trans = n.trans;
-        voted = n.voted;
-        client_is = n.client_is;
-        size = subst (λ (o : Option Live). HasSize (live_size o) p) q.1 n.size;
+        joined = record { join = j; trans = p.trans; client = p.client; stage = stage.Ready p.ts };
+        found = h.joins.live j ∙ ap (live_at j) nk.phase_is;
+        trans = refl;
+        voted = refl;
+        client_is = refl;
+        once = nk.kept.once;
+        cells = nk.kept.cells;
         drawn = (subst (IsPhaseOf a.servers a.holder.server a.ids.epoch a.ids.joins a.joined j) nk.phase_is (stands.phases j)).0.0;
       }
 
   module _ (j : JoinNo) (p : ReadyPart) (x : IsOfPart j p) where
     -- a part has as many locks as its note lists
-    locks_once : length p.locks ≡ length (with_resources p.locks [])
-    locks_once =
+    locks_same : length (with_resources p.locks []) ≡ x.live.locks
+    locks_same =
         let all : AreHeld (held_by p.locks) (with_resources p.locks []) = held_then no_locks p.locks [] (λ q. refl, tt) in
         let one : sum_in (λ (e : Resource × Mode). 1) (held_of k.locks.held p.trans) ≡ length (with_resources p.locks []) =
         as_many (with_resources p.locks []) (held_of k.locks.held p.trans) (λ q. all.0 q ∙ ap (λ (f : Holding). is_some (f q)) x.locked ∙ ap is_some (x.alike.held q)) all.1 in
         let two : sum_in (λ (e : Resource × Mode). 1) (held_of k.locks.held p.trans) ≡ length (a.locked p.trans) =
         as_many (a.locked p.trans) (held_of k.locks.held p.trans) (λ q. x.alike.known.0 q ∙ ap is_some (x.alike.held q)) x.alike.known.1 in
-        x.size.locks ∙ x.alike.count ∙ sym two ∙ one
+        sym one ∙ two ∙ sym x.alike.count
 
     changed_same : changed (edits_of p.change) ≡ x.live.part.counts.cells
     changed_same = ap changed_by x.intents ∙ sym x.alike.counts.cells
@@ -329,7 +292,7 @@ module _ {V : Type 0} (a : Account) (held : Contents) (k : ServerState V) (steps
     held_is q = sym (x.alike.held q) ∙ ap (λ (g : Holding). g q) (sym x.locked)
 
     part_own : (f : FileId) (m : Mode) → held_by p.locks (Whole f) ≡ Some m → is_own server epoch f ≡ true
-    part_own f m e = (r.unheld p.trans).tidy.own f m (held_is (Whole f) ∙ e)
+    part_own f m e = (λ i. is_own (h.server i) (h.epoch i) f) ∙ (r.unheld p.trans).tidy.own f m (held_is (Whole f) ∙ e)
 
     part_covered : list_all (is_covered (held_by p.locks)) (edits_of p.change) ≡ true
     part_covered =
@@ -343,27 +306,27 @@ module _ {V : Type 0} (a : Account) (held : Contents) (k : ServerState V) (steps
         let most : x.live.part.counts.cells ≤ 256 = limits.part.most in
         let few : x.live.locks ≤ 1024 = limits.locks in
         record {
-          modes = modes_all p.locks locks_once (λ q m e. (r.unheld p.trans).tidy.modes q m (held_is (Leaf q) ∙ e));
+          modes = modes_all p.locks x.once (λ q m e. (r.unheld p.trans).tidy.modes q m (held_is (Leaf q) ∙ e));
           locks = record {
-            intended = intended_all p.locks locks_once part_intended;
+            intended = intended_all p.locks x.once part_intended;
             covered = part_covered;
-            few = omega (arith, locks_once, x.size.locks, few);
+            few = omega (arith, locks_same, few);
           };
-          locked = own_all p.locks locks_once part_intended a.holder.server a.ids.epoch part_own;
+          locked = own_all p.locks x.once part_intended a.holder.server a.ids.epoch part_own;
           edited = own_edits a.holder.server a.ids.epoch (held_by p.locks) part_intended part_own (edits_of p.change) part_covered;
           join = drawn_by a.holder.server a.ids.epoch a.ids.joins j.server j.epoch j.counter x.drawn;
           client = subst (λ (n : ℕ). IsClient n) x.client_is (r.joins.clients j x.joined x.found);
           cells = omega (arith, changed_same, most);
           once = record {
-            locks = locks_once;
-            edits = change_length p.change ∙ x.size.cells ∙ sym changed_same;
+            locks = x.once;
+            edits = change_length p.change ∙ x.cells;
           };
           fit = subst (λ (i : Intents). AllFit i.puts) (sym x.intents) fit;
         }
 
     part_size : size_of (part_note (j, p)) ≡ size_in k.lives p.trans
     part_size =
-        (λ i. record { cells = changed_same i; locks = (sym locks_once ∙ x.size.locks) i })
+        (λ i. record { cells = changed_same i; locks = locks_same i })
         ∙ ap live_size (sym x.at)
 
     part_counts : AreCountsOf a.holder.cells (edits_of p.change) x.live.part.counts
@@ -376,10 +339,10 @@ module _ {V : Type 0} (a : Account) (held : Contents) (k : ServerState V) (steps
     pub same : part_note (n.join, part) ≡ n
     pub whole : IsOfPart n.join part
 
-  of_note : (n : ReadyNote) → Has n (ready_kept held.notes) → IsOfNote n
-  of_note n has = (let s : IsReadyAt held.notes n = ready_stands held.notes n has in record { part = s.part; same = s.same; whole = part_of n.join s.part s.named s.at })
+  of_note : (n : ReadyNote) → Has n (ready_kept c.notes) → IsOfNote n
+  of_note n has = (let s : IsReadyAt c.notes n = ready_stands c.notes n has in record { part = s.part; same = s.same; whole = part_of n.join s.part s.named s.at })
 
-  note_good : (n : ReadyNote) → Has n (ready_kept held.notes) → IsPartNote a.holder.server a.ids.epoch n
+  note_good : (n : ReadyNote) → Has n (ready_kept c.notes) → IsPartNote a.holder.server a.ids.epoch n
   note_good n has = (let s : IsOfNote n = of_note n has in subst (IsPartNote a.holder.server a.ids.epoch) s.same (part_good n.join s.part s.whole))
 
   -- its life, and what is kept of it
@@ -398,7 +361,7 @@ module _ {V : Type 0} (a : Account) (held : Contents) (k : ServerState V) (steps
     pub trans : joined.trans ≡ n.trans
     pub voted : joined.stage ≡ stage.Ready n.ts
 
-  life_noted : (n : ReadyNote) → Has n (ready_kept held.notes) → IsNoteLife n
+  life_noted : (n : ReadyNote) → Has n (ready_kept c.notes) → IsNoteLife n
   life_noted n has =
       let s : IsOfNote n = of_note n has in
       let x : IsOfPart n.join s.part = s.whole in
@@ -421,7 +384,7 @@ module _ {V : Type 0} (a : Account) (held : Contents) (k : ServerState V) (steps
   -- ---- two of them
 
   abbrev AmongNotes : List ReadyNote → Type 0
-  AmongNotes ns = (n : ReadyNote) → Has n ns → Has n (ready_kept held.notes)
+  AmongNotes ns = (n : ReadyNote) → Has n ns → Has n (ready_kept c.notes)
 
   two_notes : (n m : ReadyNote) → IsNoteLife n → IsNoteLife m → same_join m.join n.join ≡ false → AreTwo n m
   two_notes n m x y other = record { apart = tied_same n.trans m.trans ∙ away; agree = agreeing }
@@ -451,62 +414,64 @@ module _ {V : Type 0} (a : Account) (held : Contents) (k : ServerState V) (steps
         apart_from ns (λ m has. among m (inr has)) both.1,
       )
 
-  pub notes_apart : AreApart (ready_kept held.notes)
-  notes_apart = apart_from (ready_kept held.notes) (λ n has. has) (joins_apart held.notes)
+  pub notes_apart : AreApart (ready_kept c.notes)
+  notes_apart = apart_from (ready_kept c.notes) (λ n has. has) (joins_apart c.notes)
 
   -- ---- decisions
 
-  low_epoch : (clock_before (a.ids.epoch + 1) held.notes).epoch ≡ a.ids.epoch
-  low_epoch = (let same : (clock_kept held.notes).epoch ≡ a.ids.epoch = ap (λ (c : ClockNote). c.epoch) said.clock in omega (arith, same))
+  low_epoch : (clock_before (a.ids.epoch + 1) c.notes).epoch ≡ a.ids.epoch
+  low_epoch = (let same : (clock_kept c.notes).epoch ≡ near = ap (λ (z : ClockNote). z.epoch) said.clock in omega (arith, same, late))
 
-  decision_good : (d : DecisionNote) → Has d (decisions_kept held.notes) → is_decided_by (clock_before (a.ids.epoch + 1) held.notes) d.stamp ≡ true
+  standing_at : (d : DecisionNote) → IsDecisionAt c.notes d → IsStanding a.servers a.holder.server a.ids.epoch a.ids.transactions a.begun d.stamp.trans (a.fates d.stamp.trans)
+  standing_at d s = standing_of a.servers a.holder.server a.ids.epoch a.ids.transactions a.begun d.stamp.trans (a.fates d.stamp.trans) s.decision (sym (said.decided d.stamp.trans s.named) ∙ s.at) (stands.fates d.stamp.trans)
+
+  decision_good : (d : DecisionNote) → Has d (decisions_kept c.notes) → is_decided_by (clock_before (a.ids.epoch + 1) c.notes) d.stamp ≡ true
   decision_good d has =
-      let s : IsDecisionAt held.notes d = decision_stands held.notes d has in
-      let stands_as : IsStanding a.servers a.holder.server a.ids.epoch a.ids.transactions a.begun d.stamp.trans (a.fates d.stamp.trans) s.decision =
-      standing_of a.servers a.holder.server a.ids.epoch a.ids.transactions a.begun d.stamp.trans (a.fates d.stamp.trans) s.decision (sym (said.decided d.stamp.trans s.named) ∙ s.at) (stands.fates d.stamp.trans) in
+      let s : IsDecisionAt c.notes d = decision_stands c.notes d has in
+      let stands_as = standing_at d s in
       let time : s.decision.ts ≤ a.holder.kept = said.timely d.stamp.trans s.decision (sym (said.decided d.stamp.trans s.named) ∙ s.at) in
-      let clock : (clock_kept held.notes).clock ≡ a.holder.kept = ap (λ (c : ClockNote). c.clock) said.clock in
-      let early : d.stamp.ts ≤ (clock_kept held.notes).clock = omega (arith, time, clock, s.ts) in
-      ap (λ (e : ℕ). is_drawn_by e d.stamp.trans.epoch d.stamp.trans.counter && nat_le d.stamp.ts (clock_kept held.notes).clock) low_epoch
-      ∙ (λ i. drawn_by a.holder.server a.ids.epoch a.ids.transactions d.stamp.trans.server d.stamp.trans.epoch d.stamp.trans.counter stands_as.drawn i && le-leb d.stamp.ts (clock_kept held.notes).clock early i)
+      let clock : (clock_kept c.notes).clock ≡ a.holder.kept = ap (λ (z : ClockNote). z.clock) said.clock in
+      let early : d.stamp.ts ≤ (clock_kept c.notes).clock = omega (arith, time, clock, s.ts) in
+      ap (λ (e : ℕ). is_drawn_by e d.stamp.trans.epoch d.stamp.trans.counter && nat_le d.stamp.ts (clock_kept c.notes).clock) low_epoch
+      ∙ (λ i. drawn_by a.holder.server a.ids.epoch a.ids.transactions d.stamp.trans.server d.stamp.trans.epoch d.stamp.trans.counter stands_as.drawn i && le-leb d.stamp.ts (clock_kept c.notes).clock early i)
 
   -- ---- how many
 
-  ready_few : length (ready_kept held.notes) ≤ length k.joins.lives
+  ready_few : length (ready_kept c.notes) ≤ length k.joins.lives
   ready_few =
-      let all : length (ready_trans (ready_kept held.notes)) ≤ length (joined_list k.joins.lives) =
-      within (ready_trans (ready_kept held.notes)) (joined_list k.joins.lives) (apart_once (ready_trans (ready_kept held.notes)) (ready_apart (ready_kept held.notes) notes_apart)) (λ t here. there t here) in
-      omega (arith, all, length_joined k.joins.lives, length-map (ready_kept held.notes) (λ (n : ReadyNote). n.trans))
+      let all : length (ready_trans (ready_kept c.notes)) ≤ length (joined_list k.joins.lives) =
+      within (ready_trans (ready_kept c.notes)) (joined_list k.joins.lives) (apart_once (ready_trans (ready_kept c.notes)) (ready_apart (ready_kept c.notes) notes_apart)) (λ t here. there t here) in
+      omega (arith, all, length_joined k.joins.lives, length-map (ready_kept c.notes) (λ (n : ReadyNote). n.trans))
     where
-      there : (t : TransId) → has_trans t (ready_trans (ready_kept held.notes)) ≡ true → has_trans t (joined_list k.joins.lives) ≡ true
+      there : (t : TransId) → has_trans t (ready_trans (ready_kept c.notes)) ≡ true → has_trans t (joined_list k.joins.lives) ≡ true
       there t here =
-          let n = named (λ (m : ReadyNote). m.trans) (ready_kept held.notes) t here in
+          let n = named (λ (m : ReadyNote). m.trans) (ready_kept c.notes) t here in
           let x : IsNoteLife n.0 = life_noted n.0 n.1 in
           subst (λ (u : TransId). has_trans u (joined_list k.joins.lives) ≡ true) (x.trans ∙ n.2) (joined_there n.0.join x.joined k.joins.lives x.found)
 
-  decided_few : length (decisions_kept held.notes) ≤ counted_of k.coordinator
+  decided_few : length (decisions_kept c.notes) ≤ counted_of k.coordinator
   decided_few =
-      let all : length (decided_trans (decisions_kept held.notes)) ≤ length (counted_list k.coordinator) =
-      within (decided_trans (decisions_kept held.notes)) (counted_list k.coordinator) (apart_once (decided_trans (decisions_kept held.notes)) (decided_apart held.notes)) (λ t here. there t here) in
-      omega (arith, all, length-map (decisions_kept held.notes) (λ (d : DecisionNote). d.stamp.trans))
+      let all : length (decided_trans (decisions_kept c.notes)) ≤ length (counted_list k.coordinator) =
+      within (decided_trans (decisions_kept c.notes)) (counted_list k.coordinator) (apart_once (decided_trans (decisions_kept c.notes)) (decided_apart c.notes)) (λ t here. there t here) in
+      omega (arith, all, length-map (decisions_kept c.notes) (λ (d : DecisionNote). d.stamp.trans))
     where
-      there : (t : TransId) → has_trans t (decided_trans (decisions_kept held.notes)) ≡ true → has_trans t (counted_list k.coordinator) ≡ true
+      there : (t : TransId) → has_trans t (decided_trans (decisions_kept c.notes)) ≡ true → has_trans t (counted_list k.coordinator) ≡ true
       there t here =
-          let d = named (λ (e : DecisionNote). e.stamp.trans) (decisions_kept held.notes) t here in
-          let s : IsDecisionAt held.notes d.0 = decision_stands held.notes d.0 d.1 in
+          let d = named (λ (e : DecisionNote). e.stamp.trans) (decisions_kept c.notes) t here in
+          let s : IsDecisionAt c.notes d.0 = decision_stands c.notes d.0 d.1 in
           subst (λ (u : TransId). has_trans u (counted_list k.coordinator) ≡ true) d.2
-          (counted_there k.coordinator d.0.stamp.trans (kept_counts (fate_in k.coordinator d.0.stamp.trans) s.decision (sym (noted.decided d.0.stamp.trans s.named) ∙ s.at)))
+          (counted_there k.coordinator d.0.stamp.trans (standing_counts a.ids.epoch d.0.stamp.trans (fate_in k.coordinator d.0.stamp.trans) (a.fates d.0.stamp.trans) (standing_at d.0 s).stamp (h.coordinator.fates d.0.stamp.trans) (standing_at d.0 s).stands))
 
   -- ---- how much
 
   abbrev IsVoter : ReadyNote → TransId → Type 0
   IsVoter n t = (n.trans ≡ t) × (size_of n ≡ size_in k.lives t)
 
-  log_fits : log_sum (list_map size_of (ready_kept held.notes)) ≤ a.sizes.area
+  log_fits : log_sum (list_map size_of (ready_kept c.notes)) ≤ a.sizes.area
   log_fits =
       let most : ready_sum (sum_of (list_map (size_in k.lives) (ready_in k.joins.lives))).weights (sum_of (list_map (size_in k.lives) (ready_in k.joins.lives))).greatest ≤ k.sizes.area = r.fits in
-      let less : log_sum (list_map size_of (ready_kept held.notes)) ≤ ready_sum (sum_of (list_map (size_in k.lives) (ready_in k.joins.lives))).weights (sum_of (list_map (size_in k.lives) (ready_in k.joins.lives))).greatest =
-      log_less IsVoter size_of (size_in k.lives) (λ n t v. v.1) (ready_kept held.notes) (ready_in k.joins.lives) (λ n has. voter n (life_noted n has)) (own_notes IsVoter (λ n m t v w. v.0 ∙ sym w.0) (ready_kept held.notes) notes_apart) in
+      let less : log_sum (list_map size_of (ready_kept c.notes)) ≤ ready_sum (sum_of (list_map (size_in k.lives) (ready_in k.joins.lives))).weights (sum_of (list_map (size_in k.lives) (ready_in k.joins.lives))).greatest =
+      log_less IsVoter size_of (size_in k.lives) (λ n t v. v.1) (ready_kept c.notes) (ready_in k.joins.lives) (λ n has. voter n (life_noted n has)) (own_notes IsVoter (λ n m t v w. v.0 ∙ sym w.0) (ready_kept c.notes) notes_apart) in
       omega (arith, most, less, ap (λ (s : Sizes). s.area) h.sizes)
     where
       voter : (n : ReadyNote) → IsNoteLife n → (t : TransId) × Has t (ready_in k.joins.lives) × IsVoter n t
@@ -515,23 +480,23 @@ module _ {V : Type 0} (a : Account) (held : Contents) (k : ServerState V) (steps
   abbrev IsCounted : ReadyNote → TransId × Live → Type 0
   IsCounted n e = (n.trans ≡ e.0) × AreCountsOf a.holder.cells n.edits e.1.part.counts
 
-  counted_own : HaveOwn IsCounted (ready_kept held.notes)
-  counted_own = own_notes IsCounted (λ n m e v w. v.0 ∙ sym w.0) (ready_kept held.notes) notes_apart
+  counted_own : HaveOwn IsCounted (ready_kept c.notes)
+  counted_own = own_notes IsCounted (λ n m e v w. v.0 ∙ sym w.0) (ready_kept c.notes) notes_apart
 
-  counted_each : (n : ReadyNote) → Has n (ready_kept held.notes) → (e : TransId × Live) × Has e (map.entries k.lives) × IsCounted n e
+  counted_each : (n : ReadyNote) → Has n (ready_kept c.notes) → (e : TransId × Live) × Has e (map.entries k.lives) × IsCounted n e
   counted_each n has = (let x : IsNoteLife n = life_noted n has in ((n.trans, x.live), entry_there k.lives n.trans x.live x.at, (refl, x.counts)))
 
-  less_of : (f : ReadyNote → ℕ) (g : TransId × Live → ℕ) → ((n : ReadyNote) (e : TransId × Live) → IsCounted n e → f n ≤ g e) → sum_by f (ready_kept held.notes) ≤ sum_by g (map.entries k.lives)
-  less_of f g less = sum_less IsCounted f g less (ready_kept held.notes) (map.entries k.lives) counted_each counted_own
+  less_of : (f : ReadyNote → ℕ) (g : TransId × Live → ℕ) → ((n : ReadyNote) (e : TransId × Live) → IsCounted n e → f n ≤ g e) → sum_by f (ready_kept c.notes) ≤ sum_by g (map.entries k.lives)
+  less_of f g less = sum_less IsCounted f g less (ready_kept c.notes) (map.entries k.lives) counted_each counted_own
 
-  rooms : HaveRoomTogether a.sizes a.holder.cells (ready_kept held.notes)
+  rooms : HaveRoomTogether a.sizes a.holder.cells (ready_kept c.notes)
   rooms =
-      let places : sum_by (λ (n : ReadyNote). need_of a.holder.cells n.edits) (ready_kept held.notes) ≤ sum_by (λ (e : TransId × Live). e.1.part.counts.places) (map.entries k.lives) =
-      less_of (λ n. need_of a.holder.cells n.edits) (λ e. e.1.part.counts.places) (λ n e c. omega (arith, c.1.places)) in
-      let files : sum_by (λ (n : ReadyNote). made_of is_leader a.holder.cells n.edits) (ready_kept held.notes) ≤ sum_by (λ (e : TransId × Live). e.1.part.counts.files) (map.entries k.lives) =
-      less_of (λ n. made_of is_leader a.holder.cells n.edits) (λ e. e.1.part.counts.files) (λ n e c. omega (arith, c.1.files)) in
-      let owners : sum_by (λ (n : ReadyNote). made_of is_owner a.holder.cells n.edits) (ready_kept held.notes) ≤ sum_by (λ (e : TransId × Live). e.1.part.counts.owners) (map.entries k.lives) =
-      less_of (λ n. made_of is_owner a.holder.cells n.edits) (λ e. e.1.part.counts.owners) (λ n e c. omega (arith, c.1.owners)) in
+      let places : sum_by (λ (n : ReadyNote). need_of a.holder.cells n.edits) (ready_kept c.notes) ≤ sum_by (λ (e : TransId × Live). e.1.part.counts.places) (map.entries k.lives) =
+      less_of (λ n. need_of a.holder.cells n.edits) (λ e. e.1.part.counts.places) (λ n e z. omega (arith, z.1.places)) in
+      let files : sum_by (λ (n : ReadyNote). made_of is_leader a.holder.cells n.edits) (ready_kept c.notes) ≤ sum_by (λ (e : TransId × Live). e.1.part.counts.files) (map.entries k.lives) =
+      less_of (λ n. made_of is_leader a.holder.cells n.edits) (λ e. e.1.part.counts.files) (λ n e z. omega (arith, z.1.files)) in
+      let owners : sum_by (λ (n : ReadyNote). made_of is_owner a.holder.cells n.edits) (ready_kept c.notes) ≤ sum_by (λ (e : TransId × Live). e.1.part.counts.owners) (map.entries k.lives) =
+      less_of (λ n. made_of is_owner a.holder.cells n.edits) (λ e. e.1.part.counts.owners) (λ n e z. omega (arith, z.1.owners)) in
       record {
         places = omega (arith, places, h.room.places, ap (λ (s : Sizes). s.home) h.sizes);
         files = omega (arith, files, h.room.files);
@@ -555,23 +520,23 @@ module _ {V : Type 0} (a : Account) (held : Contents) (k : ServerState V) (steps
       ∙ all_noted ns (edits_map n.edits m) (λ o has. among o (inr has))
       ∙ sym (edits_map-append n.edits (flat_map (λ (o : ReadyNote). o.edits) ns) m)
 
-  files_sound : AreSoundTogether a.holder.cells (ready_kept held.notes)
+  files_sound : AreSoundTogether a.holder.cells (ready_kept c.notes)
   files_sound = record {
-    each = all_has (λ (n : ReadyNote). AreSound (edits_map n.edits a.holder.cells)) (ready_kept held.notes) (λ n has. one_sound n (life_noted n has));
-    all = subst AreSound (all_noted (ready_kept held.notes) a.holder.cells (λ n has. has)) (sound.sound (ready_trans (ready_kept held.notes)) (ready_apart (ready_kept held.notes) notes_apart));
+    each = all_has (λ (n : ReadyNote). AreSound (edits_map n.edits a.holder.cells)) (ready_kept c.notes) (λ n has. one_sound n (life_noted n has));
+    all = subst AreSound (all_noted (ready_kept c.notes) a.holder.cells (λ n has. has)) (sound.sound (ready_trans (ready_kept c.notes)) (ready_apart (ready_kept c.notes) notes_apart));
   }
 
   -- ---- together
 
-  pub keeps_together : AreTogether a.holder.server a.servers (a.ids.epoch + 1) a.sizes held.cells held.notes
+  pub keeps_together : AreTogether a.holder.server a.servers (a.ids.epoch + 1) a.sizes c.cells c.notes
   keeps_together =
-      subst (λ (c : Cells). AreTogether a.holder.server a.servers (a.ids.epoch + 1) a.sizes c held.notes) (sym (h.cells up))
+      subst (λ (z : Cells). AreTogether a.holder.server a.servers (a.ids.epoch + 1) a.sizes z c.notes) (sym stored.cells)
       (record {
         notes_alone = record {
           format = said.format;
-          parts = subst (λ (e : ℕ). AllByRecursion (IsPartNote a.holder.server e) (ready_kept held.notes)) (sym low_epoch) (all_has (IsPartNote a.holder.server a.ids.epoch) (ready_kept held.notes) note_good);
-          decided = all_listed (λ (d : DecisionNote). is_decided_by (clock_before (a.ids.epoch + 1) held.notes) d.stamp) (decisions_kept held.notes)
-              (all_has (λ (d : DecisionNote). is_decided_by (clock_before (a.ids.epoch + 1) held.notes) d.stamp ≡ true) (decisions_kept held.notes) decision_good);
+          parts = subst (λ (e : ℕ). AllByRecursion (IsPartNote a.holder.server e) (ready_kept c.notes)) (sym low_epoch) (all_has (IsPartNote a.holder.server a.ids.epoch) (ready_kept c.notes) note_good);
+          decided = all_listed (λ (d : DecisionNote). is_decided_by (clock_before (a.ids.epoch + 1) c.notes) d.stamp) (decisions_kept c.notes)
+              (all_has (λ (d : DecisionNote). is_decided_by (clock_before (a.ids.epoch + 1) c.notes) d.stamp ≡ true) (decisions_kept c.notes) decision_good);
           apart = notes_apart;
           few = omega (arith, ready_few, decided_few, r.most);
           log = log_fits;

@@ -71,7 +71,8 @@ pub record IsPartPast (l : Life) (locked : List Resource) : Type 0 where
   pub known : AreHeld l.held locked
 
 -- Of the state that a server fell in these stay: which it is, one of so many; its parts; the ids of files that it gave and those that
--- it did not; what was applied; and that it was quiet.
+-- it did not; what was applied; that it was quiet; and that its notes go together, for the epoch after its last one, of which a vault has
+-- what the journal says.
 pub record IsPast (a : Account) (server servers epoch : ℕ) (sizes : Sizes) : Type 0 where
   pub number : a.holder.server ≡ server
   pub among : a.servers ≡ servers
@@ -83,6 +84,7 @@ pub record IsPast (a : Account) (server servers epoch : ℕ) (sizes : Sizes) : T
   pub born : SeesNoneToCome a.holder.server a.ids.epoch a.ids.files (map.get a.holder.cells)
   pub earlier : AreEarlier a.holder.kept a.holder.applied
   pub quiet : IsQuiet a
+  pub together : (near : ℕ) (c : Contents) → a.ids.epoch ≤ near → IsStoredBy near (account_state a) c → AreTogether a.holder.server a.servers (a.ids.epoch + 1) a.sizes c.cells c.notes
 
 -- its journal is lawful, and each of its entries has its cause
 pub record IsPastRight {V : Type 0} (o : Start) (sizes : Sizes) (d : DownState V) : Type 0 where
@@ -267,7 +269,7 @@ pub record HasRestarted {V : Type 0} (G : Ghosts V) (d : DownState V) (n : NodeS
 
 -- It is the same server, which may be started again. Just where its last epoch is the last there is, that is the cause, whatever else is
 -- wanting. Of the only server of a run whose vault tells what it holds the notes are never at fault: what a crash leaves of them is in the
--- format.
+-- format. Nor are they of any server that did not go down as it wrote: what it keeps goes together.
 pub record IsStillDown {V : Type 0} (G : Ghosts V) (old new : DownState V) (f : StartFault) : Type 0 where
   pub opening : new.opening ≡ old.opening
   pub journal : new.journal ≡ old.journal
@@ -278,4 +280,5 @@ pub record IsStillDown {V : Type 0} (G : Ghosts V) (old new : DownState V) (f : 
   pub cause : HasRaiseCause G old.epoch old.vault new.vault f
   pub end : old.epoch ≡ 4294967295 → f ≡ fault.EpochEnd
   pub sound : new.servers ≡ 1 → IsTrue (G.tells old.vault) → f ≡ fault.BadNote → ⊥
+  pub whole : (state_of (start_of G old) old.journal).pending ≡ [] → IsTrue (G.tells old.vault) → f ≡ fault.BadNote → ⊥
   pub back : IsHandedBack G old.vault new.vault (IsLeftOrRaised G old.server old.servers old.epoch old.vault)
