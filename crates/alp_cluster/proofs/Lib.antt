@@ -39,3 +39,4 @@ pub mod OtherLemmas
 pub mod SendLemmas
 pub mod LeftLemmas
 pub mod RestLemmas
+pub mod RestAllLemmas

@@ -37,6 +37,7 @@ use Rattle.alp_cluster.specs.declared.fault.RunFault.{RunFault}
 use Rattle.alp_cluster.specs.declared.stations.Stations.{Stations}
 use Rattle.alp_cluster.proofs.DidLemmas.{passes_course}
 use Rattle.alp_cluster.proofs.LineLemmas.{said_goes}
+use Rattle.alp_cluster.proofs.RestAllLemmas.{rested_all}
 use Rattle.alp_cluster.proofs.RestLemmas.{rested_alone}
 
 -- ---- one line more
@@ -166,6 +167,7 @@ module _ {V : Type 0} (G : Ghosts V) (servers : ℕ) (ls : List NumberedLine) (c
     count = count_more t e.hs e.goes;
     up = up_then e;
     taken = taken_then e;
+    rested = (let r = ran_more t e.hs e.goes in rested_all G t e.goes.later.on servers r.first (h.happened ++ e.hs) h.happened e.hs r.is_first r.course refl (count_more t e.hs e.goes) e.word);
     rests = λ one told. rested_alone G s t h.step.on (did_alone e one) (h.count ∙ one) told;
     turns = h.turns;
     hs = h.happened ++ e.hs;

@@ -9,11 +9,15 @@ use Rattle.alp_lines.specs.declared.line.Line.TheVariants as line
 use Rattle.alp_script.specs.declared.numbered.NumberedLine.{NumberedLine}
 use Rattle.alp_session.specs.Crowd.{Crowd}
 use Rattle.alp_session.specs.Crowds.{new_crowd, client_at}
+use Rattle.alp_history.specs.Items.{Handed}
+use Rattle.alp_history.specs.Log.{AreSoundOpenings}
 use Rattle.alp_history.specs.RunLogs.{item_of}
+use Rattle.alp_history.specs.Theorems.{IsSettled}
 use Rattle.alp_vault.specs.declared.vault.Vault.{Ghosts}
-use Rattle.alp_course.specs.Courses.{Course, Occurrence, seat_at, AreCourse}
-use Rattle.alp_course.specs.Links.{IsFirst}
+use Rattle.alp_course.specs.Courses.{Course, Occurrence, seat_at, IsSeat, AreCourse, TellAll}
+use Rattle.alp_course.specs.Links.{log_of, IsFirst}
 use Rattle.alp_course.specs.Plays.{Due, sent_of, IsCut, Plays, BeginsLine, ArePlayed}
+use Rattle.alp_course.specs.Resting.{AreSpelled}
 use Rattle.alp_course.specs.Settles.{IsSettling, AreUp, AreTaken}
 use Rattle.alp_course.specs.Turns.{Turn, lists_in, own_in, sent_in, turns_text}
 use Rattle.alp_cluster.specs.Clients.{InStep, HasSaid}
@@ -67,13 +71,21 @@ pub record HasPlayed {V : Type 0} (G : Ghosts V) (servers : ℕ) (lines : List N
 
 -- ---- all of it
 
--- All lines were played on servers that did nothing before, and then the run was settled: each server is up, nobody stops its disk, and no message
--- to another one is left. Where it is the only one, no transaction is live there.
+-- Where all vaults tell what they hold, and the servers opened on sound files and notes, no part lives at any server, none is ready, and no
+-- decision stands.
+abbrev pub AreRested : {V : Type 0} → Ghosts V → Stations V → Type 0
+AreRested G last =
+    (handed : Handed) → TellAll (course_of G last) → AreSoundOpenings (log_of (course_of G last) handed) → ((n : ℕ) → IsSeat (course_of G last) n → AreSpelled (seat_at (course_of G last) n).opening)
+    → (n : ℕ) → IsSeat (course_of G last) n → IsSettled (seat_at (course_of G last) n).stand.state
+
+-- All lines were played on servers that did nothing before, and then the run was settled: each server is up, nobody stops its disk, no message
+-- to another one is left, and all are at rest. Where it is the only one, no transaction is live there, whatever it opened on.
 pub record HasPlayedOut {V : Type 0} (G : Ghosts V) (servers : ℕ) (lines : List NumberedLine) (last : Stations V) (vs : List (Vec Item Global)) (printed : List ℕ) : Type 0 where
   pub on : AreOn G last
   pub count : length last.all.items ≡ servers
   pub up : AreUp (course_of G last)
   pub taken : AreTaken (course_of G last)
+  pub rested : AreRested G last
   pub rests : servers ≡ 1 → IsTrue (seat_at (course_of G last) 1).tells → (t : TransId) → (seat_at (course_of G last) 1).stand.state.holder.lives t ≡ None
   pub turns : List Turn
   pub hs : List Occurrence

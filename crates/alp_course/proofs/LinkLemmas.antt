@@ -42,12 +42,12 @@ pub record IsSentBy (s : Seat) (to : ℕ) (m : Message) (most : ℕ) : Type 0 wh
   pub sent : IsIn (act.Sent to m) entry.acts
   pub low : get_or s.ranks place 0 ≤ most
 
-get_left : {X : Type 0} (xs ys : List X) (i : ℕ) → i < length xs → slice_get (xs ++ ys) i ≡ slice_get xs i
+pub get_left : {X : Type 0} (xs ys : List X) (i : ℕ) → i < length xs → slice_get (xs ++ ys) i ≡ slice_get xs i
 get_left [] ys i less = absurd (omega (arith, less))
 get_left (x ∷ xs) ys zero less = refl
 get_left (x ∷ xs) ys (suc i) less = get_left xs ys i (omega (arith, less))
 
-get_right : {X : Type 0} (xs ys : List X) (i : ℕ) → length xs ≤ i → slice_get (xs ++ ys) i ≡ slice_get ys (i - length xs)
+pub get_right : {X : Type 0} (xs ys : List X) (i : ℕ) → length xs ≤ i → slice_get (xs ++ ys) i ≡ slice_get ys (i - length xs)
 get_right [] ys i low = (let same : i ≡ i - 0 = omega arith in ap (slice_get ys) same)
 get_right (x ∷ xs) ys zero low = absurd (omega (arith, low))
 get_right (x ∷ xs) ys (suc i) low = (let same : i - length xs ≡ suc i - suc (length xs) = omega arith in get_right xs ys i (omega (arith, low)) ∙ ap (slice_get ys) same)
@@ -141,7 +141,7 @@ none_as_sent r n most (e ∷ es) h = ((λ from m is. absurd (no_arrival e.event 
 
 -- ---- a server goes on
 
-all_at : {X : Type 0} (P : X → Type 0) (xs : List X) (i : ℕ) (x : X) → AllByRecursion P xs → slice_get xs i ≡ Some x → P x
+pub all_at : {X : Type 0} (P : X → Type 0) (xs : List X) (i : ℕ) (x : X) → AllByRecursion P xs → slice_get xs i ≡ Some x → P x
 all_at P [] i x h is = absurd cc
 all_at P (y ∷ xs) zero x h is = (let same : y ≡ x = cc in subst P same h.0)
 all_at P (y ∷ xs) (suc i) x h is = all_at P xs i x h.1 is
@@ -210,7 +210,7 @@ module _ (r after : Course) (n seen : ℕ) (Makes : Seat → List Entry → Stan
 
 -- ---- messages
 
-are_servers : (r : Course) (from to : ℕ) → length r.seats ≤ 8 → IsSeat r from → IsSeat r to → AreServers from to
+pub are_servers : (r : Course) (from to : ℕ) → length r.seats ≤ 8 → IsSeat r from → IsSeat r to → AreServers from to
 are_servers r from to few s t =
     let one : from ≤ length r.seats = s.last in
     let two : to ≤ length r.seats = t.last in
@@ -221,7 +221,7 @@ next_sent : (r : Course) (from to : ℕ) (m : Message) → Holds r → IsSeat r 
 next_sent r from to m h s is = is_sent (seat_at r from) to m (h.rising from s.first) (sent_by to (post_at r.posts from to).taken m (seat_at r from).journal is)
 
 -- it is taken
-takes_it : (r : Course) (from to : ℕ) (m : Message) → Holds r → IsSeat r from → IsSeat r to → next_message r from to ≡ Some m → Holds (taking r from to m)
+pub takes_it : (r : Course) (from to : ℕ) (m : Message) → Holds r → IsSeat r from → IsSeat r to → next_message r from to ≡ Some m → Holds (taking r from to m)
 takes_it r from to m h s t is = record {
   few = h.few;
   numbered = h.numbered;
@@ -289,7 +289,7 @@ repeated r after from to h s t = go (post_at r.posts from to).last (h.posts from
 
 -- ---- all of it
 
-occurs_on : (r after : Course) (x : Occurrence) → Holds r → Occurs r x after → Holds after
+pub occurs_on : (r after : Course) (x : Occurrence) → Holds r → Occurs r x after → Holds after
 occurs_on r after (at n x) h a = goes_on r after n 0 (λ s es w. Happens s.tells s.stand x es w) h a (none_as_sent r n 0 a.entries (happens_none (seat_at r n).tells (seat_at r n).stand x a.entries a.stand a.made))
 occurs_on r after (looks from to waits) h a = subst Holds (sym a.2) h
 occurs_on r after (brings from to) h a = brought r after from to h a.0.sender a.0.receiver a.1
@@ -297,7 +297,7 @@ occurs_on r after (loses from to) h a = lost r after from to h a.0.sender a.0.re
 occurs_on r after (repeats from to) h a = repeated r after from to h a.0.sender a.0.receiver a.1
 occurs_on r after (rests is_rest) h a = subst Holds (sym a.1) h
 
-course_on : (r after : Course) (xs : List Occurrence) → Holds r → AreCourse r xs after → Holds after
+pub course_on : (r after : Course) (xs : List Occurrence) → Holds r → AreCourse r xs after → Holds after
 course_on r after [] h a = subst Holds (sym a) h
 course_on r after (x ∷ xs) h a = course_on a.0 after xs (occurs_on r a.0 x h a.1) a.2
 
@@ -311,7 +311,7 @@ idle_at (s ∷ ss) (suc i) h = idle_at ss i h.1
 nothing_stands : {X : Type 0} (xs : List X) (i : ℕ) (x : X) → xs ≡ [] → slice_get xs i ≡ Some x → ⊥
 nothing_stands {X = X} xs i x empty is = (let wrong : None ≡ Some x = sym (ap (λ (ys : List X). slice_get ys i) empty) ∙ is in cc)
 
-first_holds : (r : Course) → IsFirst r → Holds r
+pub first_holds : (r : Course) → IsFirst r → Holds r
 first_holds r f = record {
   few = f.few;
   numbered = f.numbered;

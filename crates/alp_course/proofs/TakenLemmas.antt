@@ -27,7 +27,7 @@ neither : (b d : Bool) → (b || d) ≡ false → (b ≡ false) × (d ≡ false)
 neither true d h = (let wrong : true ≡ false = h in cc)
 neither false d h = (refl, h)
 
-abbrev NoneWaits : (from to : ℕ) → Course → Type 0
+abbrev pub NoneWaits : (from to : ℕ) → Course → Type 0
 NoneWaits from to r = is_waiting r from to ≡ false
 
 pair_stays : (from to : ℕ) → Stays (ArePairCarried from to) (NoneWaits from to)
@@ -64,7 +64,7 @@ each_stays A P stays (suc k) r after xs h quiet course =
     }
 
 -- no message of one of so many servers to another one waits
-abbrev NoneLeft : (servers : ℕ) → Course → Type 0
+abbrev pub NoneLeft : (servers : ℕ) → Course → Type 0
 NoneLeft servers r = (from : ℕ) → 1 ≤ from → from ≤ servers → (to : ℕ) → 1 ≤ to → to ≤ servers → from ≢ to → NoneWaits from to r
 
 sweep_stays : (servers : ℕ) → Stays (IsSweep servers) (NoneLeft servers)
@@ -73,7 +73,7 @@ sweep_stays servers =
 
 -- ---- all messages are carried
 
-carried_none : (servers : ℕ) (r after : Course) (xs : List Occurrence) → IsCarried servers xs → AreCourse r xs after → NoneLeft servers after
+pub carried_none : (servers : ℕ) (r after : Course) (xs : List Occurrence) → IsCarried servers xs → AreCourse r xs after → NoneLeft servers after
 carried_none servers r after xs (last_sweep ys word quiet) course =
     let s : IsStill r after (NoneLeft servers) = sweep_stays servers r after ys word quiet course in
     subst (NoneLeft servers) (sym s.same) s.holds
@@ -113,7 +113,7 @@ rounds_none servers k r after xs (is_rest, h) course =
 
 -- ---- all of it
 
-no_message : (o : Option Message) (down : Bool) → down ≡ false → (is_some o && not down) ≡ false → o ≡ None
+pub no_message : (o : Option Message) (down : Bool) → down ≡ false → (is_some o && not down) ≡ false → o ≡ None
 no_message None down up none = refl
 no_message (Some m) down up none = (let wrong : true ≡ false = sym (ap not up) ∙ none in cc)
 

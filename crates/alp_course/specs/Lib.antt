@@ -8,3 +8,4 @@ pub mod Settles
 pub mod Plays
 pub mod Links
 pub mod Lone
+pub mod Resting

@@ -1,6 +1,11 @@
 -- A run of one server.
 use Rattle.std.specs.Prelude.{◌≡◌, ℕ, ◌+◌, false, IsTrue, List, [], ◌∷◌, ◌++◌, length}
 use Rattle.alp_base.specs.declared.ids.TransId.{TransId}
+use Rattle.std.specs.List.{AllByRecursion}
+use Rattle.alp_journal.specs.Laws.{IsLawful}
+use Rattle.alp_journal.specs.Opening.{Start}
+use Rattle.alp_journal.specs.declared.act.Act.{Act}
+use Rattle.alp_journal.specs.declared.act.Act.TheVariants as act
 use Rattle.alp_journal.specs.declared.entry.Entry.{Entry}
 use Rattle.alp_course.specs.Happens.{Happening, AreRecorded}
 use Rattle.alp_course.specs.Courses.{Course, Seat, seat_at, Occurrence, at, ranks_with, AreCourse}
@@ -29,3 +34,17 @@ Alone = (r after : Course) (xs : List Occurrence) (s : Seat) → r.seats ≡ s �
 -- Behind a settling of the only server, whose vault tells, each of its transactions is over, or somebody asked to finish it.
 abbrev pub Closing : Type 0
 Closing = (r after : Course) (xs : List Occurrence) (s : Seat) → r.seats ≡ s ∷ [] → IsSettling 1 xs → AreCourse r xs after → IsTrue (seat_at after 1).tells → (t : TransId) → is_unasked ((seat_at after 1).stand.state.fates t) ≡ false
+
+-- ---- restarts
+
+-- a restart that finds no ready part and no decision with parts elsewhere
+abbrev pub IsPlainAct : Act → Type 0
+IsPlainAct (act.Regained epoch clock ready stamps) = (ready ≡ []) × (stamps ≡ [])
+IsPlainAct a = Unit {0}
+
+abbrev pub ArePlain : List Entry → Type 0
+ArePlain es = AllByRecursion (λ (e : Entry). AllByRecursion IsPlainAct e.acts) es
+
+-- Of the only server of a run, which was started on no ready part and no such decision, no restart finds any.
+abbrev pub Plainness : Type 0
+Plainness = (o : Start) (journal : List Entry) → o.servers ≡ 1 → o.server ≡ 1 → o.ready ≡ [] → o.decisions ≡ [] → IsLawful o journal → ArePlain journal

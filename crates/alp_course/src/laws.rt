@@ -1,6 +1,7 @@
 //! What holds of each run, whatever happens in it.
 ghost use Rattle.alp_course.specs.Links.{Linking};
-ghost use Rattle.alp_course.specs.Lone.{Alone, Closing};
+ghost use Rattle.alp_course.specs.Lone.{Alone, Closing, Plainness};
+ghost use Rattle.alp_course.specs.Resting.{Resting};
 ghost use Rattle.alp_course.specs.Settles.{Lifting, Emptying};
 
 /// The journals of a run are linked: ranks rise along each of them, and each message that arrives was sent before.
@@ -26,4 +27,14 @@ pub fn one_settled_server_has_none_open()
 /// Behind a settling no message of one server to another is left.
 pub fn settled_servers_have_all_messages()
     ensures { Emptying }
+{}
+
+/// No restart of the only server of a run finds a ready part or a decision with parts elsewhere.
+pub fn lone_restarts_are_plain()
+    ensures { Plainness }
+{}
+
+/// Behind a settling no part lives, none is ready, and no decision stands, at any server of the run.
+pub fn settled_servers_are_at_rest()
+    ensures { Resting }
 {}

@@ -1,7 +1,7 @@
 -- the items of a run are as its clients' machine and the servers leave them
 use Rattle.std.specs.Prelude.{◌==◌, true, false, Bool, cond, Option, None, Some, slice_get, map as list_map}
 use Rattle.std.specs.List.{AllByRecursion}
-use Rattle.std.proofs.Common.{inl, inr, ◌⊎◌, ◌≡◌, ℕ, zero, suc, ◌+◌, ◌<◌, ◌≤◌, List, [], ◌∷◌, ◌++◌, length, length-append, refl, sym, ◌∙◌, ap, subst, arith}
+use Rattle.std.proofs.Common.{inl, inr, ◌⊎◌, ◌≡◌, ℕ, zero, suc, ◌+◌, ◌<◌, ◌≤◌, List, [], ◌∷◌, ◌++◌, length, length-append, refl, sym, ◌∙◌, ap, subst, arith, eq-eqb}
 use Rattle.std.proofs.lemmas.Bool.Decides.{eqb_tells}
 use Rattle.alp_base.specs.declared.ids.TransId.{TransId}
 use Rattle.alp_files.specs.declared.call.Call.{Call}
@@ -24,17 +24,60 @@ use Rattle.alp_history.specs.RunLogs.{item_of}
 use Rattle.alp_history.proofs.Decisions.{map-in, in-map}
 use Rattle.alp_history.proofs.Linked.{in-left, in-right}
 use Rattle.alp_history.proofs.Logs.{opening-server}
-use Rattle.alp_session.specs.declared.client.Client.{Client}
-use Rattle.alp_node.specs.declared.server_state.ServerState.{ServerState}
 use Rattle.alp_cluster.specs.Come.{Come, none_come, IsUpTo, IsBelow, further}
 use Rattle.alp_course.specs.Happens.{Happening, sent_it, timed_out, ticked, forced, stop_set, restarted, lifts, finds, Stand, IsEntryOf, IsNone, ComesTo, Takes, Happens, AreRecorded}
-use Rattle.alp_course.specs.Plays.{sent_of}
-use Rattle.alp_cluster.specs.Steps.{come_of, come_by, come_with, IsOwnTurn, IsAgainTurn, IsInTurn, IsSentBy, AreNumbered, IsToldOf, AsksOfTold, SentOfTold, HasSaid}
+use Rattle.alp_course.specs.Courses.{Occurrence, at as at_server_of, looks, brings, loses, repeats, rests}
+use Rattle.alp_course.specs.Lone.{happenings_of}
+use Rattle.alp_course.specs.Plays.{sent_of as sent_in_all}
+use Rattle.alp_cluster.specs.Clients.{come_of, come_by, come_with, IsOwnTurn, IsAgainTurn, IsInTurn, IsSentBy, AreNumbered, IsToldOf, AsksOfTold, SentOfTold, at_server}
 use Rattle.alp_course.specs.Turns.{Turn, own_in, sent_in}
 use Rattle.alp_cluster.proofs.ComeLemmas.{up_to_left, up_to_right, up_to_self, below_after}
 use Rattle.alp_top.proofs.SingleLemmas.{single, of_self, by_server}
 
+-- ---- what was sent of what happened at a server
+
+abbrev pub sent_of : List Happening → List (ℕ × Item)
+sent_of [] = []
+sent_of (sent_it k x ∷ hs) = (k, x) ∷ sent_of hs
+sent_of (h ∷ hs) = sent_of hs
+
+pub sent_alone : (xs : List Occurrence) → sent_of (happenings_of xs) ≡ sent_in_all xs
+sent_alone [] = refl
+sent_alone (at_server_of n (sent_it k x) ∷ xs) = ap (λ (ys : List (ℕ × Item)). (k, x) ∷ ys) (sent_alone xs)
+sent_alone (at_server_of n (timed_out t) ∷ xs) = sent_alone xs
+sent_alone (at_server_of n ticked ∷ xs) = sent_alone xs
+sent_alone (at_server_of n forced ∷ xs) = sent_alone xs
+sent_alone (at_server_of n (stop_set calls) ∷ xs) = sent_alone xs
+sent_alone (at_server_of n (restarted pick) ∷ xs) = sent_alone xs
+sent_alone (at_server_of n (lifts is_down) ∷ xs) = sent_alone xs
+sent_alone (at_server_of n (finds least) ∷ xs) = sent_alone xs
+sent_alone (looks from to waits ∷ xs) = sent_alone xs
+sent_alone (brings from to ∷ xs) = sent_alone xs
+sent_alone (loses from to ∷ xs) = sent_alone xs
+sent_alone (repeats from to ∷ xs) = sent_alone xs
+sent_alone (rests is_rest ∷ xs) = sent_alone xs
+
 -- ---- how the entries of a run follow
+
+-- the server stays the same
+comes_server : (w : Stand) (b : Bool) (x : Event) (es : List Entry) (v : Stand) → ComesTo w b x es v → v.server ≡ w.server
+comes_server w true x es v h = ap (λ (z : Stand). z.server) h.1
+comes_server w false x es v h = ap (λ (z : Stand). z.server) h.behind
+
+takes_server : (w : Stand) (k : ℕ) (x : Item) (b : Bool) (s : Sent) (es : List Entry) (v : Stand) → Takes w k x b s es v → v.server ≡ w.server
+takes_server w k x b (sent.Bytes bytes) es v h = ap (λ (z : Stand). z.server) h.none.1
+takes_server w k x true (sent.Call client epoch number c) es v h = ap (λ (z : Stand). z.server) h.none.1
+takes_server w k x false (sent.Call client epoch number c) es v h = ap (λ (z : Stand). z.server) h.made.behind
+
+happens_server : (tells : Bool) (w : Stand) (h : Happening) (es : List Entry) (v : Stand) → Happens tells w h es v → v.server ≡ w.server
+happens_server tells w (sent_it k x) es v h = takes_server w k x w.is_down x.sent es v h.1
+happens_server tells w (timed_out t) es v h = comes_server w w.is_down (event.Timeout t) es v h
+happens_server tells w ticked es v h = comes_server w w.is_down event.Tick es v h
+happens_server tells w forced es v h = comes_server w w.is_down event.Force es v h
+happens_server tells w (stop_set calls) es v h = ap (λ (z : Stand). z.server) h.1
+happens_server tells w (restarted pick) es v h = ap (λ (z : Stand). z.server) h.behind
+happens_server tells w (lifts is_down) es v h = ap (λ (z : Stand). z.server) h.2
+happens_server tells w (finds least) es v h = ap (λ (z : Stand). z.server) h.1.1
 
 -- behind one thing that happened
 none_place : (w : Stand) (es : List Entry) (v : Stand) → IsNone w es v → v.place ≡ w.place + length es
@@ -169,10 +212,10 @@ entered_back from mid x own others is h = record {
 }
 
 -- an item of what was sent
-entered : (tells : Bool) (w : Stand) (hs : List Happening) (es : List Entry) (v : Stand) (x : ℕ × Item) → AreRecorded tells w hs es v → IsIn x (sent_of hs) → IsAside x.1 ⊎ IsEntered w.place x.1 es
-entered tells w [] es v x h i = absurd i
-entered tells w (z ∷ hs) es v x (own, others, mid, are, happens, rest) i =
-    subst (λ (js : List Entry). IsAside x.1 ⊎ IsEntered w.place x.1 js) (sym are) (go (entered tells mid hs others v x rest) z happens i)
+entered : (tells : Bool) (w : Stand) (hs : List Happening) (es : List Entry) (v : Stand) (x : ℕ × Item) → w.server ≡ 1 → AreRecorded tells w hs es v → IsIn x (sent_of hs) → IsAside x.1 ⊎ IsEntered w.place x.1 es
+entered tells w [] es v x here h i = absurd i
+entered tells w (z ∷ hs) es v x here (own, others, mid, are, happens, rest) i =
+    subst (λ (js : List Entry). IsAside x.1 ⊎ IsEntered w.place x.1 js) (sym are) (go (entered tells mid hs others v x (happens_server tells w z own mid happens ∙ here) rest) z happens i)
   where
     later : (IsIn x (sent_of hs) → IsAside x.1 ⊎ IsEntered mid.place x.1 others) → IsIn x (sent_of hs) → IsAside x.1 ⊎ IsEntered w.place x.1 (own ++ others)
     later more j = elim (more j) [
@@ -181,7 +224,7 @@ entered tells w (z ∷ hs) es v x (own, others, mid, are, happens, rest) i =
     ]
 
     first : (k : ℕ) (y : Item) → Happens tells w (sent_it k y) own mid → IsAside y ⊎ IsEntered w.place y (own ++ others)
-    first k y one = elim (taken_entered w k y w.is_down y.sent own mid one.0 refl one.1) [ inl a ↦ inl a | inr b ↦ inr (entered_front w.place y own others b) ]
+    first k y one = elim (taken_entered w k y w.is_down y.sent own mid (one.0 ∙ here) refl one.1) [ inl a ↦ inl a | inr b ↦ inr (entered_front w.place y own others b) ]
 
     go : (IsIn x (sent_of hs) → IsAside x.1 ⊎ IsEntered mid.place x.1 others) → (z : Happening) → Happens tells w z own mid → IsIn x (sent_of (z ∷ hs)) → IsAside x.1 ⊎ IsEntered w.place x.1 (own ++ others)
     go more (sent_it k y) one (inl is) = subst (λ (q : ℕ × Item). IsAside q.1 ⊎ IsEntered w.place q.1 (own ++ others)) (sym is) (first k y one)
@@ -237,13 +280,13 @@ comes_none : (w : Stand) (b : Bool) (x : Event) (es : List Entry) (v : Stand) (i
 comes_none w true x es v i e none h at called = no_entry es i e h.0 at
 comes_none w false x es v i e none h at called = no_call e h.entry x none h.event (only_entry es i e h.entry h.one at).1 called
 
-sent_there : (tells : Bool) (w : Stand) (hs : List Happening) (es : List Entry) (v : Stand) (i : ℕ) (e : Entry) → AreRecorded tells w hs es v → slice_get es i ≡ Some e → IsCall e → IsSent (w.place + i) (sent_of hs)
-sent_there tells w [] es v i e h at called = absurd (no_entry es i e h.0 at)
-sent_there tells w (z ∷ hs) es v i e (own, others, mid, are, happens, rest) at called =
+sent_there : (tells : Bool) (w : Stand) (hs : List Happening) (es : List Entry) (v : Stand) (i : ℕ) (e : Entry) → w.server ≡ 1 → AreRecorded tells w hs es v → slice_get es i ≡ Some e → IsCall e → IsSent (w.place + i) (sent_of hs)
+sent_there tells w [] es v i e alone h at called = absurd (no_entry es i e h.0 at)
+sent_there tells w (z ∷ hs) es v i e alone (own, others, mid, are, happens, rest) at called =
     elim (get_either own others i e (ap (λ (js : List Entry). slice_get js i) (sym are) ∙ at)) [
       | inl here ↦ go z happens here
       | inr there ↦
-          let more : IsSent (mid.place + there.at) (sent_of hs) = sent_there tells mid hs others v there.at e rest there.stands called in
+          let more : IsSent (mid.place + there.at) (sent_of hs) = sent_there tells mid hs others v there.at e (happens_server tells w z own mid happens ∙ alone) rest there.stands called in
           let one : mid.place ≡ w.place + length own = happens_place tells w z own mid happens in
           let two : i ≡ length own + there.at = there.place in
           behind z (subst (λ (n : ℕ). IsSent n (sent_of hs)) (let same : mid.place + there.at ≡ w.place + i = omega (arith, one, two) in same) more)
@@ -260,7 +303,7 @@ sent_there tells w (z ∷ hs) es v i e (own, others, mid, are, happens, rest) at
     behind (finds live) s = s
 
     go : (z : Happening) → Happens tells w z own mid → slice_get own i ≡ Some e → IsSent (w.place + i) (sent_of (z ∷ hs))
-    go (sent_it k y) one here = record { item = (k, y); among = inl refl; server = one.0; place = sent_by w k y w.is_down y.sent own mid i e one.1 here }
+    go (sent_it k y) one here = record { item = (k, y); among = inl refl; server = one.0 ∙ alone; place = sent_by w k y w.is_down y.sent own mid i e one.1 here }
     go (timed_out t) one here = absurd (comes_none w w.is_down (event.Timeout t) own mid i e tt one here called)
     go ticked one here = absurd (comes_none w w.is_down event.Tick own mid i e tt one here called)
     go forced one here = absurd (comes_none w w.is_down event.Force own mid i e tt one here called)
@@ -569,20 +612,23 @@ abbrev pub TellsOfRun : ServerLog → Type 0
 TellsOfRun s = (i : ℕ) (e : Entry) (t : TransId) → slice_get s.journal i ≡ Some e → e.reply ≡ Some (reply.Begun t) → (t.server ≡ s.opening.server) × (s.opening.epoch ≤ t.epoch)
 
 -- each list of a client has what it sent, and each call of the journal is one of them
-pub record IsSaid {V : Type 0} (s : ServerLog) (h : Handed) (turns : List Turn) (k : ServerState V) (client_of : ℕ → Client) : Type 0 where
+pub record IsSaid (s : ServerLog) (h : Handed) (turns : List Turn) : Type 0 where
   pub server : s.opening.server ≡ 1
   pub handed : (j : ℕ) → h j ≡ list_map item_of (own_in j turns)
   pub tells : Bool
   pub first : Stand
   pub at_first : first.place ≡ 0
+  pub of_first : first.server ≡ 1
   pub happened : List Happening
   pub last : Stand
   pub sent : sent_of happened ≡ sent_in turns
   pub recorded : AreRecorded tells first happened s.journal last
   pub begun : TellsOfRun s
-  pub said : (j : ℕ) → HasSaid k j (client_of j) (list_map item_of (own_in j turns))
+  pub numbered : (j : ℕ) → AreNumbered j none_come (at_server 1 (list_map item_of (own_in j turns)))
+  pub seen : (j : ℕ) → HaveSeen [] (list_map item_of (own_in j turns))
+  pub outcomes : (j : ℕ) → AllByRecursion (λ (x : items.Item). SentOfTold (list_map item_of (own_in j turns)) x.mark x.sent) (list_map item_of (own_in j turns))
 
-module _ {V : Type 0} (s : ServerLog) (h : Handed) (turns : List Turn) (state : ServerState V) (client_of : ℕ → Client) (g : IsSaid s h turns state client_of) where
+module _ (s : ServerLog) (h : Handed) (turns : List Turn) (g : IsSaid s h turns) where
   abbrev log : Log
   log = single s h
 
@@ -620,7 +666,7 @@ module _ {V : Type 0} (s : ServerLog) (h : Handed) (turns : List Turn) (state : 
   put : (k : ℕ) (x : items.Item) → IsIn x (h k) → IsPut x
   put k x i =
       let (y, there, is) = member k x i in
-      subst IsPut is (placed_item y (entered g.tells g.first g.happened s.journal g.last (k, y) g.recorded (subst (IsIn {A = ℕ × Item} (k, y)) (sym g.sent) (own_sent k y turns there))))
+      subst IsPut is (placed_item y (entered g.tells g.first g.happened s.journal g.last (k, y) g.of_first g.recorded (subst (IsIn {A = ℕ × Item} (k, y)) (sym g.sent) (own_sent k y turns there))))
 
   placed : (x : items.Item) → IsPut x → IsOfPlace log x x.place
   placed x (inl (is, none)) = subst (IsOfPlace log x) (sym is) none
@@ -633,7 +679,7 @@ module _ {V : Type 0} (s : ServerLog) (h : Handed) (turns : List Turn) (state : 
 
   here : HasItem s
   here client i epoch number c e at is =
-      let q = sent_there g.tells g.first g.happened s.journal g.last i e g.recorded at (client, epoch, number, c, is) in
+      let q = sent_there g.tells g.first g.happened s.journal g.last i e g.of_first g.recorded at (client, epoch, number, c, is) in
       let k : ℕ = q.item.0 in
       let y : Item = q.item.1 in
       let zero_is : g.first.place ≡ 0 = g.at_first in (
@@ -654,8 +700,23 @@ module _ {V : Type 0} (s : ServerLog) (h : Handed) (turns : List Turn) (state : 
       let (owner, x, among, server, place) = item in
       (owner, x, among, server ∙ sym one ∙ opening-server log n, place)
 
+  of_item : (y : Item) → IsAside y ⊎ IsEntered g.first.place y s.journal → y.server ≡ 1
+  of_item y (inl a) = a.server
+  of_item y (inr b) = b.server
+
+  the_server : (k : ℕ) (x : items.Item) → IsIn x (h k) → x.server ≡ 1
+  the_server k x i =
+      let (y, there, is) = member k x i in
+      sym (ap (λ (z : items.Item). z.server) is)
+      ∙ of_item y (entered g.tells g.first g.happened s.journal g.last (k, y) g.of_first g.recorded (subst (IsIn {A = ℕ × Item} (k, y)) (sym g.sent) (own_sent k y turns there)))
+
+  -- all that a client sent it sent to this server
+  all_here : (xs : List items.Item) → ((x : items.Item) → IsIn x xs → x.server ≡ 1) → at_server 1 xs ≡ xs
+  all_here [] f = refl
+  all_here (x ∷ xs) f = ap (λ (b : Bool). cond b (x ∷ at_server 1 xs) (at_server 1 xs)) (eq-eqb x.server 1 (f x (inl refl))) ∙ ap (λ (ys : List items.Item). x ∷ ys) (all_here xs (λ y i. f y (inr i)))
+
   numbered : (k : ℕ) → AreNumbered k none_come (h k)
-  numbered k = subst (AreNumbered k none_come) (sym (g.handed k)) (g.said k).numbered
+  numbered k = subst (AreNumbered k none_come) (ap (at_server 1) (sym (g.handed k)) ∙ all_here (h k) (the_server k)) (g.numbered k)
 
   rising : (k : ℕ) → AreRising 0 (h k)
   rising k = subst (AreRising 0) (sym (g.handed k)) (rises k turns 0 (subst (λ (n : ℕ). AreSentRising n (sent_in turns)) g.at_first (subst (AreSentRising g.first.place) g.sent (sent_rises g.tells g.first g.happened s.journal g.last g.recorded))))
@@ -678,16 +739,6 @@ module _ {V : Type 0} (s : ServerLog) (h : Handed) (turns : List Turn) (state : 
       tells_it : IsTelling t (list_map item_of (own_in client turns))
       tells_it = telling t (list_map item_of (own_in client turns)) told
 
-      of_item : (y : Item) → IsAside y ⊎ IsEntered g.first.place y s.journal → y.server ≡ 1
-      of_item y (inl a) = a.server
-      of_item y (inr b) = b.server
-
-      the_server : (k : ℕ) (x : items.Item) → IsIn x (h k) → x.server ≡ 1
-      the_server k x i =
-          let (y, there, is) = member k x i in
-          sym (ap (λ (z : items.Item). z.server) is)
-          ∙ of_item y (entered g.tells g.first g.happened s.journal g.last (k, y) g.recorded (subst (IsIn {A = ℕ × Item} (k, y)) (sym g.sent) (own_sent k y turns there)))
-
       go : IsPut tells_it.item → (opening_of log t.server).epoch ≤ t.epoch
       go (inl (is, none)) = absurd (not_begun tells_it.item.reply t none tells_it.begun)
       go (inr (at, is, e)) = by_entry at e
@@ -706,8 +757,8 @@ module _ {V : Type 0} (s : ServerLog) (h : Handed) (turns : List Turn) (state : 
     replies = λ client x i. placed x (put client x i);
     whole = whole;
     fresh = fresh;
-    seen = λ client. subst (HaveSeen []) (sym (g.handed client)) (g.said client).seen;
+    seen = λ client. subst (HaveSeen []) (sym (g.handed client)) (g.seen client);
     outcomes = λ client x i.
         run_of log (list_map item_of (own_in client turns)) x.mark x.sent (of_run client)
-        (in_all (λ (y : items.Item). SentOfTold (list_map item_of (own_in client turns)) y.mark y.sent) (list_map item_of (own_in client turns)) x (g.said client).outcomes (subst (IsIn x) (g.handed client) i));
+        (in_all (λ (y : items.Item). SentOfTold (list_map item_of (own_in client turns)) y.mark y.sent) (list_map item_of (own_in client turns)) x (g.outcomes client) (subst (IsIn x) (g.handed client) i));
   }

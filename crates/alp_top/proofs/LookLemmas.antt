@@ -1,6 +1,6 @@
 -- what a call leaves of a vault that it only looks at
 use Rattle.std.specs.Prelude.{Result, Ok, Err}
-use Rattle.std.proofs.Common.{◌≡◌, refl, sym, ◌∙◌, subst}
+use Rattle.std.proofs.Common.{◌≡◌, ◌≢◌, ℕ, refl, sym, ◌∙◌, subst}
 use Rattle.alp_base.specs.Causes.{Rose}
 use Rattle.alp_base.specs.Faults.{HasVaultCause}
 use Rattle.alp_base.specs.declared.allowance.Allowance.TheVariants.{Free}
@@ -8,35 +8,32 @@ use Rattle.alp_base.specs.declared.faults.VaultFault.{VaultFault}
 use Rattle.alp_base.specs.declared.faults.VaultFault.TheVariants as vault_fault
 use Rattle.alp_vault.specs.Vault.{IsSameVault}
 use Rattle.alp_vault.specs.declared.vault.Vault.{Ghosts}
-use Rattle.alp_cluster.specs.Servers.{HasGone}
+use Rattle.alp_cluster.specs.Servers.{HasGoneBy}
 use Rattle.alp_cluster.specs.declared.fault.RunFault.{RunFault}
 use Rattle.alp_cluster.specs.declared.fault.RunFault.TheVariants as fault
-use Rattle.alp_cluster.proofs.GoneLemmas.{fault_rose, gone_ok}
+use Rattle.alp_cluster.proofs.GoneLemmas.{fault_rose}
 use Rattle.alp_top.specs.Looks.{HasLooked}
 
 -- ---- one look
 
-module _ {V : Type 0} (G : Ghosts V) (u v : V) (same : IsSameVault G.tells G.volume G.server G.servers u v) (allowance : G.allowance v ≡ G.allowance u) where
-  pub seen_gone : {T U : Type 0} (x : T) (y : U) → HasVaultCause {T = T} (G.faults u) (G.faults v) (G.allowance v) (Ok x) → HasGone {T = U} G (Unit {0}) u v (Ok y)
+module _ {V : Type 0} (G : Ghosts V) (server : ℕ) (u v : V) (same : IsSameVault G.tells G.volume G.server G.servers u v) (allowance : G.allowance v ≡ G.allowance u) where
+  pub seen_gone : {T U : Type 0} (x : T) (y : U) → HasVaultCause {T = T} (G.faults u) (G.faults v) (G.allowance v) (Ok x) → HasGoneBy {T = U} G (λ s. s ≡ server) (Unit {0}) u v (Ok y)
   seen_gone x y h = record { same = same; later = h.later; failed = tt; told = λ e. tt; free = λ p free. allowance ∙ free; counted = λ p free. h.still }
 
-  pub wanting_gone : {T U : Type 0} → HasVaultCause {T = T} (G.faults u) (G.faults v) (G.allowance v) (Err vault_fault.OutOfMemory) → HasGone {T = U} G (Unit {0}) u v (Err fault.OutOfMemory)
+  pub wanting_gone : {T U : Type 0} → HasVaultCause {T = T} (G.faults u) (G.faults v) (G.allowance v) (Err vault_fault.OutOfMemory) → HasGoneBy {T = U} G (λ s. s ≡ server) (Unit {0}) u v (Err fault.OutOfMemory)
   wanting_gone h = record { same = same; later = h.later; failed = tt; told = λ e. tt; free = λ p free. allowance ∙ free; counted = λ p free. h.still }
 
-  pub failed_gone : {T U : Type 0} (f : VaultFault) → HasVaultCause {T = T} (G.faults u) (G.faults v) (G.allowance v) (Err f) → (f ≡ vault_fault.OutOfMemory → ⊥) → G.allowance u ≡ Free → HasGone {T = U} G (Unit {0}) u v (Err (fault.DiskFault 1))
-  failed_gone f h other free =
+  pub failed_gone : {T U : Type 0} (f : VaultFault) → HasVaultCause {T = T} (G.faults u) (G.faults v) (G.allowance v) (Err f) → (f ≡ vault_fault.OutOfMemory → ⊥) → G.allowance u ≡ Free → G.server u ≡ server
+      → HasGoneBy {T = U} G (λ s. s ≡ server) (Unit {0}) u v (Err (fault.DiskFault server))
+  failed_gone f h other free here =
       let rose : Rose (G.faults u) (G.faults v) = fault_rose (G.faults u) (G.faults v) (G.allowance v) f h.cause h.volume (allowance ∙ free) other in
-      record { same = same; later = h.later; failed = (refl, rose); told = λ e. tt; free = λ p e. allowance ∙ e; counted = λ p e. rose }
+      record { same = same; later = h.later; failed = (refl, λ is. rose); told = λ e. tt; free = λ p e. allowance ∙ e; counted = λ p e. (λ is. rose, λ away. absurd (away (sym here))) }
 
 -- ---- one behind the other
 
 module _ {V : Type 0} (G : Ghosts V) where
   pub looked_err : {T U : Type 0} (u v w : V) (f : RunFault) → G.held v ≡ G.held u → G.allowance v ≡ G.allowance u → HasLooked {T = T} G v w (Err f) → HasLooked {T = U} G u w (Err f)
   looked_err u v w f held allowance h = record { held = h.held ∙ held; allowance = h.allowance ∙ allowance; serves = tt; room = h.room }
-
-  -- what went well, from the same vault
-  pub gone_as : {T U : Type 0} (P : Type 0) (u v w : V) (x : T) (y : U) → u ≡ v → HasGone {T = T} G P u w (Ok x) → HasGone {T = U} G P v w (Ok y)
-  gone_as {U = U} P u v w x y is h = subst (λ (a : V). HasGone {T = U} G P a w (Ok y)) is (gone_ok G P u w x y h)
 
   -- a fault that is handed on
   pub looked_on : {T U : Type 0} (u v w : V) (f : RunFault) (r : Result U RunFault) → G.held v ≡ G.held u → G.allowance v ≡ G.allowance u → HasLooked {T = T} G v w (Err f) → r ≡ Err f → HasLooked {T = U} G u w r

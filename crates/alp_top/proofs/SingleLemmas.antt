@@ -67,7 +67,7 @@ at_own i e [] own is = cc
 at_own zero e (x ∷ es) own is = let same : x ≡ e = cc in subst (λ (y : Entry). IsOwnEvent y.event) same own.0
 at_own (suc i) e (x ∷ es) own is = at_own i e es own.1 is
 
-no_sizes : AreSized (map.get {R = key_cmp} map.empty)
+pub no_sizes : AreSized (map.get {R = key_cmp} map.empty)
 no_sizes k c is = let wrong : None ≡ Some c = sym (get_cell [] k) ∙ is in cc
 
 -- ---- it is proper

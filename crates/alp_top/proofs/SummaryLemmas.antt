@@ -20,10 +20,10 @@ use Rattle.alp_base.specs.declared.cell.OwnerRecord.{OwnerRecord}
 use Rattle.alp_base.specs.declared.cell.Props.{Props}
 use Rattle.alp_files.proofs.SameLemmas.{same_name-itself, other_name, same_key-itself}
 use Rattle.alp_files.proofs.SumLemmas.{sum_of, weight_at, sum_of-nothing, sum_of-single}
-use Rattle.alp_report.specs.Reports.{files_text, owners_text, count_text, summary_text}
-use Rattle.alp_report.specs.Sections.{charges_of, held_text, owned_text, printed}
+use Rattle.alp_report.specs.Reports.{files_text, owners_text, server_text, owned_by}
+use Rattle.alp_report.specs.Sections.{charges_of, held_text, owned_text}
 use Rattle.alp_report.specs.declared.summary.Held.{Held}
-use Rattle.alp_report.specs.declared.summary.Summary.{Summary}
+use Rattle.alp_top.specs.Endings.{AreCellsOf}
 
 abbrev Entry : Type 0
 Entry = Key × Cell
@@ -182,11 +182,12 @@ module _ (m : Cells) (sound : AreSound m) where
       ∙ agree (λ (f : Entry). sum_by (λ (e : Entry). costs e f) es) (λ (f : Entry). size_at f.1) m (λ k c is. sized k c (files.kinds k c is) is)
       ∙ sym (all_sizes es)
 
--- what is printed of the counts and the owners is the summary of the cells
-pub printed_is : (s : Summary) (d : Held) (m : Cells) → AreSound m → s.servers.now ≡ d ∷ [] → d.files ≡ file_count_of m → d.owners.items ≡ owners_of m
-    → printed s ≡ summary_text (record { server = d.server; epoch = d.epoch; clock = d.clock; cells = m } ∷ []) s.committed s.aborted
-printed_is s d m sound one many owners =
-    let as_many : d.files ≡ length (sizes_of m) = many ∙ file_count m sound in
-    let pages : charges_of d.owners.items ≡ sum (sizes_of m) = ap charges_of owners ∙ charges_are_sizes m sound in
-    ap (λ (ds : List Held). flat_map held_text ds ++ flat_map owned_text ds ++ count_text s.committed s.aborted) one
-    ∙ (λ i. ((codes "server " ++ decimal d.server ++ codes " epoch " ++ decimal d.epoch ++ codes " clock " ++ decimal d.clock ++ files_text (as_many i) (pages i)) ++ []) ++ (owners_text d.server (owners i) ++ []) ++ count_text s.committed s.aborted)
+-- what is printed of a server is of the cells that it holds
+pub held_is : (d : Held) (m : Cells) → AreCellsOf m d → held_text d ≡ server_text (record { server = d.server; epoch = d.epoch; clock = d.clock; cells = m })
+held_is d m is =
+    let as_many : d.files ≡ length (sizes_of m) = is.files ∙ file_count m is.sound in
+    let pages : charges_of d.owners.items ≡ sum (sizes_of m) = ap charges_of is.owners ∙ charges_are_sizes m is.sound in
+    (λ i. codes "server " ++ decimal d.server ++ codes " epoch " ++ decimal d.epoch ++ codes " clock " ++ decimal d.clock ++ files_text (as_many i) (pages i))
+
+pub owned_is : (d : Held) (m : Cells) → AreCellsOf m d → owned_text d ≡ owned_by (record { server = d.server; epoch = d.epoch; clock = d.clock; cells = m })
+owned_is d m is = ap (owners_text d.server) is.owners

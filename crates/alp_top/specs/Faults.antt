@@ -1,4 +1,5 @@
 -- How a fault of a part is told of the whole run.
+use Rattle.std.specs.Prelude.{ℕ}
 use Rattle.alp_base.specs.declared.faults.VaultFault.{VaultFault}
 use Rattle.alp_base.specs.declared.faults.VaultFault.TheVariants as vault_fault
 use Rattle.alp_bay.specs.declared.bay.BayFault.{BayFault}
@@ -15,21 +16,21 @@ of_bay bay_fault.Failed = fault.Bay
 of_bay bay_fault.OutOfMemory = fault.OutOfMemory
 
 -- a disk that is started is not stopped then
-abbrev pub of_vault : VaultFault → NoReport
-of_vault vault_fault.Failed = fault.Disk
-of_vault vault_fault.Stopped = fault.Disk
-of_vault vault_fault.OutOfMemory = fault.OutOfMemory
-of_vault (vault_fault.NotAVolume found) = fault.NotAVolume found
-of_vault (vault_fault.Damaged place) = fault.Damaged place
+abbrev pub of_vault : ℕ → VaultFault → NoReport
+of_vault server vault_fault.Failed = fault.Disk server
+of_vault server vault_fault.Stopped = fault.Disk server
+of_vault server vault_fault.OutOfMemory = fault.OutOfMemory
+of_vault server (vault_fault.NotAVolume found) = fault.NotAVolume server found
+of_vault server (vault_fault.Damaged place) = fault.Damaged server place
 
 -- place 0 stands for a note
-abbrev pub of_start : StartFault → NoReport
-of_start (start_fault.Vault f) = of_vault f
-of_start start_fault.BadNote = fault.Damaged 0
-of_start start_fault.EpochEnd = fault.EpochEnd
+abbrev pub of_start : ℕ → StartFault → NoReport
+of_start server (start_fault.Vault f) = of_vault server f
+of_start server start_fault.BadNote = fault.Damaged server 0
+of_start server start_fault.EpochEnd = fault.EpochEnd server
 
 abbrev pub played : RunFault → NoReport
-played (run_fault.DiskFault server) = fault.Disk
+played (run_fault.DiskFault server) = fault.Disk server
 played run_fault.OutOfMemory = fault.OutOfMemory
 played run_fault.JournalFull = fault.JournalFull
-played (run_fault.Start server f) = of_start f
+played (run_fault.Start server f) = of_start server f

@@ -1,7 +1,6 @@
 -- The log of a run, by what its openings mean.
-use Rattle.std.specs.Prelude.{List, [], ◌∷◌}
+use Rattle.std.specs.Prelude.{ℕ}
 use Rattle.alp_vault.specs.declared.vault.Vault.{Ghosts}
-use Rattle.alp_journal.specs.declared.entry.Entry.{Entry}
 use Rattle.alp_journal.specs.declared.log.RunLog.{RunLog}
 use Rattle.alp_journal.specs.declared.log.ServerLog.{ServerLog}
 use Rattle.alp_journal.specs.declared.opening.Opening.{Ghosts as Meanings}
@@ -9,8 +8,6 @@ use Rattle.alp_journal.specs.Opening.{Start}
 use Rattle.alp_node.specs.declared.opened.Opened.{Opened}
 use Rattle.alp_history.specs.RunLogs as runs
 use Rattle.alp_history.specs.Log as logs
-use Rattle.alp_course.specs.Courses.{ranks_from}
-use Rattle.alp_course.specs.Turns.{Turn, own_in}
 
 -- the log of servers on vaults
 abbrev pub Log : Type 0 → Type 0
@@ -27,9 +24,9 @@ openings G = record {
   sizes = λ o. G.volume o.vault.value;
 }
 
--- what the one server of a run was started on
-abbrev pub start_of : {V : Type 0} → Ghosts V → ServerOfLog V → Start
-start_of G x = runs.start_in (openings G) 1 x
+-- what a server of a run of so many was started on
+abbrev pub start_of : {V : Type 0} → Ghosts V → ℕ → ServerOfLog V → Start
+start_of G servers x = runs.start_in (openings G) servers x
 
 -- the log as the theorems read it
 abbrev pub log_of : {V : Type 0} → Ghosts V → Log V → logs.Log
@@ -37,10 +34,3 @@ log_of G log = runs.log_of (openings G) log
 
 abbrev pub lists_of : {V : Type 0} → Ghosts V → Log V → runs.Lists
 lists_of G log = runs.lists_of (openings G) log
-
--- the log of one server, and of what these turns sent and were handed, as the theorems read it
-abbrev pub log_so_far : Start → List Entry → List Turn → logs.Log
-log_so_far o journal turns = record {
-  servers = record { opening = o; journal = journal; ranks = ranks_from 1 journal } ∷ [];
-  handed = runs.handed_of (λ k. own_in k turns);
-}

@@ -1,14 +1,15 @@
 -- The report of a run, by its script and its log.
-use Rattle.std.specs.Prelude.{ℕ, ◌-◌, List, [], ◌∷◌, ◌++◌, length, sum, flat_map, map as list_map}
+use Rattle.std.specs.Prelude.{ℕ, ◌-◌, List, ◌++◌, length, sum, flat_map, map as list_map}
 use Rattle.alp_journal.specs.Along.{state_after}
 use Rattle.alp_journal.specs.State.{State, opened}
 use Rattle.alp_journal.specs.Moves.{next}
 use Rattle.alp_vault.specs.declared.vault.Vault.{Ghosts}
 use Rattle.alp_history.specs.RunLogs.{start_in}
 use Rattle.alp_history.specs.Log.{decided}
-use Rattle.alp_report.specs.Reports.{Holding, server_text, owned_by, count_text, summary_text}
+use Rattle.alp_report.specs.Reports.{Holding, server_text, owned_by, count_text}
 use Rattle.alp_script.specs.declared.numbered.NumberedLine.{NumberedLine}
 use Rattle.alp_top.specs.Logs.{Log, ServerOfLog, openings, log_of, lists_of}
+use Rattle.alp_top.specs.Tallies.{begun_in, committed_in}
 use Rattle.alp_course.specs.Turns.{turns_of, turns_text}
 
 -- what a server's journal says at its end, in a run of so many servers
@@ -41,8 +42,12 @@ report_of G lines log =
     turns_text (turns_of lines (lists_of G log)) ++ flat_map (λ x. files_text_of (end_of G (length log.servers.items) x)) log.servers.items
     ++ flat_map (λ x. owners_text_of (end_of G (length log.servers.items) x)) log.servers.items ++ counts_text G log
 
--- ---- by what a server's journal says
+-- how the transactions ended, as the entries of the servers count them
+abbrev pub tallied_text : {V : Type 0} → List (ServerOfLog V) → List ℕ
+tallied_text xs = count_text (committed_in xs) (begun_in xs - committed_in xs)
 
--- the summary of a run of one server
-unfoldable pub ending_text : State → List ℕ
-ending_text s = summary_text (holding_in s ∷ []) (length s.holder.applied) (length s.begun - length s.holder.applied)
+-- the report with those numbers
+abbrev pub tallied_report : {V : Type 0} → Ghosts V → List NumberedLine → Log V → List ℕ
+tallied_report G lines log =
+    turns_text (turns_of lines (lists_of G log)) ++ flat_map (λ x. files_text_of (end_of G (length log.servers.items) x)) log.servers.items
+    ++ flat_map (λ x. owners_text_of (end_of G (length log.servers.items) x)) log.servers.items ++ tallied_text log.servers.items

@@ -1,14 +1,11 @@
 -- How a run ended: its code, its text, and what holds where it ended so.
-use Rattle.std.specs.Prelude.{◌≡◌, ◌⊎◌, ◌<◌, ◌==◌, ℕ, Bool, true, false, IsTrue, List, [], ◌∷◌, ◌++◌, Option, None, Some, codes, string_bytes, if◌then◌else◌}
+use Rattle.std.specs.Prelude.{◌≡◌, ◌⊎◌, ◌≤◌, ℕ, Bool, true, false, IsTrue, List, [], ◌++◌, Option, None, codes, string_bytes}
 use Rattle.std.specs.Option.{option_map}
 use Rattle.std.specs.Fmt.{decimal}
 use Rattle.alp_base.specs.Causes.{Rose}
 use Rattle.alp_journal.specs.Answered.{entries_limit}
-use Rattle.alp_script.specs.Accepted.{servers_said}
-use Rattle.alp_script.specs.Reading.{GaveScript, GaveFlaw}
 use Rattle.alp_script.specs.declared.fault.ScriptFault.{ScriptFault}
 use Rattle.alp_script.specs.declared.fault.ScriptFault.TheVariants as flaw
-use Rattle.alp_script.specs.declared.numbered.NumberedLine.{NumberedLine}
 use Rattle.alp_script.specs.declared.numbered.TheConstants.{SCRIPT_LINES_MOST}
 use Rattle.alp_disk.specs.declared.disk.Disk.{Ghosts}
 use Rattle.alp_disk.specs.declared.fuse.Fuse.{Fuse}
@@ -22,7 +19,7 @@ use Rattle.alp_top.specs.declared.fault.NoReport.TheVariants as fault
 use Rattle.alp_top.specs.declared.status.Status.{Status}
 use Rattle.alp_top.specs.declared.status.Status.TheVariants as status
 
--- the vault of a run's server, on a device that the run may stop
+-- the vault of a server of a run, on a device that the run may stop
 abbrev pub Kept : (D : Type 0) → Ghosts D → Type 0
 Kept D g = StoreOf (Fuse D g)
 
@@ -51,15 +48,15 @@ module _ {D : Type 0} {g : Ghosts D} where
   status_said (status.NotAVolume server found) = codes "alpine: not a volume server " ++ decimal server
   status_said (status.Damaged server place) = codes "alpine: damaged server " ++ decimal server ++ codes " place " ++ decimal place
 
-  -- how a run ended that the bay or the disk of server 1 ended
+  -- how a run ended that the bay or the disk of a server ended
   abbrev pub ended_by : NoReport → Status D g
   ended_by fault.Bay = status.DiskFault 0
-  ended_by fault.Disk = status.DiskFault 1
+  ended_by (fault.Disk server) = status.DiskFault server
   ended_by fault.OutOfMemory = status.OutOfMemory
   ended_by fault.JournalFull = status.TooLong entries_limit
-  ended_by fault.EpochEnd = status.TooLong 4294967295
-  ended_by (fault.NotAVolume found) = status.NotAVolume 1 found
-  ended_by (fault.Damaged place) = status.Damaged 1 place
+  ended_by (fault.EpochEnd server) = status.TooLong 4294967295
+  ended_by (fault.NotAVolume server found) = status.NotAVolume server found
+  ended_by (fault.Damaged server place) = status.Damaged server place
 
   -- where the script was played and the report is written, of the log
   abbrev pub OnDone : Status D g → (Log (Kept D g) → Type 0) → Type 0
@@ -107,14 +104,14 @@ module _ {D : Type 0} {g : Ghosts D} where
   OnUntaken (status.TooLong limit) P = limit ≡ SCRIPT_LINES_MOST → P
   OnUntaken _ P = Unit {0}
 
-  -- Where the run was cut short: the bay or the disk of server 1 ended it, of the fault, or memory was wanting, before a disk was
+  -- Where the run was cut short: the bay or the disk of a server ended it, of the fault, or memory was wanting, before a disk was
   -- asked for or behind that. Server 0 is the bay, and a limit is that of the lines of a script, that of the entries of a journal, or
   -- the last epoch.
   abbrev pub OnCutShort : Status D g → Type 0 → (NoReport → Type 0) → Type 0
-  OnCutShort (status.DiskFault server) U P = ((server ≡ 0) × P fault.Bay) ⊎ ((server ≡ 1) × P fault.Disk)
-  OnCutShort (status.TooLong limit) U P = ((limit ≡ SCRIPT_LINES_MOST) × U) ⊎ ((limit ≡ entries_limit) × P fault.JournalFull) ⊎ ((limit ≡ 4294967295) × P fault.EpochEnd)
-  OnCutShort (status.NotAVolume server found) U P = (server ≡ 1) × P (fault.NotAVolume found)
-  OnCutShort (status.Damaged server place) U P = (server ≡ 1) × P (fault.Damaged place)
+  OnCutShort (status.DiskFault server) U P = ((server ≡ 0) × P fault.Bay) ⊎ P (fault.Disk server)
+  OnCutShort (status.TooLong limit) U P = ((limit ≡ SCRIPT_LINES_MOST) × U) ⊎ ((limit ≡ entries_limit) × P fault.JournalFull) ⊎ ((limit ≡ 4294967295) × (server : ℕ) × P (fault.EpochEnd server))
+  OnCutShort (status.NotAVolume server found) U P = P (fault.NotAVolume server found)
+  OnCutShort (status.Damaged server place) U P = P (fault.Damaged server place)
   OnCutShort status.OutOfMemory U P = U ⊎ P fault.OutOfMemory
   OnCutShort _ U P = Unit {0}
 
@@ -134,9 +131,9 @@ module _ {D : Type 0} {g : Ghosts D} where
   IsFolderTold (status.DiskFault server) before now named = (now ≡ named) ⊎ ((server ≡ 0) × (now ≡ before))
   IsFolderTold s before now named = OnTaken s (now ≡ named)
 
-  -- where the disk of a server failed, of its count of faults
-  abbrev pub OnDiskFault : Status D g → Type 0 → Type 0
-  OnDiskFault (status.DiskFault server) P = (server ≡ 0) ⊎ P
+  -- where the disk of a server failed, of the server
+  abbrev pub OnDiskFault : Status D g → (ℕ → Type 0) → Type 0
+  OnDiskFault (status.DiskFault server) P = (server ≡ 0) ⊎ P server
   OnDiskFault _ P = Unit {0}
 
   -- where something is too long, of its limit
@@ -152,7 +149,7 @@ module _ {D : Type 0} {g : Ghosts D} where
 
   -- the bay's count of faults rose where its fault is told, and stayed in every other case
   abbrev pub IsBayFaultTold : Status D g → ℕ → ℕ → Type 0
-  IsBayFaultTold (status.DiskFault server) before now = ((server ≡ 0) × Rose before now) ⊎ ((server ≡ 1) × (now ≡ before))
+  IsBayFaultTold (status.DiskFault server) before now = ((server ≡ 0) × Rose before now) ⊎ ((1 ≤ server) × (now ≡ before))
   IsBayFaultTold _ before now = now ≡ before
 
   -- the source's count of faults rose where a read fault is told, and stayed in every other case
@@ -171,7 +168,7 @@ module _ {D : Type 0} {g : Ghosts D} where
   IsHandedOver (status.WriteFault log) = Unit {0}
   IsHandedOver _ = ⊥
 
-  -- the report is written, or there was no memory, or the journal was full, or the server had come to the last epoch
+  -- the report is written, or there was no memory, or a journal was full, or a server had come to the last epoch
   abbrev pub IsPlayedOrMemory : Status D g → Type 0
   IsPlayedOrMemory (status.Done log) = Unit {0}
   IsPlayedOrMemory status.OutOfMemory = Unit {0}
@@ -189,26 +186,3 @@ folder_in (command.Play folder) = option_map string_bytes folder
 -- the words name no folder, or the bay tells what stands in it
 abbrev pub IsTold : List (List ℕ) → Bool → Type 0
 IsTold words tells = (folder_named words ≡ None) ⊎ IsTrue tells
-
--- ---- scripts that are not played yet
-
--- the number of the first line
-abbrev pub first_number : List NumberedLine → Option ℕ
-first_number [] = None
-first_number (l ∷ ls) = Some l.number
-
--- the line that declares the servers, where these are more than one
-abbrev pub unplayable : List NumberedLine → Option ℕ
-unplayable lines = if servers_said lines == 1 then None else first_number lines
-
--- the source gave a script, and this is its line that declares more servers than one
-pub record GaveMore (old new : Option (List ℕ)) (line : ℕ) : Type 0 where
-  pub lines : List NumberedLine
-  pub script : GaveScript old new lines
-  pub more : 1 < servers_said lines
-  pub first : first_number lines ≡ Some line
-
--- the source gave this flaw; where that is a line, it may be one that declares more servers than one
-abbrev pub GaveBad : (old new : Option (List ℕ)) → ScriptFault → Type 0
-GaveBad old new (flaw.Bad line) = GaveFlaw old new (flaw.Bad line) ⊎ GaveMore old new line
-GaveBad old new f = GaveFlaw old new f

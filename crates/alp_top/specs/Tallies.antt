@@ -3,6 +3,7 @@ use Rattle.std.specs.Prelude.{ℕ, ◌+◌, ◌-◌, ◌^◌, min, nat_le, Bool,
 use Rattle.alp_journal.specs.declared.act.Act.{Act}
 use Rattle.alp_journal.specs.declared.act.Act.TheVariants as act
 use Rattle.alp_journal.specs.declared.entry.Entry.{Entry}
+use Rattle.alp_top.specs.Logs.{ServerOfLog}
 use Rattle.alp_top.specs.declared.tally.Tally.{Tally}
 use Rattle.alp_top.specs.declared.tally.Seen.{Seen}
 
@@ -51,3 +52,14 @@ tally_from t (e ∷ es) = tally_from (with_seen t (seen_from none_seen e.acts)) 
 
 abbrev pub tally_in : List Entry → Tally
 tally_in es = tally_from no_tally es
+
+-- ---- the servers
+
+-- how many transactions all of them began, and how many they committed
+abbrev pub begun_in : {V : Type 0} → List (ServerOfLog V) → ℕ
+begun_in [] = 0
+begun_in (x ∷ xs) = sum_of (tally_in x.journal).begun (begun_in xs)
+
+abbrev pub committed_in : {V : Type 0} → List (ServerOfLog V) → ℕ
+committed_in [] = 0
+committed_in (x ∷ xs) = sum_of (tally_in x.journal).committed (committed_in xs)

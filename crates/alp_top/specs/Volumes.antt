@@ -1,5 +1,5 @@
--- The disk of the run's server: what the server opened on, and what the disk holds when it is given back.
-use Rattle.std.specs.Prelude.{◌≡◌, ◌≢◌, ◌⊎◌, ◌≤◌, ℕ, ◌+◌, ◌*◌, true, List, length, Option, Some, Result, Ok, Err}
+-- The disks of the run's servers: what each server opened on, and what its disk holds when it is given back.
+use Rattle.std.specs.Prelude.{[], ◌≡◌, ◌⊎◌, ◌≤◌, ◌<◌, ℕ, ◌+◌, ◌*◌, List, length, Option, Some, Result, Ok, Err}
 use Rattle.std.specs.FinMap as map
 use Rattle.alp_base.specs.Causes.{Rose}
 use Rattle.alp_base.specs.Crashes.{Only, NoMore}
@@ -11,32 +11,38 @@ use Rattle.alp_anchor.specs.declared.anchor.Anchor.{Anchor}
 use Rattle.alp_bay.specs.Bays.{IsTaken}
 use Rattle.alp_disk.specs.Disk.{Image}
 use Rattle.alp_disk.specs.declared.disk.Disk.{Ghosts}
-use Rattle.alp_fields.specs.ClockNote.{clock_name, clock_form}
+use Rattle.alp_fields.specs.ClockNote.{clock_name, clock_form, AreClockNotes}
+use Rattle.alp_files.specs.Apart.{AreSized}
+use Rattle.alp_files.specs.Sound.{AreSound}
 use Rattle.alp_journal.specs.Opening.{Start, start_at}
 use Rattle.alp_journal.specs.Along.{Along, state_after}
 use Rattle.alp_journal.specs.Answered.{entries_limit}
 use Rattle.alp_journal.specs.Laws.{IsLawful}
 use Rattle.alp_journal.specs.Moves.{next}
 use Rattle.alp_journal.specs.State.{State, opened}
-use Rattle.alp_journal.specs.declared.entry.Entry.{Entry}
 use Rattle.alp_node.specs.Downs.{IsLeftOf}
-use Rattle.alp_node.specs.Durable.{said_of}
-use Rattle.alp_node.specs.Nodes.{IsSoundStart}
+use Rattle.alp_node.specs.Durable.{IsSaid}
 use Rattle.alp_node.specs.Starts.{raised}
 use Rattle.alp_node.specs.declared.start.StartFault.TheVariants.{EpochEnd}
 use Rattle.alp_store.specs.Holding.{Holds}
 use Rattle.alp_store.specs.Starts.{AreOfServer, IsNew, WhyNotStarted}
 use Rattle.alp_vault.specs.Contents.{Contents}
+use Rattle.alp_script.specs.Accepted.{servers_said}
+use Rattle.alp_script.specs.Volumes.{sizes_said}
 use Rattle.alp_script.specs.declared.numbered.NumberedLine.{NumberedLine}
 use Rattle.alp_history.specs.Handed.{ArePromisesKept}
+use Rattle.alp_history.specs.Log as logs
+use Rattle.alp_history.specs.RunLogs.{handed_of}
 use Rattle.alp_history.specs.Theorems.{IsOneThread, AreWhole}
-use Rattle.alp_cluster.specs.Fills.{HasStopped}
-use Rattle.alp_cluster.specs.Runs.{StopNone}
+use Rattle.alp_cluster.specs.Fills.{IsEndFor}
+use Rattle.alp_cluster.specs.Runs.{StopNone, StopsInLine, StopsBehindLines}
 use Rattle.alp_cluster.specs.Servers.{IsDone}
-use Rattle.alp_course.specs.Turns.{Turn}
+use Rattle.alp_course.specs.Courses.{Course, Occurrence, IsOneOf, IsSeat, seat_at, TellAll, AreCourse}
+use Rattle.alp_course.specs.Links.{IsFirst, log_of}
+use Rattle.alp_course.specs.Plays.{Due, sent_of}
+use Rattle.alp_course.specs.Turns.{Turn, own_in, sent_in}
 use Rattle.alp_cluster.specs.declared.fault.RunFault.{RunFault}
 use Rattle.alp_cluster.specs.declared.fault.RunFault.TheVariants as run_fault
-use Rattle.alp_top.specs.Logs.{log_so_far}
 use Rattle.alp_top.specs.declared.fault.NoReport.{NoReport}
 use Rattle.alp_top.specs.declared.fault.NoReport.TheVariants as fault
 
@@ -44,7 +50,7 @@ use Rattle.alp_top.specs.declared.fault.NoReport.TheVariants as fault
 abbrev pub pages_of : Sizes → ℕ
 pages_of sizes = 2 + 2 * sizes.area + sizes.home
 
--- ---- what the server opened on
+-- ---- what a server opened on
 
 -- The disk was new: a volume of these sizes that held nothing, in the first epoch and with clock 0.
 pub record IsOpenedNew (sizes : Sizes) (o : Start) (notes : Notes) : Type 0 where
@@ -54,44 +60,62 @@ pub record IsOpenedNew (sizes : Sizes) (o : Start) (notes : Notes) : Type 0 wher
   pub cells : o.cells ≡ map.empty
   pub noted : notes ≡ map.insert map.empty clock_name (clock_form.spell (record { epoch = 1; clock = 0 }))
 
--- It was not: the server opened on what the disk's reading says, which is the server's, in the sizes of the anchor that counts there, and in the epoch
--- after that of its note, which it raised.
-pub record IsOpenedOn (n : ℕ) (image : Image) (o : Start) (notes : Notes) : Type 0 where
+-- It was not: the server opened on what the disk's reading says, which is the server's, one of so many, in the sizes of the anchor that
+-- counts there, and in the epoch after that of its note, which it raised.
+pub record IsOpenedOn (server servers n : ℕ) (image : Image) (o : Start) (notes : Notes) : Type 0 where
   pub anchor : Anchor
   pub counts : Counts n image anchor
-  pub named : (anchor.server ≡ 1) × (anchor.servers ≡ 1)
+  pub named : (anchor.server ≡ server) × (anchor.servers ≡ servers)
   pub sizes_are : o.sizes ≡ anchor.sizes
   pub held : Contents
-  pub holds : Holds 1 1 n o.sizes.home image held
-  pub own : AreOfServer 1 1 held
+  pub holds : Holds server servers n o.sizes.home image held
+  pub own : AreOfServer server servers held
   pub cells : o.cells ≡ held.cells
   pub next : raised held ≡ Ok (record { epoch = o.epoch; clock = o.clock })
   pub noted : notes ≡ map.insert held.notes clock_name (clock_form.spell (record { epoch = o.epoch; clock = o.clock }))
 
--- ---- what the disk holds behind the run
+-- ---- what a disk holds behind the run
 
--- What the server holds in the end is what the disk that was given back holds, and what a crash leaves of it: no note but that of
--- the epoch and the clock, and what is sound to start on. Where this holds, the disk did not fail.
-pub record IsStored {D : Type 0} (g : Ghosts D) (P : Type 0) (sizes : Sizes) (o : Start) (notes : Notes) (m : State) (taken given : D) : Type 0 where
+-- a server finds no part of a transaction that is ready, and no decision that is not at its end
+pub record IsBare (o : Start) : Type 0 where
+  pub ready : o.ready ≡ []
+  pub decisions : o.decisions ≡ []
+
+-- Of a server that runs alone there is no note but that of the epoch and the clock, and nothing is found then.
+pub record IsSoundAlone (o : Start) (held : Contents) : Type 0 where
+  pub clock : AreClockNotes held.notes
+  pub bare : IsBare (start_at 1 1 o.sizes held.cells held.notes)
+
+-- What the server holds in the end by its journal is what the disk that was given back holds, and what a crash leaves of it. Where this
+-- holds, the disk did not fail.
+pub record IsStored {D : Type 0} (g : Ghosts D) (P : Type 0) (server servers : ℕ) (sizes : Sizes) (o : Start) (notes : Notes) (m : State) (taken given : D) : Type 0 where
   pub new : IsNew sizes (g.size taken) (g.seen taken) → IsOpenedNew sizes o notes
-  pub found : (IsNew sizes (g.size taken) (g.seen taken) → ⊥) → IsOpenedOn (g.size taken) (g.seen taken) o notes
-  pub finish : Holds 1 1 (g.size given) o.sizes.home (g.seen given) (said_of m)
+  pub found : (IsNew sizes (g.size taken) (g.seen taken) → ⊥) → IsOpenedOn server servers (g.size taken) (g.seen taken) o notes
+  pub held : Contents
+  pub finish : Holds server servers (g.size given) o.sizes.home (g.seen given) held
+  pub said : IsSaid m held
+  pub files : AreSound held.cells
+  pub sized : AreSized (map.get held.cells)
   pub durable : Only (g.seen given) (g.may_leave given)
-  pub sound : IsSoundStart (start_at 1 1 o.sizes (said_of m).cells (said_of m).notes)
+  pub alone : servers ≡ 1 → IsSoundAlone o held
   pub unfailed : P → g.faults given ≡ g.faults taken
 
 -- ---- how the bay stands behind the run
 
--- One disk was taken from the place of server 1, and this one is given back there. No other place changed.
-pub record IsReturned {D : Type 0} (g : Ghosts D) (sizes : Sizes) (before after : ℕ → Option D) (P : D → D → Type 0) : Type 0 where
+-- One disk was taken from a place, where that had stood or a new one came, and this one is given back there.
+pub record IsReturned {D : Type 0} (g : Ghosts D) (sizes : Sizes) (was now : Option D) (P : D → D → Type 0) : Type 0 where
   pub taken : D
-  pub was : IsTaken g (before 1) (pages_of sizes) taken
+  pub from_there : IsTaken g was (pages_of sizes) taken
   pub given : D
-  pub now : after 1 ≡ Some given
-  pub others : (k : ℕ) → k ≢ 1 → after k ≡ before k
+  pub there : now ≡ Some given
   pub size : g.size given ≡ g.size taken
   pub later : g.faults taken ≤ g.faults given
   pub left : P taken given
+
+-- So it is with the disks of so many servers, the first ones. No other place changed.
+pub record AreReturned {D : Type 0} (g : Ghosts D) (lines : List NumberedLine) (count : ℕ) (before after : ℕ → Option D) (P : ℕ → D → D → Type 0) : Type 0 where
+  pub each : (n : ℕ) → IsOneOf count n → IsReturned g (sizes_said lines n) (before n) (after n) (P n)
+  pub others : (n : ℕ) → (IsOneOf count n → ⊥) → after n ≡ before n
 
 -- ---- why a run ended before its report
 
@@ -104,87 +128,144 @@ pub record IsLeftAlone {D : Type 0} (g : Ghosts D) (sizes : Sizes) (taken given 
   pub unfailed : g.faults given ≡ g.faults taken
 
 -- its volume is the server's, and has no epoch left
-pub record HasNoEpoch (n : ℕ) (image : Image) : Type 0 where
+pub record HasNoEpoch (server servers n : ℕ) (image : Image) : Type 0 where
   pub home : ℕ
   pub held : Contents
-  pub holds : Holds 1 1 n home image held
-  pub own : AreOfServer 1 1 held
+  pub holds : Holds server servers n home image held
+  pub own : AreOfServer server servers held
   pub last : raised held ≡ Err EpochEnd
 
--- The run of these lines ended for that fault behind this journal of the server: a line had more to send or to bring about, or the
--- settling behind the lines had (`stopped`). Its entries are those of what happened by then, each reply is the one that was handed. It
--- is lawful, each entry is as its event then calls for (`caused`), and what the decided transactions and the clients are promised holds
--- of all this.
-pub record IsCutShort (lines : List NumberedLine) (f : RunFault) (opening : Start) (journal : List Entry) : Type 0 where
-  pub lawful : IsLawful opening journal
-  pub caused : Along next IsDone (opened opening) journal
+-- a journal of the run so far is lawful, and each entry is as its event then calls for
+pub record IsRightAt (last : Course) (n : ℕ) : Type 0 where
+  pub lawful : IsLawful (seat_at last n).opening (seat_at last n).journal
+  pub caused : Along next IsDone (opened (seat_at last n).opening) (seat_at last n).journal
+
+-- The run of these lines ended for that fault where its servers stood so: a line had more to send or to bring about, or the settling behind
+-- the lines had (`stopped`). The journals are those of what occurred by then, each reply is the one that was handed, and they are lawful. The
+-- decided transactions are one thread's history, each with all of its parts. Of a server that runs alone what the clients are promised is kept
+-- too.
+pub record IsCutShort (lines : List NumberedLine) (f : RunFault) (last : Course) : Type 0 where
+  pub first : Course
+  pub begins : IsFirst first
+  pub count : length last.seats ≡ servers_said lines
   pub turns : List Turn
-  pub stopped : HasStopped true lines opening journal turns f
-  pub serial : IsOneThread (log_so_far opening journal turns)
-  pub whole : AreWhole (log_so_far opening journal turns)
-  pub kept : ArePromisesKept (log_so_far opening journal turns)
+  pub happened : List Occurrence
+  pub due : Due
+  pub course : AreCourse first happened last
+  pub sent : sent_of happened ≡ sent_in turns
+  pub stopped : StopsInLine (servers_said lines) lines turns happened due ⊎ StopsBehindLines (servers_said lines) lines turns happened due
+  pub ends : IsEndFor f last due
+  pub right : (n : ℕ) → IsSeat last n → IsRightAt last n
+  pub several : IsOneThread (log_of last (handed_of (λ k. own_in k turns))) × AreWhole (log_of last (handed_of (λ k. own_in k turns)))
+  pub alone : servers_said lines ≡ 1
+      → IsOneThread (log_of last (handed_of (λ k. own_in k turns))) × AreWhole (log_of last (handed_of (λ k. own_in k turns))) × ArePromisesKept (log_of last (handed_of (λ k. own_in k turns)))
 
 -- The journal of the server that was started on the disk was full where another event was to come. The disk holds what the journal
 -- says.
-pub record HasFilled {D : Type 0} (g : Ghosts D) (sizes : Sizes) (lines : List NumberedLine) (taken given : D) : Type 0 where
-  pub opening : Start
+pub record HasFilled {D : Type 0} (g : Ghosts D) (lines : List NumberedLine) (server : ℕ) (taken given : D) : Type 0 where
+  pub last : Course
+  pub seat : IsSeat last server
   pub notes : Notes
-  pub started : opening ≡ start_at 1 1 opening.sizes opening.cells notes
-  pub journal : List Entry
-  pub full : entries_limit ≤ length journal
-  pub stored : IsStored g (StopNone lines) sizes opening notes (state_after next (opened opening) journal) taken given
-  pub short : IsCutShort lines run_fault.JournalFull opening journal
+  pub started : (seat_at last server).opening ≡ start_at server (servers_said lines) (seat_at last server).opening.sizes (seat_at last server).opening.cells notes
+  pub full : entries_limit ≤ length (seat_at last server).journal
+  pub stored : IsStored g (StopNone lines) server (servers_said lines) (sizes_said lines server) (seat_at last server).opening notes (state_after next (opened (seat_at last server).opening) (seat_at last server).journal) taken given
+  pub short : IsCutShort lines run_fault.JournalFull last
 
 -- The server that was started on the disk was to start again, and had come to the last epoch. What the disk reads and what a crash leaves
 -- of it is what the journal says, or that with the whole of what was tried last.
-pub record HasUsedUp {D : Type 0} (g : Ghosts D) (sizes : Sizes) (lines : List NumberedLine) (taken given : D) : Type 0 where
-  pub opening : Start
+pub record HasUsedUp {D : Type 0} (g : Ghosts D) (lines : List NumberedLine) (server : ℕ) (taken given : D) : Type 0 where
+  pub last : Course
+  pub seat : IsSeat last server
   pub notes : Notes
-  pub started : opening ≡ start_at 1 1 opening.sizes opening.cells notes
-  pub new : IsNew sizes (g.size taken) (g.seen taken) → IsOpenedNew sizes opening notes
-  pub found : (IsNew sizes (g.size taken) (g.seen taken) → ⊥) → IsOpenedOn (g.size taken) (g.seen taken) opening notes
-  pub journal : List Entry
-  pub short : IsCutShort lines (run_fault.Start 1 EpochEnd) opening journal
-  pub left : (image : Image) → g.may_leave given image → (c : Contents) × Holds 1 1 (g.size given) opening.sizes.home image c × IsLeftOf (state_after next (opened opening) journal) c
+  pub started : (seat_at last server).opening ≡ start_at server (servers_said lines) (seat_at last server).opening.sizes (seat_at last server).opening.cells notes
+  pub new : IsNew (sizes_said lines server) (g.size taken) (g.seen taken) → IsOpenedNew (sizes_said lines server) (seat_at last server).opening notes
+  pub found : (IsNew (sizes_said lines server) (g.size taken) (g.seen taken) → ⊥) → IsOpenedOn server (servers_said lines) (g.size taken) (g.seen taken) (seat_at last server).opening notes
+  pub short : IsCutShort lines (run_fault.Start server EpochEnd) last
+  pub left : (image : Image) → g.may_leave given image
+      → (c : Contents) × Holds server (servers_said lines) (g.size given) (seat_at last server).opening.sizes.home image c × IsLeftOf (state_after next (opened (seat_at last server).opening) (seat_at last server).journal) c
   pub read : g.may_leave given (g.seen given)
   pub unfailed : StopNone lines → g.faults given ≡ g.faults taken
 
--- The disk failed, or it holds no volume of the server, or a damaged one, or one without a further epoch, or the server's journal is
--- full, or its epochs are used up. Where memory was wanting and no line stops it, it did not fail.
-abbrev pub HasDiskCause : {D : Type 0} → Ghosts D → Sizes → List NumberedLine → NoReport → D → D → Type 0
-HasDiskCause g sizes lines fault.Disk taken given = Rose (g.faults taken) (g.faults given)
-HasDiskCause g sizes lines (fault.NotAVolume found) taken given =
-    IsLeftAlone g sizes taken given × WhyNotStarted 1 1 (g.size taken) (g.seen taken) (vault_fault.NotAVolume found)
-HasDiskCause g sizes lines (fault.Damaged place) taken given =
-    IsLeftAlone g sizes taken given × WhyNotStarted 1 1 (g.size taken) (g.seen taken) (vault_fault.Damaged place)
-HasDiskCause g sizes lines fault.JournalFull taken given = HasFilled g sizes lines taken given
-HasDiskCause g sizes lines fault.EpochEnd taken given = (IsLeftAlone g sizes taken given × HasNoEpoch (g.size taken) (g.seen taken)) ⊎ HasUsedUp g sizes lines taken given
-HasDiskCause g sizes lines fault.Bay taken given = ⊥
-HasDiskCause g sizes lines fault.OutOfMemory taken given = StopNone lines → g.faults given ≡ g.faults taken
+-- The disk failed, or it holds no volume of the server, or a damaged one, or one without a further epoch: so the server did not start.
+abbrev pub WhyNotBegun : {D : Type 0} → Ghosts D → Sizes → (server servers : ℕ) → NoReport → D → D → Type 0
+WhyNotBegun g sizes server servers (fault.Disk s) taken given = (s ≡ server) × Rose (g.faults taken) (g.faults given)
+WhyNotBegun g sizes server servers (fault.NotAVolume s found) taken given =
+    (s ≡ server) × IsLeftAlone g sizes taken given × WhyNotStarted server servers (g.size taken) (g.seen taken) (vault_fault.NotAVolume found)
+WhyNotBegun g sizes server servers (fault.Damaged s place) taken given =
+    (s ≡ server) × IsLeftAlone g sizes taken given × WhyNotStarted server servers (g.size taken) (g.seen taken) (vault_fault.Damaged place)
+WhyNotBegun g sizes server servers (fault.EpochEnd s) taken given = (s ≡ server) × IsLeftAlone g sizes taken given × HasNoEpoch server servers (g.size taken) (g.seen taken)
+WhyNotBegun g sizes server servers fault.OutOfMemory taken given = g.faults given ≡ g.faults taken
+WhyNotBegun g sizes server servers fault.JournalFull taken given = ⊥
+WhyNotBegun g sizes server servers fault.Bay taken given = ⊥
 
--- it is no fault of the bay
-abbrev pub IsOfDisk : NoReport → Type 0
-IsOfDisk fault.Bay = ⊥
-IsOfDisk f = Unit {0}
+-- A server was started on this disk, and then nothing was played. The disk that is given back holds what it holds then, after a crash too,
+-- and did not fail.
+pub record IsUnplayed {D : Type 0} (g : Ghosts D) (lines : List NumberedLine) (server : ℕ) (taken given : D) : Type 0 where
+  pub opening : Start
+  pub notes : Notes
+  pub new : IsNew (sizes_said lines server) (g.size taken) (g.seen taken) → IsOpenedNew (sizes_said lines server) opening notes
+  pub found : (IsNew (sizes_said lines server) (g.size taken) (g.seen taken) → ⊥) → IsOpenedOn server (servers_said lines) (g.size taken) (g.seen taken) opening notes
+  pub left : (image : Image) → g.may_leave given image → (c : Contents) × Holds server (servers_said lines) (g.size given) opening.sizes.home image c × IsSaid (opened opening) c
+  pub read : g.may_leave given (g.seen given)
+  pub unfailed : g.faults given ≡ g.faults taken
 
--- How the bay stands then: where the bay failed nothing was taken. Where memory was wanting nothing was, or the disk is given back.
-abbrev pub HasRunCause : {D : Type 0} → Ghosts D → Sizes → List NumberedLine → (before after : ℕ → Option D) → (bay_before bay_after : ℕ) → NoReport → Type 0
-HasRunCause g sizes lines before after bay_before bay_after fault.Bay = (after ≡ before) × Rose bay_before bay_after
-HasRunCause g sizes lines before after bay_before bay_after fault.OutOfMemory = (after ≡ before) ⊎ IsReturned g sizes before after (HasDiskCause g sizes lines fault.OutOfMemory)
-HasRunCause g sizes lines before after bay_before bay_after f = IsReturned g sizes before after (HasDiskCause g sizes lines f)
+-- The servers before this one were started, in order, and this one was not: that holds of its disk. No other disk was taken.
+pub record StopsAt {D : Type 0} (g : Ghosts D) (lines : List NumberedLine) (server : ℕ) (before after : ℕ → Option D) (P : D → D → Type 0) : Type 0 where
+  pub among : IsOneOf (servers_said lines) server
+  pub returned : AreReturned g lines server before after (λ n taken given. (n ≡ server → P taken given) × ((n ≡ server → ⊥) → IsUnplayed g lines n taken given))
+
+-- the disks of so many servers were taken, and each is given back; this one's is the cause
+pub record AreLeft {D : Type 0} (g : Ghosts D) (lines : List NumberedLine) (server : ℕ) (before after : ℕ → Option D) (P : ℕ → D → D → Type 0) : Type 0 where
+  pub count : ℕ
+  pub few : count ≤ servers_said lines
+  pub cause : IsOneOf count server
+  pub returned : AreReturned g lines count before after P
+
+-- why a disk is none to start on, of those that name it
+abbrev pub IsNoVolume : {D : Type 0} → Ghosts D → List NumberedLine → (server : ℕ) → List ℕ → D → D → Type 0
+IsNoVolume g lines server found taken given = IsLeftAlone g (sizes_said lines server) taken given × WhyNotStarted server (servers_said lines) (g.size taken) (g.seen taken) (vault_fault.NotAVolume found)
+
+abbrev pub IsDamaged : {D : Type 0} → Ghosts D → List NumberedLine → (server place : ℕ) → D → D → Type 0
+IsDamaged g lines server place taken given = IsLeftAlone g (sizes_said lines server) taken given × WhyNotStarted server (servers_said lines) (g.size taken) (g.seen taken) (vault_fault.Damaged place)
+
+abbrev pub IsAtItsEnd : {D : Type 0} → Ghosts D → List NumberedLine → (server : ℕ) → D → D → Type 0
+IsAtItsEnd g lines server taken given = IsLeftAlone g (sizes_said lines server) taken given × HasNoEpoch server (servers_said lines) (g.size taken) (g.seen taken)
+
+-- Why a run ended before its report, and how the bay stands then. Where the bay failed, so many servers were started, and the next disk was not
+-- taken. A disk that is none to start on is the first one that is not. Where a disk failed it is one that was taken, and where memory was
+-- wanting all that were taken are given back; without a line that stops a disk none failed then. A full journal, and an epoch that is the
+-- last one of a server in the run, come when all were started.
+abbrev pub HasRunCause : {D : Type 0} → Ghosts D → List NumberedLine → (before after : ℕ → Option D) → (bay_before bay_after : ℕ) → NoReport → Type 0
+HasRunCause g lines before after bay_before bay_after fault.Bay = (count : ℕ) × (count < servers_said lines) × AreReturned g lines count before after (IsUnplayed g lines) × Rose bay_before bay_after
+HasRunCause g lines before after bay_before bay_after fault.OutOfMemory =
+    (count : ℕ) × (count ≤ servers_said lines) × AreReturned g lines count before after (λ n taken given. StopNone lines → g.faults given ≡ g.faults taken)
+HasRunCause g lines before after bay_before bay_after fault.JournalFull =
+    (server : ℕ) × IsOneOf (servers_said lines) server × AreReturned g lines (servers_said lines) before after (λ n taken given. n ≡ server → HasFilled g lines n taken given)
+HasRunCause g lines before after bay_before bay_after (fault.Disk server) = AreLeft g lines server before after (λ n taken given. n ≡ server → Rose (g.faults taken) (g.faults given))
+HasRunCause g lines before after bay_before bay_after (fault.EpochEnd server) =
+    StopsAt g lines server before after (IsAtItsEnd g lines server)
+    ⊎ (IsOneOf (servers_said lines) server × AreReturned g lines (servers_said lines) before after (λ n taken given. n ≡ server → HasUsedUp g lines n taken given))
+HasRunCause g lines before after bay_before bay_after (fault.NotAVolume server found) = StopsAt g lines server before after (IsNoVolume g lines server found)
+HasRunCause g lines before after bay_before bay_after (fault.Damaged server place) = StopsAt g lines server before after (IsDamaged g lines server place)
 
 -- ---- which disks a run starts on
 
 -- it is new, or holds a volume of the server that has a further epoch
-pub record IsStartable (sizes : Sizes) (n : ℕ) (image : Image) : Type 0 where
-  pub volume : (found : List ℕ) → WhyNotStarted 1 1 n image (vault_fault.NotAVolume found) → IsNew sizes n image
-  pub whole : (place : ℕ) → WhyNotStarted 1 1 n image (vault_fault.Damaged place) → IsNew sizes n image
-  pub epoch : HasNoEpoch n image → IsNew sizes n image
+pub record IsStartable (sizes : Sizes) (server servers n : ℕ) (image : Image) : Type 0 where
+  pub volume : (found : List ℕ) → WhyNotStarted server servers n image (vault_fault.NotAVolume found) → IsNew sizes n image
+  pub whole : (place : ℕ) → WhyNotStarted server servers n image (vault_fault.Damaged place) → IsNew sizes n image
+  pub epoch : HasNoEpoch server servers n image → IsNew sizes n image
 
--- the device that was there, or a new one, is such a disk, and did not fail
-pub record StartsOn {D : Type 0} (g : Ghosts D) (sizes : Sizes) (before after : ℕ → Option D) : Type 0 where
-  pub startable : (d : D) → before 1 ≡ Some d → IsStartable sizes (g.size d) (g.seen d)
-  pub unfailed : (d e : D) → IsTaken g (before 1) (pages_of sizes) d → after 1 ≡ Some e → Rose (g.faults d) (g.faults e) → ⊥
+-- the device that was at the place of a server, or a new one, is such a disk, and did not fail
+pub record StartsAt {D : Type 0} (g : Ghosts D) (lines : List NumberedLine) (before after : ℕ → Option D) (server : ℕ) : Type 0 where
+  pub startable : (d : D) → before server ≡ Some d → IsStartable (sizes_said lines server) server (servers_said lines) (g.size d) (g.seen d)
+  pub unfailed : (d e : D) → IsTaken g (before server) (pages_of (sizes_said lines server)) d → after server ≡ Some e → Rose (g.faults d) (g.faults e) → ⊥
+
+-- at the place of each
+abbrev pub StartsOn : {D : Type 0} → Ghosts D → List NumberedLine → (before after : ℕ → Option D) → Type 0
+StartsOn g lines before after = (n : ℕ) → IsOneOf (servers_said lines) n → StartsAt g lines before after n
+
+-- ---- what is told of any bay
 
 -- the bay's count of faults rose where a fault of it is told, and stayed in every other case
 abbrev pub IsBayFault : NoReport → ℕ → ℕ → Type 0
@@ -205,24 +286,9 @@ abbrev pub IsFolderChosen : {T : Type 0} → Result T NoReport → (before now n
 IsFolderChosen (Ok x) before now named = now ≡ named
 IsFolderChosen (Err f) before now named = IsFolderLeft f before now named
 
--- The disk's count of faults rose where a fault of it is told. Where this holds it stayed in every other case; of a disk that is said
--- to hold no volume, or a damaged one, nothing is said.
-abbrev pub IsDiskFault : Type 0 → NoReport → ℕ → ℕ → Type 0
-IsDiskFault P fault.Disk before now = Rose before now
-IsDiskFault P (fault.NotAVolume found) before now = Unit {0}
-IsDiskFault P (fault.Damaged place) before now = Unit {0}
-IsDiskFault P f before now = P → now ≡ before
-
-abbrev pub IsDiskTold : {T : Type 0} → Type 0 → Result T NoReport → ℕ → ℕ → Type 0
-IsDiskTold P (Ok x) before now = P → now ≡ before
-IsDiskTold P (Err f) before now = IsDiskFault P f before now
-
--- where a disk was taken
-abbrev pub OnTakenFor : NoReport → Type 0 → Type 0
-OnTakenFor fault.Bay P = Unit {0}
-OnTakenFor fault.OutOfMemory P = Unit {0}
-OnTakenFor f P = P
-
-abbrev pub OnTakenBy : {T : Type 0} → Result T NoReport → Type 0 → Type 0
-OnTakenBy (Ok x) P = P
-OnTakenBy (Err f) P = OnTakenFor f P
+-- A disk that is told of is that of one of so many servers; where it failed, its count of faults rose.
+abbrev pub IsOfServers : {D : Type 0} → Ghosts D → (servers : ℕ) → NoReport → Type 0
+IsOfServers {D} g servers (fault.Disk server) = IsOneOf servers server × (taken : D) × (given : D) × Rose (g.faults taken) (g.faults given)
+IsOfServers g servers (fault.NotAVolume server found) = IsOneOf servers server
+IsOfServers g servers (fault.Damaged server place) = IsOneOf servers server
+IsOfServers g servers f = Unit {0}

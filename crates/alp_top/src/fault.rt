@@ -14,20 +14,23 @@ use thiserror::Error;
 pub enum NoReport {
     #[error("the bay failed")]
     Bay,
-    #[error("the disk failed")]
-    Disk,
+    /// The disk of this server failed.
+    #[error("the disk of server {server} failed")]
+    Disk { server: u8 },
     #[error("out of memory")]
     OutOfMemory,
-    /// The journal of the server has no room for another entry.
-    #[error("the journal is full")]
+    /// The journal of a server has no room for another entry.
+    #[error("a journal is full")]
     JournalFull,
-    /// The volume's epochs are used up.
-    #[error("no epoch is left")]
-    EpochEnd,
-    #[error("not a volume")]
-    NotAVolume { found: [u8; 24] },
-    #[error("damaged at page {place}")]
-    Damaged { place: u32 },
+    /// The epochs of this server's volume are used up.
+    #[error("server {server} has no epoch left")]
+    EpochEnd { server: u8 },
+    /// The disk of this server is not new and holds no volume of it; its first page begins so.
+    #[error("the disk of server {server} is not a volume of it")]
+    NotAVolume { server: u8, found: [u8; 24] },
+    /// This page of the disk of this server is not in its format; 0 is a note.
+    #[error("the disk of server {server} is damaged at page {place}")]
+    Damaged { server: u8, place: u32 },
 }
 
 impl From<OutOfMemory> for NoReport {
@@ -43,10 +46,10 @@ impl From<RunFault> for NoReport {
 
     fn from(fault: RunFault) -> NoReport {
         match fault {
-            RunFault::DiskFault { .. } => NoReport::Disk,
+            RunFault::DiskFault { server } => NoReport::Disk { server },
             RunFault::OutOfMemory => NoReport::OutOfMemory,
             RunFault::JournalFull => NoReport::JournalFull,
-            RunFault::Start { fault, .. } => of_start(fault),
+            RunFault::Start { server, fault } => of_start(server, fault),
         }
     }
 }
@@ -62,26 +65,26 @@ impl From<BayFault> for NoReport {
     }
 }
 
-/// A vault's fault, of the whole run.
-pub fn of_vault(fault: VaultFault) -> NoReport
-    ensures { result ≡ of_vault_said fault }
+/// A fault of this server's vault, of the whole run.
+pub fn of_vault(server: u8, fault: VaultFault) -> NoReport
+    ensures { result ≡ of_vault_said server fault }
 {
     match fault {
-        VaultFault::Failed => NoReport::Disk,
-        VaultFault::Stopped => NoReport::Disk,
+        VaultFault::Failed => NoReport::Disk { server },
+        VaultFault::Stopped => NoReport::Disk { server },
         VaultFault::OutOfMemory => NoReport::OutOfMemory,
-        VaultFault::NotAVolume { found } => NoReport::NotAVolume { found },
-        VaultFault::Damaged { place } => NoReport::Damaged { place },
+        VaultFault::NotAVolume { found } => NoReport::NotAVolume { server, found },
+        VaultFault::Damaged { place } => NoReport::Damaged { server, place },
     }
 }
 
-/// That of a server that did not start.
-pub fn of_start(fault: StartFault) -> NoReport
-    ensures { result ≡ of_start_said fault }
+/// That of this server, which did not start.
+pub fn of_start(server: u8, fault: StartFault) -> NoReport
+    ensures { result ≡ of_start_said server fault }
 {
     match fault {
-        StartFault::Vault(fault) => of_vault(fault),
-        StartFault::BadNote => NoReport::Damaged { place: 0 },
-        StartFault::EpochEnd => NoReport::EpochEnd,
+        StartFault::Vault(fault) => of_vault(server, fault),
+        StartFault::BadNote => NoReport::Damaged { server, place: 0 },
+        StartFault::EpochEnd => NoReport::EpochEnd { server },
     }
 }

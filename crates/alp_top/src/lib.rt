@@ -1,5 +1,5 @@
-//! Plays a script on a server, from the bytes of the script and the disk of the server to the bytes of the report and the disk as
-//! it is then.
+//! Plays a script on its servers, from the bytes of the script and the disks of the servers to the bytes of the report and the disks as
+//! they are then.
 #![tactic(auto)]
 
 mod bay;
@@ -7,9 +7,9 @@ mod fault;
 mod finish;
 mod owners;
 mod run;
+mod start;
 mod status;
 mod tally;
-mod volume;
 mod write_all;
 
 pub use run::run_alpine;

@@ -4,11 +4,11 @@ ghost use Rattle.std.specs.FinMap as map;
 ghost use Rattle.alp_base.specs.declared.allowance.Allowance.TheVariants.{Free};
 ghost use Rattle.alp_base.specs.declared.key.Key.TheVariants.{OwnerOf};
 ghost use Rattle.alp_files.specs.Cells.{owner_in, owners_of};
-ghost use Rattle.alp_cluster.specs.Servers.{HasGone};
+ghost use Rattle.alp_cluster.specs.Servers.{HasGoneBy};
 ghost use Rattle.alp_top.specs.Looks.{HasLooked};
 
 use alp_base::{Cell, Key, Name, OutOfMemory, OwnerRecord, VaultFault};
-use alp_cluster::{RunFault, SERVER};
+use alp_cluster::RunFault;
 use alp_vault::Vault;
 use std::alloc::Global;
 
@@ -21,10 +21,15 @@ fn copied(alloc: Global, names: &[Name]) -> Result<Vec<Name>, OutOfMemory>
 }
 
 // The record that stands at the owner's key.
-fn owner_record<V: Vault>(vault: &mut V, name: Name) -> Result<Option<OwnerRecord>, RunFault>
+fn owner_record<V: Vault>(
+    server: u8,
+    vault: &mut V,
+    name: Name,
+) -> Result<Option<OwnerRecord>, RunFault>
     requires serving { IsTrue (V.serves vault.old) }
     requires free { V.allowance vault.old ≡ Free }
-    ensures gone { HasGone V.Vault (Unit {0}) vault.old vault.new result }
+    requires server { V.server vault.old ≡ server }
+    ensures gone { HasGoneBy V.Vault (λ s. s ≡ server) (Unit {0}) vault.old vault.new result }
     ensures looked { HasLooked V.Vault vault.old vault.new result }
     ensures record { IsTrue (V.tells vault.old) → IfOk result (λ o. o ≡ owner_in (map.get (V.held vault.old).cells (OwnerOf name))) }
 {
@@ -32,15 +37,20 @@ fn owner_record<V: Vault>(vault: &mut V, name: Name) -> Result<Option<OwnerRecor
         Ok(Some(Cell::Owner(record))) => Ok(Some(record)),
         Ok(_) => Ok(None),
         Err(VaultFault::OutOfMemory) => Err(RunFault::OutOfMemory),
-        Err(_) => Err(RunFault::DiskFault { server: SERVER }),
+        Err(_) => Err(RunFault::DiskFault { server }),
     }
 }
 
-/// The records of all owners, in rising order of their names.
-pub fn owner_records<V: Vault>(alloc: Global, vault: &mut V) -> Result<Vec<OwnerRecord>, RunFault>
+/// The records of all owners of the server, in rising order of their names.
+pub fn owner_records<V: Vault>(
+    alloc: Global,
+    server: u8,
+    vault: &mut V,
+) -> Result<Vec<OwnerRecord>, RunFault>
     requires serving { IsTrue (V.serves vault.old) }
     requires free { V.allowance vault.old ≡ Free }
-    ensures gone { HasGone V.Vault (Unit {0}) vault.old vault.new result }
+    requires server { V.server vault.old ≡ server }
+    ensures gone { HasGoneBy V.Vault (λ s. s ≡ server) (Unit {0}) vault.old vault.new result }
     ensures looked { HasLooked V.Vault vault.old vault.new result }
     ensures owners { IsTrue (V.tells vault.old) → IfOk result (λ v. v.items ≡ owners_of (V.held vault.old).cells) }
 {
@@ -48,7 +58,7 @@ pub fn owner_records<V: Vault>(alloc: Global, vault: &mut V) -> Result<Vec<Owner
     let names = copied(alloc, vault.owners())?;
     let mut records = Vec::with_capacity(alloc, names.len())?;
     for name in &names {
-        if let Some(record) = owner_record(vault, *name)? {
+        if let Some(record) = owner_record(server, vault, *name)? {
             records.push(record)?;
         }
     }

@@ -1,12 +1,12 @@
-//! A whole run, from the words of the program to the bytes of the report and the disk that is given back.
+//! A whole run, from the words of the program to the bytes of the report and the disks that are given back.
 ghost use Rattle.std.specs.Prelude.{◌≡◌, ℕ, false, take, map, string_bytes};
 ghost use Rattle.std.specs.Io.KnownBytes.{Appends};
 ghost use Rattle.std.specs.Option.{option_map};
 ghost use Rattle.alp_base.specs.Causes.{Rose};
-ghost use Rattle.alp_script.specs.Reading.{GaveGoodLines};
+ghost use Rattle.alp_script.specs.Reading.{GaveFlaw, GaveGoodLines, SaysScript};
 ghost use Rattle.alp_top.specs.Anywhere.{IsToldAnywhere};
-ghost use Rattle.alp_top.specs.Headline.{IsPlayed, IsCutOff, HasCause, SaysPlayable, StartsHere};
-ghost use Rattle.alp_top.specs.Statuses.{AreWordsTold, IsTold, OnDone, OnBadWords, OnFlaw, OnReadFault, OnWriteFault, OnCutShort, OnUntaken, folder_in, IsReadFaultTold, IsWriteFaultTold, IsBayFaultTold, IsFolderTold, OnUnwritten, IsPlayedOrMemory, IsHandedOver, GaveBad, unplayable as unplayable_said};
+ghost use Rattle.alp_top.specs.Headline.{IsPlayed, IsCutOff, HasCause, StartsHere};
+ghost use Rattle.alp_top.specs.Statuses.{AreWordsTold, IsTold, OnDone, OnBadWords, OnFlaw, OnReadFault, OnWriteFault, OnCutShort, OnUntaken, folder_in, IsReadFaultTold, IsWriteFaultTold, IsBayFaultTold, IsFolderTold, OnUnwritten, IsPlayedOrMemory, IsHandedOver};
 ghost use Rattle.alp_words.specs.Words.{are_bad, folder_named};
 
 use crate::bay::run_bay;
@@ -16,9 +16,7 @@ use crate::write_all::write_all;
 use alp_base::{Sink, Source};
 use alp_bay::Bay;
 use alp_disk::{Disk, Fuse};
-use alp_script::{
-    NumberedLine, SCRIPT_LINES_MOST, ScriptFault, accepted_lines, read_script, servers_of,
-};
+use alp_script::{NumberedLine, SCRIPT_LINES_MOST, ScriptFault, accepted_lines, read_script};
 use alp_store::Store;
 use alp_vault::Vault;
 use alp_words::{Command, WordsFault, read_command};
@@ -48,22 +46,10 @@ fn hand_over<D: Disk, K: Sink>(ended: &Ended<Store<Fuse<D>>>, out: &mut K) -> St
     }
 }
 
-// The line that declares more servers than one, if it does: such a script is not played yet.
-fn unplayable(lines: &[NumberedLine]) -> Option<u32>
-    ensures { result ≡ unplayable_said lines.now }
-{
-    if servers_of(lines) == 1 {
-        return None;
-    }
-    match lines {
-        [first, ..] => Some(first.number),
-        [] => None,
-    }
-}
-
-/// Plays the script on the disk that the bay has for server 1, in the folder that the words name or in memory, and writes the
-/// report, which is made whole before its first byte is written. The words come first, then the script to its first bad line,
-/// then the disk; the first event that ends the run gives its status. A disk that was taken is given back however the run ends.
+/// Plays the script on its servers, on the disks that the bay has for them, in the folder that the words name or in memory, and writes
+/// the report, which is made whole before its first byte is written. The words come first, then the script to its first bad line, then
+/// the disks, server 1 first; the first event that ends the run gives its status. Disks that were taken are given back however the
+/// run ends.
 ///
 /// What a folder's files hold no contract can say: what is said of disks holds of those in memory, and of a bay that tells.
 pub fn run_alpine<S: Source, K: Sink, B: Bay>(
@@ -73,32 +59,31 @@ pub fn run_alpine<S: Source, K: Sink, B: Bay>(
     out: &mut K,
     bay: &mut B,
 ) -> Status<B::Device>
-    // The headline: what is written is the report of a run of the script, whose committed transactions are one thread's
-    // history, and the disk is given back with what the server holds in the end.
+    // The headline: what is written is the report of a run of the script; each decided transaction is everywhere or nowhere; and the
+    // disks are given back with what the servers hold in the end. Of one server the committed transactions are one thread's history.
     ensures headline { IsTold (map string_bytes words.now) (B.tells bay.new) → OnDone result (IsPlayed ⟦<Store<Fuse<B::Device>> as Vault>⟧ B.Device.Disk (S.left script.old) (S.left script.new) (K.written out.old) (K.written out.new) (B.at bay.old) (B.at bay.new)) }
     // After a write fault the log is of a run of the script too, and a prefix of its report is written.
     ensures cut_off { IsTold (map string_bytes words.now) (B.tells bay.new) → OnWriteFault result (IsCutOff ⟦<Store<Fuse<B::Device>> as Vault>⟧ B.Device.Disk (S.left script.old) (S.left script.new) (K.written out.old) (K.written out.new) (B.at bay.old) (B.at bay.new)) }
     // The words are told bad just where the program's command line has no such words, and then nothing is read.
     ensures words { AreWordsTold (are_bad (map string_bytes words.now)) result × OnBadWords result (script.new ≡ script.old) }
-    // That line of what the source gave is the first outside the language, or it declares more servers than one, which is not played
-    // yet; or the lines are too many.
-    ensures flaw { OnFlaw result (GaveBad (S.left script.old) (S.left script.new)) }
+    // That line of what the source gave is the first outside the language, or the lines are too many.
+    ensures flaw { OnFlaw result (GaveFlaw (S.left script.old) (S.left script.new)) }
     // A source that fails behind a line outside the language is not asked that far.
     ensures good_lines { OnReadFault result (GaveGoodLines (S.left script.old) (S.left script.new)) }
     // A fault of a stream or of the bay is told just where it came in this call.
     ensures faults { IsReadFaultTold result (S.faults script.old) (S.faults script.new) × IsWriteFaultTold result (K.faults out.old) (K.faults out.new) × IsBayFaultTold result (B.faults bay.old) (B.faults bay.new) }
-    // The bay or the disk ended the run: it failed in this call, or the disk is not one of the server's. Or memory was wanting.
+    // The bay or a disk ended the run: it failed in this call, or the disk is not one of its server's. Or memory was wanting.
     ensures disk { IsTold (map string_bytes words.now) (B.tells bay.new) → OnCutShort result (bay.new ≡ bay.old) (HasCause B.Device.Disk (S.left script.old) (S.left script.new) (B.at bay.old) (B.at bay.new) (B.faults bay.old) (B.faults bay.new)) }
     // Of any bay, also of one that does not tell what stands in it: what is written is the report of a run of the script, limits and
     // servers are what they may be, and a fault of a disk is told only of one that failed in this call.
     ensures any_bay { IsToldAnywhere ⟦<Store<Fuse<B::Device>> as Vault>⟧ (S.left script.old) (S.left script.new) (K.written out.old) (K.written out.new) result }
-    // The disk is one of the folder that the words name, or in memory where they name none.
+    // The disks are those of the folder that the words name, or in memory where they name none.
     ensures folder { IsFolderTold result (B.chosen bay.old) (B.chosen bay.new) (folder_named (map string_bytes words.now)) }
     // No disk is asked for before the script is read.
     ensures untaken { OnUntaken result (bay.new ≡ bay.old) }
-    // A script of the language that declares one server is played to its end on a disk that is new or the server's, where nothing fails, unless memory is
-    // wanting, the journal is full or the server has come to the last epoch.
-    ensures complete { are_bad (map string_bytes words.now) ≡ false → SaysPlayable (S.left script.old) → (Rose (S.faults script.old) (S.faults script.new) → ⊥) → (Rose (K.faults out.old) (K.faults out.new) → ⊥)
+    // A script of the language is played to its end on disks that are new or their servers', where nothing fails, unless memory is
+    // wanting, a journal is full or a server has come to the last epoch.
+    ensures complete { are_bad (map string_bytes words.now) ≡ false → SaysScript (S.left script.old) → (Rose (S.faults script.old) (S.faults script.new) → ⊥) → (Rose (K.faults out.old) (K.faults out.new) → ⊥)
         → (Rose (B.faults bay.old) (B.faults bay.new) → ⊥) → IsTold (map string_bytes words.now) (B.tells bay.new) → StartsHere B.Device.Disk (S.left script.old) (S.left script.new) (B.at bay.old) (B.at bay.new) → IsPlayedOrMemory result }
     // Nothing is written but the report.
     ensures unwritten { OnUnwritten result (out.new ≡ out.old) }
@@ -121,9 +106,6 @@ pub fn run_alpine<S: Source, K: Sink, B: Bay>(
     };
     accepted_lines();
     let played: &[NumberedLine] = &lines;
-    if let Some(line) = unplayable(played) {
-        return Status::BadScript { line };
-    }
     match run_bay(alloc, played, folder_of(&command), bay) {
         Ok(ended) => hand_over(&ended, out),
         Err(fault) => ended_by(fault),

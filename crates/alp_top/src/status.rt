@@ -5,7 +5,7 @@ ghost use Rattle.alp_top.specs.Statuses.{code_of, status_said, ended_by as ended
 
 use crate::fault::NoReport;
 use alp_base::OutOfMemory;
-use alp_cluster::{JOURNAL_ENTRIES_MOST, SERVER};
+use alp_cluster::JOURNAL_ENTRIES_MOST;
 use alp_disk::{Disk, Fuse};
 use alp_journal::RunLog;
 use alp_node::Opened;
@@ -14,7 +14,7 @@ use std::alloc::Global;
 use std::fmt::Write;
 use std::snapshot::Snapshot;
 
-/// What the server of a run was started on: its vault on a disk that may be stopped.
+/// What a server of a run was started on: its vault on a disk that may be stopped.
 pub type Kept<D> = Opened<Store<Fuse<D>>>;
 
 /// How a run ended. What was played is told by the log.
@@ -68,26 +68,20 @@ impl<D: Disk> Status<D> {
     }
 }
 
-/// The disk of server 1, or the bay, ended a run.
+/// The disk of a server, or the bay, ended a run.
 pub fn ended_by<D: Disk>(fault: NoReport) -> Status<D>
     ensures { result ≡ ended_by_said fault }
 {
     match fault {
         NoReport::Bay => Status::DiskFault { server: 0 },
-        NoReport::Disk => Status::DiskFault { server: SERVER },
+        NoReport::Disk { server } => Status::DiskFault { server },
         NoReport::OutOfMemory => Status::OutOfMemory,
         NoReport::JournalFull => Status::TooLong {
             limit: JOURNAL_ENTRIES_MOST as u32,
         },
-        NoReport::EpochEnd => Status::TooLong { limit: u32::MAX },
-        NoReport::NotAVolume { found } => Status::NotAVolume {
-            server: SERVER,
-            found,
-        },
-        NoReport::Damaged { place } => Status::Damaged {
-            server: SERVER,
-            place,
-        },
+        NoReport::EpochEnd { server: _ } => Status::TooLong { limit: u32::MAX },
+        NoReport::NotAVolume { server, found } => Status::NotAVolume { server, found },
+        NoReport::Damaged { server, place } => Status::Damaged { server, place },
     }
 }
 

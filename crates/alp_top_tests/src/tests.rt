@@ -3,6 +3,7 @@ mod crashes;
 mod faults;
 mod plays;
 mod rows;
+mod several;
 
 use alp_base::{MemSink, MemSource};
 use alp_bay::{Bay, MemBay};

@@ -44,16 +44,10 @@ fn refuses_other_words_and_scripts(rt: HostRuntime) -> Result<(), Fail> {
         assert_eq!(rt; told.said.as_str(), "alpine: bad words");
         assert_eq!(rt; told.written.len(), 0);
     }
-    for (script, said) in [
-        (b"servers 9\n" as &[u8], "alpine: bad script line 1"),
-        // It is of the language, and not played yet.
-        (b"# two\nservers 2\ntick 2\n", "alpine: bad script line 2"),
-    ] {
-        let told = run(alloc, &["play"], script, &SOUND)?;
-        assert_eq!(rt; told.code, 2);
-        assert_eq!(rt; told.said.as_str(), said);
-        assert_eq!(rt; told.written.len(), 0);
-    }
+    let told = run(alloc, &["play"], b"servers 9\n", &SOUND)?;
+    assert_eq!(rt; told.code, 2);
+    assert_eq!(rt; told.said.as_str(), "alpine: bad script line 1");
+    assert_eq!(rt; told.written.len(), 0);
     Ok(())
 }
 

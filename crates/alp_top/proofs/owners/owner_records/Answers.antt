@@ -18,7 +18,7 @@ use Rattle.alp_top.proofs.owners.owner_records.Goals.{in-Some+in_ok-push, in_def
 
 pub returns-in_err-names-clause-gone : goal.returns-in_err-names-clause-gone
 returns-in_err-names-clause-gone g c =
-    rw (handed_on fault.OutOfMemory c.from_residual.result c.from_residual.ensures.0 c.from_residual.ensures.1) (gone_nothing g.V.Vault (Unit {0}) c.args.vault.now (Err fault.OutOfMemory) tt tt refl)
+    rw (handed_on fault.OutOfMemory c.from_residual.result c.from_residual.ensures.0 c.from_residual.ensures.1) (gone_nothing g.V.Vault (λ (s : ℕ). s ≡ c.args.server) (Unit {0}) c.args.vault.now (Err fault.OutOfMemory) tt tt refl)
 
 pub returns-in_err-names-clause-looked : goal.returns-in_err-names-clause-looked
 returns-in_err-names-clause-looked g c =
@@ -26,7 +26,7 @@ returns-in_err-names-clause-looked g c =
 
 pub returns-in_err-records-clause-gone : goal.returns-in_err-records-clause-gone
 returns-in_err-records-clause-gone g c =
-    rw (handed_on fault.OutOfMemory c.from_residual-in_err-records.result c.from_residual-in_err-records.ensures.0 c.from_residual-in_err-records.ensures.1) (gone_nothing g.V.Vault (Unit {0}) c.args.vault.now (Err fault.OutOfMemory) tt tt refl)
+    rw (handed_on fault.OutOfMemory c.from_residual-in_err-records.result c.from_residual-in_err-records.ensures.0 c.from_residual-in_err-records.ensures.1) (gone_nothing g.V.Vault (λ (s : ℕ). s ≡ c.args.server) (Unit {0}) c.args.vault.now (Err fault.OutOfMemory) tt tt refl)
 
 pub returns-in_err-records-clause-looked : goal.returns-in_err-records-clause-looked
 returns-in_err-records-clause-looked g c =
@@ -35,7 +35,8 @@ returns-in_err-records-clause-looked g c =
 pub loop-name-init : goal.loop-name-init
 loop-name-init g c = record {
   found = λ told. c.in_ok-records.ensures.items;
-  gone = gone_nothing g.V.Vault (Unit {0}) c.args.vault.now (Ok 0) tt tt refl;
+  gone = gone_nothing g.V.Vault (λ (s : ℕ). s ≡ c.args.server) (Unit {0}) c.args.vault.now (Ok 0) tt tt refl;
+  server = c.requires.server;
   held = refl;
   allowance = refl;
   serves = c.requires.serving;
@@ -45,7 +46,7 @@ loop-name-init g c = record {
 
 pub returns-in_err-record-clause-gone : goal.returns-in_err-record-clause-gone
 returns-in_err-record-clause-gone g c =
-    gone_on g.V.Vault (Unit {0}) c.args.vault.now c.loop-name.vault c.owner_record.new.vault 0 c.in_err-record.field-0.0 c.from_residual-in_err-record.result c.loop-name.invariant.gone c.in_err-record.ensures.gone
+    gone_on g.V.Vault (λ (s : ℕ). s ≡ c.args.server) (Unit {0}) c.args.vault.now c.loop-name.vault c.owner_record.new.vault 0 c.in_err-record.field-0.0 c.from_residual-in_err-record.result c.loop-name.invariant.gone c.in_err-record.ensures.gone
     (handed_on c.in_err-record.field-0.0 c.from_residual-in_err-record.result c.from_residual-in_err-record.ensures.0 c.from_residual-in_err-record.ensures.1)
 
 pub returns-in_err-record-clause-looked : goal.returns-in_err-record-clause-looked
@@ -56,8 +57,8 @@ returns-in_err-record-clause-looked g c =
 pub returns-in_err-push-clause-gone : goal.returns-in_err-push-clause-gone
 returns-in_err-push-clause-gone g c =
     rw (handed_on fault.OutOfMemory c.from_residual-in_err-push.result c.from_residual-in_err-push.ensures.0 c.from_residual-in_err-push.ensures.1)
-    (gone_memory g.V.Vault {T = ℕ} (Unit {0}) c.args.vault.now c.owner_record.new.vault 0
-    (gone_both g.V.Vault (Unit {0}) c.args.vault.now c.loop-name.vault c.owner_record.new.vault 0 (Ok 0) c.loop-name.invariant.gone (gone_ok g.V.Vault (Unit {0}) c.loop-name.vault c.owner_record.new.vault _ 0 c.in_ok-record.ensures.gone)))
+    (gone_memory g.V.Vault (λ (s : ℕ). s ≡ c.args.server) {T = ℕ} (Unit {0}) c.args.vault.now c.owner_record.new.vault 0
+    (gone_both g.V.Vault (λ (s : ℕ). s ≡ c.args.server) (Unit {0}) c.args.vault.now c.loop-name.vault c.owner_record.new.vault 0 (Ok 0) c.loop-name.invariant.gone (gone_ok g.V.Vault (λ (s : ℕ). s ≡ c.args.server) (Unit {0}) c.loop-name.vault c.owner_record.new.vault _ 0 c.in_ok-record.ensures.gone)))
 
 pub returns-in_err-push-clause-looked : goal.returns-in_err-push-clause-looked
 returns-in_err-push-clause-looked g c =
@@ -78,7 +79,8 @@ loop-name-preserved g c =
           (before.found told)
           (one.record (subst IsTrue (sym before.gone.same.telling) told) ∙ ap (λ (x : Contents). owner_in (map.get x.cells (OwnerOf c.name-item.result))) before.held)
           more;
-      gone = gone_both g.V.Vault (Unit {0}) c.args.vault.now c.loop-name.vault c.owner_record.new.vault 0 (Ok 0) before.gone (gone_ok g.V.Vault (Unit {0}) c.loop-name.vault c.owner_record.new.vault _ 0 one.gone);
+      gone = gone_both g.V.Vault (λ (s : ℕ). s ≡ c.args.server) (Unit {0}) c.args.vault.now c.loop-name.vault c.owner_record.new.vault 0 (Ok 0) before.gone (gone_ok g.V.Vault (λ (s : ℕ). s ≡ c.args.server) (Unit {0}) c.loop-name.vault c.owner_record.new.vault _ 0 one.gone);
+      server = one.gone.same.number ∙ before.server;
       held = one.looked.held ∙ before.held;
       allowance = one.looked.allowance ∙ before.allowance;
       serves = one.looked.serves;
@@ -87,7 +89,7 @@ loop-name-preserved g c =
 -- ---- all names
 
 pub returns-clause-gone : goal.returns-clause-gone
-returns-clause-gone g c = gone_ok g.V.Vault (Unit {0}) c.args.vault.now c.loop-name.vault 0 _ c.loop-name.invariant.gone
+returns-clause-gone g c = gone_ok g.V.Vault (λ (s : ℕ). s ≡ c.args.server) (Unit {0}) c.args.vault.now c.loop-name.vault 0 _ c.loop-name.invariant.gone
 
 pub returns-clause-looked : goal.returns-clause-looked
 returns-clause-looked g c = record { held = c.loop-name.invariant.held; allowance = c.loop-name.invariant.allowance; serves = c.loop-name.invariant.serves; room = tt }

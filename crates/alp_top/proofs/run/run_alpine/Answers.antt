@@ -1,14 +1,12 @@
 use Rattle.std.specs.Prelude.{Option, map as list_map, string_bytes}
-use Rattle.std.proofs.Common.{inr, ◌≡◌, ℕ, List, sym, ◌∙◌, subst}
-use Rattle.alp_script.specs.Accepted.{IsAccepted, servers_said}
-use Rattle.alp_cluster.specs.Runs.{StopNone}
+use Rattle.std.proofs.Common.{◌≡◌, ℕ, List, refl, sym, ◌∙◌, subst}
+use Rattle.alp_script.specs.Accepted.{IsAccepted}
 use Rattle.alp_script.specs.Reading.{GaveScript}
-use Rattle.alp_script.specs.Volumes.{sizes_said}
 use Rattle.alp_script.specs.declared.numbered.NumberedLine.{NumberedLine}
 use Rattle.alp_words.specs.Words.{folder_named}
 use Rattle.alp_top.specs.Headline.{HasCause}
 use Rattle.alp_top.specs.Volumes.{IsFolderLeft}
-use Rattle.alp_top.proofs.PlayedLemmas.{plays_single, tells_more, not_playable, is_played, is_cut_off, done_then, cut_then, caused, folder_left, handed_folder, disk_counted, handed_counted, has_reported, has_reported_part, handed_limits, handed_disk, not_done, not_cut, limited, of_first, named_folder, folder_told, plays_on, not_flawed, not_untaken}
+use Rattle.alp_top.proofs.PlayedLemmas.{is_played, is_cut_off, done_then, cut_then, caused, folder_left, handed_folder, disk_counted, handed_counted, has_reported, has_reported_part, handed_limits, handed_disk, not_done, not_cut, limited, of_declared, bay_told, read_well, wrote_well, named_folder, folder_told, plays_on, not_flawed, not_untaken}
 use Rattle.alp_top.proofs.run.run_alpine.Goals as goal
 
 pub run_bay-requires-clause-accepted : goal.run_bay-requires-clause-accepted
@@ -16,19 +14,13 @@ run_bay-requires-clause-accepted g c κs within =
     let script = c.in-Ok-read_script.ensures.script in
     subst (λ (ls : List NumberedLine). IsAccepted ls) (sym c.deref-played.ensures.value) (c.accepted_lines.ensures script.bytes c.in-Ok-read_script.lines.items script.said)
 
-pub run_bay-requires-clause-single : goal.run_bay-requires-clause-single
-run_bay-requires-clause-single g c κs within =
-    let script = c.in-Ok-read_script.ensures.script in
-    plays_single c.deref-played.result.now (subst (λ (ls : List NumberedLine). IsAccepted ls) (sym c.deref-played.ensures.value) (c.accepted_lines.ensures script.bytes c.in-Ok-read_script.lines.items script.said)) (sym c.unplayable.ensures ∙ c.in_default.is)
-
 pub returns-in-Ok-run_bay-clause-headline : goal.returns-in-Ok-run_bay-clause-headline
 returns-in-Ok-run_bay-clause-headline g c told =
     let lines : List NumberedLine = c.deref-played.result.now in
     let script : GaveScript (g.S.Source.left c.args.script.now) (g.S.Source.left c.read_script.new.source) lines = subst (GaveScript _ _) (sym c.deref-played.ensures.value) c.in-Ok-read_script.ensures.script in
     let asked = folder_told (λ name. name.now) c.folder_of.result _ _ (c.folder_of.ensures ∙ named_folder _ c.in-Ok.command c.in-Ok.ensures.named) told in
-    let single : servers_said lines ≡ 1 = plays_single lines (subst (λ (ls : List NumberedLine). IsAccepted ls) (sym c.deref-played.ensures.value) (c.accepted_lines.ensures c.in-Ok-read_script.ensures.script.bytes c.in-Ok-read_script.lines.items c.in-Ok-read_script.ensures.script.said)) (sym c.unplayable.ensures ∙ c.in_default.is) in
     done_then c.hand_over.result _ _
-    (λ log h. is_played _ g.B.Device.Disk _ _ _ _ lines c.in-Ok-run_bay.ended.log c.in-Ok-run_bay.ended.text.items script single (c.in-Ok-run_bay.ensures.ran asked) _ _ log h.0 h.1)
+    (λ log h. is_played _ g.B.Device.Disk _ _ _ _ lines c.in-Ok-run_bay.ended.log c.in-Ok-run_bay.ended.text.items script (c.in-Ok-run_bay.ensures.ran asked) _ _ log h.0 h.1)
     c.hand_over.ensures.done
 
 pub returns-in-Ok-run_bay-clause-cut_off : goal.returns-in-Ok-run_bay-clause-cut_off
@@ -36,20 +28,18 @@ returns-in-Ok-run_bay-clause-cut_off g c told =
     let lines : List NumberedLine = c.deref-played.result.now in
     let script : GaveScript (g.S.Source.left c.args.script.now) (g.S.Source.left c.read_script.new.source) lines = subst (GaveScript _ _) (sym c.deref-played.ensures.value) c.in-Ok-read_script.ensures.script in
     let asked = folder_told (λ name. name.now) c.folder_of.result _ _ (c.folder_of.ensures ∙ named_folder _ c.in-Ok.command c.in-Ok.ensures.named) told in
-    let single : servers_said lines ≡ 1 = plays_single lines (subst (λ (ls : List NumberedLine). IsAccepted ls) (sym c.deref-played.ensures.value) (c.accepted_lines.ensures c.in-Ok-read_script.ensures.script.bytes c.in-Ok-read_script.lines.items c.in-Ok-read_script.ensures.script.said)) (sym c.unplayable.ensures ∙ c.in_default.is) in
     cut_then c.hand_over.result _ _
-    (λ log h. is_cut_off _ g.B.Device.Disk _ _ _ _ lines c.in-Ok-run_bay.ended.log c.in-Ok-run_bay.ended.text.items script single (c.in-Ok-run_bay.ensures.ran asked) _ _ log h.0 h.1 h.2)
+    (λ log h. is_cut_off _ g.B.Device.Disk _ _ _ _ lines c.in-Ok-run_bay.ended.log c.in-Ok-run_bay.ended.text.items script (c.in-Ok-run_bay.ensures.ran asked) _ _ log h.0 h.1 h.2)
     c.hand_over.ensures.cut_off
 
 pub returns-in-Ok-run_bay-clause-any_bay : goal.returns-in-Ok-run_bay-clause-any_bay
 returns-in-Ok-run_bay-clause-any_bay g c =
     let lines : List NumberedLine = c.deref-played.result.now in
     let script : GaveScript (g.S.Source.left c.args.script.now) (g.S.Source.left c.read_script.new.source) lines = subst (GaveScript _ _) (sym c.deref-played.ensures.value) c.in-Ok-read_script.ensures.script in
-    let single : servers_said lines ≡ 1 = plays_single lines (subst (λ (ls : List NumberedLine). IsAccepted ls) (sym c.deref-played.ensures.value) (c.accepted_lines.ensures c.in-Ok-read_script.ensures.script.bytes c.in-Ok-read_script.lines.items c.in-Ok-read_script.ensures.script.said)) (sym c.unplayable.ensures ∙ c.in_default.is) in
     let ended = c.in-Ok-run_bay.ended in
     record {
-      played = done_then c.hand_over.result _ _ (λ log h. has_reported _ _ _ lines ended.log ended.text.items script single c.in-Ok-run_bay.ensures.through _ _ log h.0 h.1) c.hand_over.ensures.done;
-      cut_off = cut_then c.hand_over.result _ _ (λ log h. has_reported_part _ _ _ lines ended.log ended.text.items script single c.in-Ok-run_bay.ensures.through _ _ log h.0 h.1 h.2) c.hand_over.ensures.cut_off;
+      played = done_then c.hand_over.result _ _ (λ log h. has_reported _ _ _ lines ended.log ended.text.items script c.in-Ok-run_bay.ensures.through _ _ log h.0 h.1) c.hand_over.ensures.done;
+      cut_off = cut_then c.hand_over.result _ _ (λ log h. has_reported_part _ _ _ lines ended.log ended.text.items script c.in-Ok-run_bay.ensures.through _ _ log h.0 h.1 h.2) c.hand_over.ensures.cut_off;
       limits = handed_limits c.hand_over.result _ c.hand_over.ensures.played;
       server = handed_disk c.hand_over.result _ c.hand_over.ensures.played;
       counted = handed_counted c.hand_over.result _ c.hand_over.ensures.played;
@@ -59,13 +49,19 @@ pub returns-in-Ok-run_bay-clause-folder : goal.returns-in-Ok-run_bay-clause-fold
 returns-in-Ok-run_bay-clause-folder g c = handed_folder c.hand_over.result _ _ _ c.hand_over.ensures.played (c.in-Ok-run_bay.ensures.chosen ∙ c.folder_of.ensures ∙ named_folder _ c.in-Ok.command c.in-Ok.ensures.named)
 
 pub returns-clause-any_bay : goal.returns-clause-any_bay
-returns-clause-any_bay g c = record {
-  played = not_done c.ended_by.result c.in-Err.fault _ c.ended_by.ensures;
-  cut_off = not_cut c.ended_by.result c.in-Err.fault _ c.ended_by.ensures;
-  limits = limited c.ended_by.result c.in-Err.fault c.ended_by.ensures;
-  server = of_first c.ended_by.result c.in-Err.fault c.ended_by.ensures;
-  counted = disk_counted (StopNone c.deref-played.result.now) g.B.Device.Disk.faults c.ended_by.result c.in-Err.fault c.ended_by.ensures c.in-Err.ensures.counted;
-}
+returns-clause-any_bay g c =
+    let lines : List NumberedLine = c.deref-played.result.now in
+    let script : GaveScript (g.S.Source.left c.args.script.now) (g.S.Source.left c.read_script.new.source) lines = subst (GaveScript _ _) (sym c.deref-played.ensures.value) c.in-Ok-read_script.ensures.script in
+    record {
+      played = not_done c.ended_by.result c.in-Err.fault _ c.ended_by.ensures;
+      cut_off = not_cut c.ended_by.result c.in-Err.fault _ c.ended_by.ensures;
+      limits = limited c.ended_by.result c.in-Err.fault c.ended_by.ensures;
+      server = of_declared c.ended_by.result c.in-Err.fault _ _ lines script c.ended_by.ensures c.in-Err.ensures.counted;
+      counted = disk_counted c.ended_by.result c.in-Err.fault _ _ lines script c.ended_by.ensures c.in-Err.ensures.counted;
+    }
+
+pub returns-clause-faults : goal.returns-clause-faults
+returns-clause-faults g c = (read_well c.ended_by.result c.in-Err.fault _ _ c.ended_by.ensures c.in-Ok-read_script.ensures.cause, wrote_well c.ended_by.result c.in-Err.fault _ _ c.ended_by.ensures refl, bay_told c.ended_by.result c.in-Err.fault _ _ _ c.ended_by.ensures c.in-Err.ensures.counted c.in-Err.ensures.bay)
 
 pub returns-clause-folder : goal.returns-clause-folder
 returns-clause-folder g c =
@@ -76,34 +72,18 @@ returns-clause-folder g c =
 pub returns-clause-disk : goal.returns-clause-disk
 returns-clause-disk g c told =
     let script : GaveScript (g.S.Source.left c.args.script.now) (g.S.Source.left c.read_script.new.source) c.deref-played.result.now = subst (GaveScript _ _) (sym c.deref-played.ensures.value) c.in-Ok-read_script.ensures.script in
-    let single : servers_said c.deref-played.result.now ≡ 1 = plays_single c.deref-played.result.now (subst (λ (ls : List NumberedLine). IsAccepted ls) (sym c.deref-played.ensures.value) (c.accepted_lines.ensures c.in-Ok-read_script.ensures.script.bytes c.in-Ok-read_script.lines.items c.in-Ok-read_script.ensures.script.said)) (sym c.unplayable.ensures ∙ c.in_default.is) in
     let asked = folder_told (λ name. name.now) c.folder_of.result _ _ (c.folder_of.ensures ∙ named_folder _ c.in-Ok.command c.in-Ok.ensures.named) told in
-    caused c.ended_by.result c.in-Err.fault _ (HasCause g.B.Device.Disk _ _ _ _ _ _) c.ended_by.ensures (record { lines = c.deref-played.result.now; script = script; single = single; cause = c.in-Err.ensures.cause asked })
+    caused c.ended_by.result c.in-Err.fault _ (HasCause g.B.Device.Disk _ _ _ _ _ _) c.ended_by.ensures (record { lines = c.deref-played.result.now; script = script; cause = c.in-Err.ensures.cause asked })
 
 pub returns-clause-complete : goal.returns-clause-complete
 returns-clause-complete g c good says source sink bay told starts =
-    let script : GaveScript (g.S.Source.left c.args.script.now) (g.S.Source.left c.read_script.new.source) c.deref-played.result.now = subst (GaveScript _ _) (sym c.deref-played.ensures.value) c.in-Ok-read_script.ensures.script in
+    let lines : List NumberedLine = c.deref-played.result.now in
+    let script : GaveScript (g.S.Source.left c.args.script.now) (g.S.Source.left c.read_script.new.source) lines = subst (GaveScript _ _) (sym c.deref-played.ensures.value) c.in-Ok-read_script.ensures.script in
     let asked = folder_told (λ name. name.now) c.folder_of.result _ _ (c.folder_of.ensures ∙ named_folder _ c.in-Ok.command c.in-Ok.ensures.named) told in
-    plays_on (sizes_said c.deref-played.result.now 1) _ _ (starts c.deref-played.result.now script) c.deref-played.result.now c.ended_by.result c.in-Err.fault _ _ c.ended_by.ensures (c.in-Err.ensures.cause asked) bay
+    plays_on lines _ _ (starts lines script) c.ended_by.result c.in-Err.fault _ _ c.ended_by.ensures (c.in-Err.ensures.cause asked) bay
 
 pub returns-clause-flaw : goal.returns-clause-flaw
 returns-clause-flaw g c = not_flawed c.ended_by.result c.in-Err.fault _ c.ended_by.ensures
 
 pub returns-clause-untaken : goal.returns-clause-untaken
 returns-clause-untaken g c = not_untaken c.ended_by.result c.in-Err.fault _ c.ended_by.ensures
-
--- ---- a script of more servers
-
-pub returns-in-Some-clause-flaw : goal.returns-in-Some-clause-flaw
-returns-in-Some-clause-flaw g c =
-    let lines : List NumberedLine = c.deref-played.result.now in
-    let script : GaveScript (g.S.Source.left c.args.script.now) (g.S.Source.left c.read_script.new.source) lines = subst (GaveScript _ _) (sym c.deref-played.ensures.value) c.in-Ok-read_script.ensures.script in
-    let accepted : IsAccepted lines = subst (λ (ls : List NumberedLine). IsAccepted ls) (sym c.deref-played.ensures.value) (c.accepted_lines.ensures c.in-Ok-read_script.ensures.script.bytes c.in-Ok-read_script.lines.items c.in-Ok-read_script.ensures.script.said) in
-    inr (tells_more lines accepted _ _ c.in-Some.line script (sym c.unplayable.ensures ∙ c.in-Some.is))
-
-pub returns-in-Some-clause-complete : goal.returns-in-Some-clause-complete
-returns-in-Some-clause-complete g c good says =
-    let lines : List NumberedLine = c.deref-played.result.now in
-    let script : GaveScript (g.S.Source.left c.args.script.now) (g.S.Source.left c.read_script.new.source) lines = subst (GaveScript _ _) (sym c.deref-played.ensures.value) c.in-Ok-read_script.ensures.script in
-    let accepted : IsAccepted lines = subst (λ (ls : List NumberedLine). IsAccepted ls) (sym c.deref-played.ensures.value) (c.accepted_lines.ensures c.in-Ok-read_script.ensures.script.bytes c.in-Ok-read_script.lines.items c.in-Ok-read_script.ensures.script.said) in
-    absurd (not_playable lines accepted _ _ c.in-Some.line script (sym c.unplayable.ensures ∙ c.in-Some.is) says)

@@ -1,0 +1,135 @@
+-- a run that ended before its script did: what holds of its journals
+use Rattle.std.specs.Prelude.{Bool, true, IsTrue, map as list_map, Option, None, Some}
+use Rattle.std.specs.List.{AllByRecursion}
+use Rattle.std.proofs.Common.{inl, inr, ◌⊎◌, ◌≡◌, ℕ, ◌+◌, ◌-◌, ◌<◌, ◌≤◌, List, [], ◌∷◌, length, refl, sym, ◌∙◌, ap, subst, arith}
+use Rattle.alp_journal.specs.Along.{Along}
+use Rattle.alp_journal.specs.Laws.{IsLawful}
+use Rattle.alp_journal.specs.Moves.{next}
+use Rattle.alp_journal.specs.State.{opened}
+use Rattle.alp_history.specs.Handed.{ArePromisesKept}
+use Rattle.alp_history.specs.Items as items
+use Rattle.alp_history.specs.Log as logs
+use Rattle.alp_history.specs.RunLogs.{handed_of}
+use Rattle.alp_history.specs.Theorems.{IsProper, IsOneThread, AreWhole}
+use Rattle.alp_history.proofs.Merged.{history}
+use Rattle.alp_history.proofs.Promises.{promises}
+use Rattle.alp_history.proofs.Wholes.{wholeness}
+use Rattle.alp_course.specs.Courses.{Course, Seat, IsSeat, seat_at, TellAll}
+use Rattle.alp_course.specs.Happens.{first_stand}
+use Rattle.alp_course.specs.Links.{server_log, log_of}
+use Rattle.alp_course.specs.Lone.{happenings_of}
+use Rattle.alp_course.specs.Turns.{own_in}
+use Rattle.alp_node.specs.Nodes as node
+use Rattle.alp_node.specs.Nodes.{start_in}
+use Rattle.alp_script.specs.Accepted.{servers_said}
+use Rattle.alp_script.specs.declared.numbered.NumberedLine.{NumberedLine}
+use Rattle.alp_vault.specs.declared.vault.Vault.{Ghosts}
+use Rattle.alp_cluster.specs.Runs.{HasEndedEarly}
+use Rattle.alp_cluster.specs.Servers.{IsOn, IsDone}
+use Rattle.alp_cluster.specs.Station.{standing, seat_for}
+use Rattle.alp_cluster.specs.Stations.{course_of}
+use Rattle.alp_cluster.specs.declared.fault.RunFault.{RunFault}
+use Rattle.alp_cluster.specs.declared.stations.Stations.{Stations}
+use Rattle.alp_top.specs.Volumes.{IsBare, IsRightAt, IsCutShort}
+use Rattle.alp_top.proofs.AloneLemmas.{own_recorded, IsLone, lone}
+use Rattle.alp_top.proofs.BegunLemmas.{begun_of_run}
+use Rattle.alp_top.proofs.ClientLemmas.{sent_alone, IsSaid, of_clients}
+use Rattle.alp_top.proofs.OpeningLemmas.{IsOpenedWell, sound_openings}
+use Rattle.alp_top.proofs.SeatedLemmas.{seat_on, numbered, proper_course, many}
+use Rattle.alp_top.proofs.SeveralLemmas.{all_seat}
+use Rattle.alp_top.proofs.SingleLemmas.{single, IsSingle, proper}
+
+module _ {V : Type 0} (G : Ghosts V) (lines : List NumberedLine) (f : RunFault) (left : Stations V) (h : HasEndedEarly G (servers_said lines) lines f left) (told : TellAll (course_of G h.last)) (few : servers_said lines ≤ 8) (bare : (n : ℕ) → IsSeat (course_of G h.last) n → IsBare (seat_at (course_of G h.last) n).opening) where
+  abbrev r : Course
+  r = course_of G h.last
+
+  abbrev handed : items.Handed
+  handed = handed_of (λ (k : ℕ). own_in k h.turns)
+
+  seat_right : (n : ℕ) → IsSeat r n → IsRightAt r n
+  seat_right n here =
+      let (x, at, m, same) = seat_on G h.last h.on n here in
+      let tells : IsTrue (G.tells m.node.kept.vault) = subst (λ (s : Seat). IsTrue s.tells) same (all_seat (λ (s : Seat). IsTrue s.tells) r.seats (n - 1) told (omega (arith, here.first, here.last))) in
+      record {
+        lawful = subst (λ (s : Seat). IsLawful s.opening s.journal) (sym same) (m.keeps.on.kept.right tells).lawful;
+        caused = subst (λ (s : Seat). Along next IsDone (opened s.opening) s.journal) (sym same) (m.keeps.on.answered tells);
+      }
+
+  seat_well : (n : ℕ) → IsSeat r n → IsOpenedWell (seat_at r n)
+  seat_well n here =
+      let (x, at, m, same) = seat_on G h.last h.on n here in
+      let tells : IsTrue (G.tells m.node.kept.vault) = subst (λ (s : Seat). IsTrue s.tells) same (all_seat (λ (s : Seat). IsTrue s.tells) r.seats (n - 1) told (omega (arith, here.first, here.last))) in
+      let right : node.IsRight (start_in G m.node) (G.held m.node.kept.vault) m.node = m.keeps.on.kept.right tells in
+      let servers : (start_in G m.node).servers ≡ servers_said lines = m.keeps.on.all ∙ m.count_is ∙ h.count in
+      subst IsOpenedWell (sym same) (record { few = omega (arith, servers, few); files = right.opening.parts.sound [] refl; sizes = right.opening.parts.sized; bare = subst (λ (s : Seat). IsBare s.opening) same (bare n here) })
+
+  several : IsOneThread (log_of r handed) × AreWhole (log_of r handed)
+  several =
+      let p : IsProper (log_of r handed) = proper_course h.ran.first r h.hs handed h.ran.is_first h.ran.course (numbered G h.last h.on) (λ n here. (seat_right n here).lawful) (sound_openings r handed (numbered G h.last h.on) seat_well) in
+      (history (log_of r handed) p, wholeness (log_of r handed) p)
+
+  seats_many : length r.seats ≡ servers_said lines
+  seats_many = many G h.last h.on ∙ h.count
+
+  alone : servers_said lines ≡ 1 → IsOneThread (log_of r handed) × AreWhole (log_of r handed) × ArePromisesKept (log_of r handed)
+  alone one_is =
+      let l : IsLone r h.hs = lone h.ran.first r h.hs h.ran.is_first h.ran.course (seats_many ∙ one_is) in
+      let seat : Seat = l.seat in
+      let here : IsSeat r 1 = record { first = omega arith; last = omega (arith, seats_many, one_is) } in
+      let sits : seat_at r 1 ≡ seat = ap (λ (ss : List Seat). seat_at (record { seats = ss; posts = r.posts }) 1) l.one in
+      let (y, there, m, same) = seat_on G h.last h.on 1 here in
+      let is : seat_for G y.is_fused y.ranks.items (standing m.node) ≡ seat = sym same ∙ sits in
+      let tells : IsTrue (G.tells m.node.kept.vault) = subst (λ (s : Seat). IsTrue s.tells) same (all_seat (λ (s : Seat). IsTrue s.tells) r.seats 0 told (omega (arith, seats_many, one_is))) in
+      let right : node.IsRight (start_in G m.node) (G.held m.node.kept.vault) m.node = m.keeps.on.kept.right tells in
+      let sound : node.IsSoundStart seat.opening = subst (λ (s : Seat). node.IsSoundStart s.opening) is right.opening in
+      let found : IsBare seat.opening = subst (λ (s : Seat). IsBare s.opening) sits (bare 1 here) in
+      let lawful : IsLawful seat.opening seat.journal = subst (λ (s : Seat). IsLawful s.opening s.journal) is right.lawful in
+      let number : seat.opening.server ≡ 1 = ap (λ (s : Seat). s.opening.server) (sym is) ∙ m.number_is in
+      let servers : seat.opening.servers ≡ 1 = ap (λ (s : Seat). s.opening.servers) (sym is) ∙ m.keeps.on.all ∙ m.count_is ∙ h.count ∙ one_is in
+      let as_read : logs.ServerLog = server_log seat in
+      let g : IsSingle as_read = record {
+        few = omega (arith, servers);
+        files = sound.parts.sound [] refl;
+        sizes = sound.parts.sized;
+        ready = found.ready;
+        decisions = found.decisions;
+        lawful = lawful;
+        own = own_recorded seat.tells (first_stand seat.opening) (happenings_of h.hs) seat.journal seat.stand l.recorded;
+        ranks = l.ranks;
+      } in
+      let said : IsSaid as_read handed h.turns = record {
+        server = number;
+        handed = λ k. refl;
+        tells = seat.tells;
+        first = first_stand seat.opening;
+        at_first = refl;
+        of_first = number;
+        happened = happenings_of h.hs;
+        last = seat.stand;
+        sent = sent_alone h.hs ∙ h.sent;
+        recorded = l.recorded;
+        begun = begun_of_run as_read.opening as_read.journal lawful;
+        numbered = λ k. ((h.said k).to 1).numbered;
+        seen = λ k. (h.said k).seen;
+        outcomes = λ k. (h.said k).outcomes;
+      } in
+      let same_log : single as_read handed ≡ log_of r handed = (λ i. record { servers = list_map server_log (sym l.one i); handed = handed }) in
+      let p : IsProper (single as_read handed) = proper as_read handed g in
+      subst (λ (q : logs.Log). IsOneThread q × AreWhole q × ArePromisesKept q) same_log (history (single as_read handed) p, wholeness (single as_read handed) p, promises (single as_read handed) p (of_clients as_read handed h.turns said))
+
+  pub cut_short : IsCutShort lines f r
+  cut_short = record {
+    first = h.ran.first;
+    begins = h.ran.is_first;
+    count = seats_many;
+    turns = h.turns;
+    happened = h.hs;
+    due = h.due;
+    course = h.ran.course;
+    sent = h.sent;
+    stopped = h.next_was;
+    ends = h.ends;
+    right = seat_right;
+    several = several;
+    alone = alone;
+  }

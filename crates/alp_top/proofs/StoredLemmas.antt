@@ -1,0 +1,101 @@
+-- what a server leaves on its disk
+use Rattle.std.specs.Prelude.{IsTrue, false}
+use Rattle.std.proofs.Common.{◌≡◌, ℕ, ◌≤◌, refl, sym, ◌∙◌, ap, subst, arith}
+use Rattle.std.specs.FinMap as map
+use Rattle.alp_base.specs.Notes.{Notes}
+use Rattle.alp_base.specs.declared.faults.Sizes.{Sizes}
+use Rattle.alp_disk.specs.declared.disk.Disk.{Ghosts}
+use Rattle.alp_files.specs.Apart.{AreSized}
+use Rattle.alp_files.specs.Cells.{Cells}
+use Rattle.alp_fields.specs.ClockNote.{AreClockNotes}
+use Rattle.alp_journal.specs.Account.{Account, state_of as account_state}
+use Rattle.alp_journal.specs.Opening.{Start, start_at}
+use Rattle.alp_journal.specs.State.{State}
+use Rattle.alp_journal.proofs.NoteLemmas.{none_ready, none_decided}
+use Rattle.alp_node.specs.Durable.{IsSaid}
+use Rattle.alp_node.specs.Nodes as node
+use Rattle.alp_node.specs.Nodes.{start_in}
+use Rattle.alp_node.specs.NodeStates.{NodeState}
+use Rattle.alp_store.specs.Holding.{Holds}
+use Rattle.alp_store.specs.Starts.{IsNew}
+use Rattle.alp_vault.specs.Vault.{IsSameVault}
+use Rattle.alp_vault.specs.Volumes.{AreServerNotes}
+use Rattle.alp_vault.specs.declared.vault.Vault.{Ghosts as VaultGhosts}
+use Rattle.alp_vault.proofs.VolumeLemmas.{alone_so_far}
+use Rattle.alp_cluster.specs.Servers.{IsOn, state_of}
+use Rattle.alp_top.specs.Disks.{IsStarted, IsGiven, notes_in}
+use Rattle.alp_top.specs.Volumes.{IsOpenedNew, IsOpenedOn, IsBare, IsSoundAlone, IsStored}
+use Rattle.alp_top.proofs.BeginLemmas.{holds_by}
+
+module _ {V D : Type 0} (G : VaultGhosts V) (g : Ghosts D) (sizes : Sizes) (number servers : ℕ) (n m : NodeState V) (v : V) (d e : D) (begun : IsStarted G g sizes number servers d n) (told : IsTrue (g.tells d)) (on : IsOn G m) (here : m.kept.server ≡ number)
+    (opening : m.opening ≡ n.opening) (telling : IsTrue (G.tells m.kept.vault)) where
+  pub same_start : start_in G m ≡ start_in G n
+  same_start = (λ i. node.start_by G ((here ∙ sym begun.number) i) (opening i).vault.value)
+
+  same_notes : notes_in G m ≡ notes_in G n
+  same_notes = ap (λ o. (G.held o.vault.value).notes) opening
+
+  right : node.IsRight (start_in G m) (G.held m.kept.vault) m
+  right = on.kept.right telling
+
+  -- it opened with nothing
+  pub bare_as : IsBare (start_in G m)
+  bare_as = subst IsBare (sym same_start) (begun.bare told)
+
+  -- its opening
+  pub opened_new : IsNew sizes (g.size d) (g.seen d) → IsOpenedNew sizes (start_in G m) (notes_in G m)
+  opened_new is = subst (λ (o : Start). IsOpenedNew sizes o (notes_in G m)) (sym same_start) (subst (λ (ns : Notes). IsOpenedNew sizes (start_in G n) ns) (sym same_notes) (begun.new told is))
+
+  pub opened_on : (IsNew sizes (g.size d) (g.seen d) → ⊥) → IsOpenedOn number servers (g.size d) (g.seen d) (start_in G m) (notes_in G m)
+  opened_on old =
+      subst (λ (o : Start). IsOpenedOn number servers (g.size d) (g.seen d) o (notes_in G m)) (sym same_start)
+      (subst (λ (ns : Notes). IsOpenedOn number servers (g.size d) (g.seen d) (start_in G n) ns) (sym same_notes) (begun.found told old))
+
+  pub started_as : start_in G m ≡ start_at number servers (start_in G m).sizes (start_in G m).cells (notes_in G m)
+  started_as = (let v0 = m.opening.vault.value in (λ i. start_at (here i) ((ap (λ o. G.servers o.vault.value) opening ∙ begun.on.all ∙ begun.count) i) (G.volume v0) (G.held v0).cells (G.held v0).notes))
+
+  -- what its vault holds
+  pub holds_said : (up : m.kept.is_down ≡ false) → IsSaid (state_of G m) (G.held m.kept.vault)
+  holds_said up = subst (λ (s : State). IsSaid s (G.held m.kept.vault)) (sym right.says) (record { cells = right.kept.cells up; notes = right.kept.notes up })
+
+  module _ (up : m.kept.is_down ≡ false) (same : IsSameVault G.tells G.volume G.server G.servers n.kept.vault v) (held : G.held v ≡ G.held m.kept.vault) (serves : IsTrue (G.serves v)) (back : IsGiven G g v e) where
+    its_server : G.server v ≡ number
+    its_server = same.number ∙ begun.on.kept.number ∙ begun.number
+
+    its_servers : G.servers v ≡ servers
+    its_servers = same.of_all ∙ begun.on.kept.all ∙ begun.count
+
+    its_volume : G.volume v ≡ (start_in G m).sizes
+    its_volume = same.sizes ∙ ap G.volume (sym begun.idle.opening) ∙ ap (λ o. G.volume o.vault.value) (sym opening)
+
+    tells : IsTrue (G.tells v)
+    tells = subst IsTrue (sym (same.telling ∙ begun.telling)) told
+
+    said : IsSaid (state_of G m) (G.held v)
+    said = subst (λ c. IsSaid (state_of G m) c) (sym held) (holds_said up)
+
+    sound_alone : 1 ≤ number → number ≤ servers → servers ≡ 1 → IsSoundAlone (start_in G m) (G.held v)
+    sound_alone first last one =
+        let first_is : number ≡ 1 = omega (arith, first, last, one) in
+        let as_server : (state_of G m).holder.server ≡ 1 = ap (λ (s : State). s.holder.server) right.says ∙ right.kept.server ∙ here ∙ first_is in
+        let as_servers : (state_of G m).servers ≡ 1 = ap (λ (s : State). s.servers) right.says ∙ right.kept.servers ∙ sym on.all ∙ ap (λ o. G.servers o.vault.value) opening ∙ begun.on.all ∙ begun.count ∙ one in
+        let format : AreServerNotes 1 1 (G.held v).notes = subst (λ (k : ℕ). AreServerNotes 1 k (G.held v).notes) as_servers (subst (λ (k : ℕ). AreServerNotes k (state_of G m).servers (G.held v).notes) as_server said.notes.format) in
+        let clock : AreClockNotes (G.held v).notes = alone_so_far (G.held v).notes format in
+        record {
+          clock = clock;
+          bare = record { ready = none_ready (G.held v).notes clock; decisions = none_decided (G.held v).notes clock };
+        }
+
+    pub stored : (P : Type 0) → 1 ≤ number → number ≤ servers → (P → G.faults v ≡ G.faults n.kept.vault) → IsStored g P number servers sizes (start_in G m) (notes_in G m) (state_of G m) d e
+    stored P first last unfailed = record {
+      new = opened_new;
+      found = opened_on;
+      held = G.held v;
+      finish = holds_by _ _ _ _ _ _ _ _ (g.seen e) (G.held v) its_server its_servers refl (ap (λ (z : Sizes). z.home) its_volume) (back.holds tells serves);
+      said = said;
+      files = (back.files tells serves).sound;
+      sized = subst (λ (c : Cells). AreSized (map.get c)) (sym (ap (λ c. c.cells) held ∙ right.kept.cells up)) right.kept.sized;
+      durable = back.only tells serves;
+      alone = sound_alone first last;
+      unfailed = λ p. back.faults ∙ unfailed p ∙ begun.faults;
+    }
