@@ -210,8 +210,8 @@ module _ (ns : List Need) (i : Intents) (h : AreWithin (Writes (held_by ns)) i) 
       let two : intents_from (intents_from dropped cut) (puts_of c.puts) ≡ i = sym (intents_from-append dropped cut (puts_of c.puts)) ∙ one in
       all_of_change (is_covered (held_by ns)) c
       ∙ (λ z. all_listed (λ f. is_covered (held_by ns) (Drop f)) c.drops (drops_covered c.drops no_intents (cut ++ puts_of c.puts) is) z
-          && (all_listed (λ (x : FileId × ℕ). is_covered (held_by ns) (Cut x.0 x.1)) c.cuts (cuts_covered c.cuts dropped c.puts one) z
-          && all_listed (λ (x : Key × Cell). is_covered (held_by ns) (Put x.0 x.1)) c.puts (puts_covered c.puts (intents_from dropped cut) two) z))
+      && (all_listed (λ (x : FileId × ℕ). is_covered (held_by ns) (Cut x.0 x.1)) c.cuts (cuts_covered c.cuts dropped c.puts one) z
+      && all_listed (λ (x : Key × Cell). is_covered (held_by ns) (Put x.0 x.1)) c.puts (puts_covered c.puts (intents_from dropped cut) two) z))
 
 -- ---- files of the server
 

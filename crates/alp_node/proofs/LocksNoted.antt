@@ -69,8 +69,7 @@ once_each (n ∷ ns) rs same = go (has_resource n.0 rs) refl same (λ f. once_ea
     go false e f more =
         let longer : length (rs ++ n.0 ∷ []) ≡ length rs + 1 = length-append rs (n.0 ∷ []) in
         let rest : AreNew (rs ++ n.0 ∷ []) ns = more (omega (arith, f, longer)) in
-        let both = behind rs n ns ns rest in
-        (
+        let both = behind rs n ns ns rest in (
           (
             e,
             ap (λ (b : Bool). cond {A = Option Mode} b (join_held (Some n.1) (held_by ns n.0)) (held_by ns n.0)) ((eq_by_cmp_equiv resources_total).refl n.0) ∙ ap (join_held (Some n.1)) (none_held n.0 ns both.0),

@@ -148,7 +148,6 @@ alive_buried client dead lives joins h = record {
 pub joins_later : (server epoch m n : ℕ) (js : Joins) → m ≤ n → AreJoinsHere server epoch m js → AreJoinsHere server epoch n js
 joins_later server epoch m n js more h = record { server = h.server; epoch = h.epoch; drawn = omega (arith, more, h.drawn); numbered = h.numbered; clients = h.clients; once = h.once; single = h.single; times = h.times }
 
-
 module _ {V : Type 0} (n : ℕ) (serves : Bool) (k : ServerState V) where
   -- a session begins
   pub hello_ready : (client : ℕ) (name : List ℕ) → client ≤ 16 → IsReady n serves k → IsReady (n + 1) serves (record k { sessions = with_session k.sessions client (record { who = name; last = 1; reply = reply.Welcome k.epoch }) })

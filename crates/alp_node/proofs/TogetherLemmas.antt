@@ -408,8 +408,7 @@ module _ {V : Type 0} (a : Account) (held : Contents) (k : ServerState V) (steps
   apart_from : (ns : List ReadyNote) → AmongNotes ns → are_joins_apart (joins_of ns) ≡ true → AreApart ns
   apart_from [] among once = tt
   apart_from (n ∷ ns) among once =
-      let both = and_parts (not (has_join n.join (joins_of ns))) (are_joins_apart (joins_of ns)) once in
-      (
+      let both = and_parts (not (has_join n.join (joins_of ns))) (are_joins_apart (joins_of ns)) once in (
         all_has (AreTwo n) ns (λ m has. two_notes n m (life_noted n (among n (inl refl))) (life_noted m (among m (inr has))) (apart_join n.join ns (not-true (has_join n.join (joins_of ns)) both.0) m has)),
         apart_from ns (λ m has. among m (inr has)) both.1,
       )

@@ -427,9 +427,12 @@ module _ {V : Type 0} (G : Ghosts V) (k : ServerState V) (from : ℕ) (j : JoinN
       kept_of : (a : Account) (h : IsAs a (G.held k.vault) k) → IsKeptOf (IsActive.alive (is_active a h)).life n.kept
       kept_of a h =
           let y : IsActive a = is_active a h in
-          record { held = λ r. n.held r ∙ ap (find resource_cmp r) locks_are ∙ sym (get-entries (held_of k.locks.held t) r) ∙ sym (y.alive.alike.held r); intents = n.intents ∙ y.alive.alike.intents;
+          record {
+            held = λ r. n.held r ∙ ap (find resource_cmp r) locks_are ∙ sym (get-entries (held_of k.locks.held t) r) ∙ sym (y.alive.alike.held r);
+            intents = n.intents ∙ y.alive.alike.intents;
             once = once_listed n.kept.locks (held_of k.locks.held t) (λ r. n.held r ∙ ap (find resource_cmp r) locks_are ∙ sym (get-entries (held_of k.locks.held t) r)) (n.count ∙ ap (λ (xs : List (Resource × Mode)). length xs) locks_are);
-            cells = n.cells ∙ y.alive.alike.counts.cells ∙ ap changed_by (sym (n.intents ∙ y.alive.alike.intents)) }
+            cells = n.cells ∙ y.alive.alike.counts.cells ∙ ap changed_by (sym (n.intents ∙ y.alive.alike.intents));
+          }
 
       written_notes : (a : Account) → IsAs a (G.held k.vault) k → (d : Contents) → IsWritten p.intents changes (G.held k.vault) d → AreNotesOf (state_deed (state_of a) (Readies j t (k.clock + 1))) a.ids.epoch d.notes
       written_notes a h d w =
