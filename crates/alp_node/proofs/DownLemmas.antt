@@ -1,5 +1,6 @@
 -- a server that fell, and its journal when it starts again
-use Rattle.std.specs.Prelude.{false, IsTrue, Some, slice_get}
+use Rattle.std.specs.Prelude.{false, IsTrue, Some, slice_get, true}
+use Rattle.std.specs.List.{list_all}
 use Rattle.std.proofs.Common.{◌≡◌, ◌⊎◌, inl, inr, ⊎_elim, ℕ, zero, suc, ◌+◌, ◌<◌, ◌≤◌, ◌^◌, List, [], ◌∷◌, ◌++◌, length, refl, sym, ◌∙◌, ap, subst, arith}
 use Rattle.alp_base.specs.Crashes.{Only, NoMore}
 use Rattle.alp_base.specs.Notes.{Notes, noted}
@@ -15,7 +16,6 @@ use Rattle.alp_journal.specs.declared.entry.Entry.{Entry}
 use Rattle.alp_journal.specs.declared.event.Event.TheVariants as event
 use Rattle.alp_journal.specs.Opening.{Start, ready_kept, decisions_kept}
 use Rattle.alp_journal.specs.Along.{state_after}
-use Rattle.alp_journal.specs.Deeds.{Deed}
 use Rattle.alp_journal.specs.State.{State, opened, state_deed}
 use Rattle.alp_journal.specs.Moves.{next}
 use Rattle.alp_journal.specs.Laws.{IsLawful, IsLawfulEntry}
@@ -47,6 +47,8 @@ use Rattle.alp_node.proofs.StartLemmas.{before_less}
 use Rattle.alp_node.proofs.StartMade.{put_back}
 use Rattle.alp_node.specs.SoundLives.{HasSoundLives}
 use Rattle.alp_node.proofs.SoundLives.{journal_sound}
+use Rattle.alp_node.specs.NoMore.{brings_no_more}
+use Rattle.alp_node.proofs.NoMoreLemmas.{no_more_itself, tried_less}
 
 -- ---- a server falls
 
@@ -280,13 +282,13 @@ module _ {V : Type 0} (G : Ghosts V) (d : DownState V) (n : NodeState V) (clock 
     crash = b.crash;
   }
 
--- what a crash leaves of a server that did not go down as it wrote goes together
-left_together : (a : Account) (server servers last : ℕ) (sizes : Sizes) → IsPast a server servers last sizes → a.pending ≡ [] → (c : Contents) → IsLeftOf (account_state a) c → (here all : ℕ) → here ≡ server → all ≡ servers → AreTogether here all (last + 1) sizes c.cells c.notes
+-- what a crash leaves goes together, of a server that did not go down as it wrote a vote, a decision or what was decided
+left_together : (a : Account) (server servers last : ℕ) (sizes : Sizes) → IsPast a server servers last sizes → list_all brings_no_more a.pending ≡ true → (c : Contents) → IsLeftOf (account_state a) c → (here all : ℕ) → here ≡ server → all ≡ servers → AreTogether here all (last + 1) sizes c.cells c.notes
 left_together a server servers last sizes past none c left here all is of_all =
     subst (λ (n : ℕ). AreTogether n all (last + 1) sizes c.cells c.notes) (past.number ∙ sym is)
     (subst (λ (n : ℕ). AreTogether a.holder.server n (last + 1) sizes c.cells c.notes) (past.among ∙ sym of_all)
     (subst (λ (n : ℕ). AreTogether a.holder.server a.servers (n + 1) sizes c.cells c.notes) past.now
-    (subst (λ (z : Sizes). AreTogether a.holder.server a.servers (a.ids.epoch + 1) z c.cells c.notes) past.volume (past.together left.epoch c late stored))))
+    (subst (λ (z : Sizes). AreTogether a.holder.server a.servers (a.ids.epoch + 1) z c.cells c.notes) past.volume (one left.either))))
   where
     late : a.ids.epoch ≤ left.epoch
     late = go left.near
@@ -295,11 +297,9 @@ left_together a server servers last sizes past none c left here all is of_all =
         go (inl same) = omega (arith, same)
         go (inr next) = omega (arith, next)
 
-    stored : IsStoredBy left.epoch (account_state a) c
-    stored = elim left.either [
-      | inl one ↦ one
-      | inr two ↦ subst (λ (ds : List Deed). IsStoredBy left.epoch (state_after state_deed (account_state a) ds) c) none two
-    ]
+    one : IsStoredBy left.epoch (account_state a) c ⊎ IsStoredBy left.epoch (state_after state_deed (account_state a) a.pending) c → AreTogether a.holder.server a.servers (a.ids.epoch + 1) a.sizes c.cells c.notes
+    one (inl x) = past.together left.epoch (account_state a) c late (no_more_itself (account_state a)) x
+    one (inr x) = past.together left.epoch (state_after state_deed (account_state a) a.pending) c late (tried_less a past.quiet none) x
 
 -- a vault that is handed back may be left with no more
 handed_no_more : {V : Type 0} (G : Ghosts V) (old new : V) (P : Contents → Type 0) → IsHandedBack G old new P → IsTrue (G.tells old) → NoMore P (G.may_leave new)
@@ -359,7 +359,7 @@ module _ {V : Type 0} (G : Ghosts V) (d : DownState V) (new : V) (journal : List
         let r : IsPastRight (start_of G d) (G.volume d.vault) d = h.right told in
         let bad = (subst (HasRaiseCause G d.epoch d.vault new) e b.cause).1 told in
         let left : IsLeftOf (account_state r.state) bad.0 = subst (λ (z : State). IsLeftOf z bad.0) r.says (h.left told bad.0 bad.1) in
-        bad.2.told told (left_together r.state d.server d.servers d.epoch (G.volume d.vault) r.past (sym (ap (λ (z : State). z.pending) r.says) ∙ none) bad.0 left (G.server d.vault) (G.servers d.vault) h.number h.all)
+        bad.2.told told (left_together r.state d.server d.servers d.epoch (G.volume d.vault) r.past (ap (λ (z : State). list_all brings_no_more z.pending) (sym r.says) ∙ none) bad.0 left (G.server d.vault) (G.servers d.vault) h.number h.all)
         );
     back = b.back;
   }

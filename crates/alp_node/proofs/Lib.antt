@@ -144,3 +144,4 @@ pub mod EditsNoted
 pub mod LocksNoted
 pub mod TogetherLemmas
 pub mod HeldHere
+pub mod NoMoreLemmas

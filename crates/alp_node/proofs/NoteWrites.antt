@@ -154,7 +154,7 @@ module _ (s : State) (j : JoinNo) (t : TransId) (client ts n : ℕ) (c : Cause) 
   abbrev aborted_state : State
   aborted_state = state_deed s (Aborts j t n c)
 
-  aborted_one : IsOneOn s (state_deed s (Aborts j t n c)) j t
+  pub aborted_one : IsOneOn s (state_deed s (Aborts j t n c)) j t
   aborted_one = record {
     phases = λ i away. ap (λ (b : Bool). cond {A = Phase} b (aborted t (s.phases i)) (s.phases i)) away;
     lives = λ u away. ap (λ (b : Bool). cond {A = Option Life} b (lapsed j (s.holder.lives u)) (s.holder.lives u)) away;
@@ -162,7 +162,7 @@ module _ (s : State) (j : JoinNo) (t : TransId) (client ts n : ℕ) (c : Cause) 
     server = refl;
   }
 
-  aborted_over : is_ready ((state_deed s (Aborts j t n c)).phases j) ≡ false
+  pub aborted_over : is_ready ((state_deed s (Aborts j t n c)).phases j) ≡ false
   aborted_over =
       ap (λ (b : Bool). is_ready (cond {A = Phase} b (aborted t (s.phases j)) (s.phases j))) (same_join-itself j) ∙ ap (λ (p : Phase). is_ready (aborted t p)) ready ∙ ap (λ (b : Bool). is_ready (cond {A = Phase} b Over (Ready t client ts))) (same_trans-itself t)
 

@@ -62,7 +62,7 @@ past_of a held k sizes h sizes_same steps serves ready sound = record {
   born = subst (λ (m : ℕ). SeesNoneToCome a.holder.server a.ids.epoch m (map.get a.holder.cells)) (sym h.files) h.born;
   earlier = h.earlier;
   quiet = h.quiet;
-  together = λ near c late stored. keeps_together a held k steps serves h ready sound near late c stored;
+  together = λ near m c late less stored. keeps_together a held k steps serves h ready sound near late m less c stored;
 }
 
 -- ---- what a restart may find

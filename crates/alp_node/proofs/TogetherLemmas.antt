@@ -39,7 +39,7 @@ use Rattle.alp_files.proofs.SumLemmas.{sum_of as sum_in}
 use Rattle.alp_modes.specs.declared.Mode.{Mode}
 use Rattle.alp_locks.specs.Tables.{Holders, held_of, holding}
 use Rattle.alp_vault.specs.Contents.{Contents}
-use Rattle.alp_vault.specs.Volumes.{changed_cells}
+use Rattle.alp_vault.specs.Volumes.{changed_cells, AreServerNotes}
 use Rattle.alp_trans.specs.Counting.{AreCountsOf, with_intents}
 use Rattle.alp_calls.specs.Parts.{AllFit, IsPart}
 use Rattle.alp_calls.proofs.IntentCounts.{with_all}
@@ -90,6 +90,8 @@ use Rattle.alp_node.proofs.MapLemmas.{tied_same}
 use Rattle.alp_node.proofs.PairedLemmas.{within, counted_list, counted_there, joined_list, joined_there, length_joined}
 use Rattle.alp_node.proofs.RestLemmas.{standing_counts}
 use Rattle.alp_node.proofs.TakeLemmas.{has_behind, HaveOwn, sum_less, log_less}
+use Rattle.alp_journal.specs.State.{State}
+use Rattle.alp_node.specs.NoMore.{IsNoMore}
 
 -- ---- ids
 
@@ -188,7 +190,7 @@ same_map_of m es fs e = sym (with_all es m) ∙ ap (λ (i : Intents). with_inten
 -- ---- all of it
 
 module _ {V : Type 0} (a : Account) (held : Contents) (k : ServerState V) (steps : ℕ) (serves : Bool) (h : IsAs a held k) (r : IsReady steps serves k) (sound : HasSoundLives a.holder)
-    (near : ℕ) (late : a.ids.epoch ≤ near) (c : Contents) (stored : IsStoredBy near (state_of a) c) where
+    (near : ℕ) (late : a.ids.epoch ≤ near) (left : State) (less : IsNoMore (state_of a) left) (c : Contents) (stored : IsStoredBy near left c) where
   abbrev notes : Notes
   notes = c.notes
 
@@ -201,7 +203,7 @@ module _ {V : Type 0} (a : Account) (held : Contents) (k : ServerState V) (steps
   abbrev cells : Cells
   cells = a.holder.cells
 
-  said : AreNotesOf (state_of a) near c.notes
+  said : AreNotesOf left near c.notes
   said = stored.notes
 
   stands : Stands a
@@ -247,12 +249,14 @@ module _ {V : Type 0} (a : Account) (held : Contents) (k : ServerState V) (steps
 
   part_of : (j : JoinNo) (p : ReadyPart) → ready_name.Fits j → ready_at notes j ≡ Some p → IsOfPart j p
   part_of j p fits at =
-      let nk : IsNoteKept a.holder.lives (a.phases j) p = note_kept a.holder.lives (a.phases j) p (subst (IsReadyNote a.holder.lives (a.phases j)) at (said.ready j fits)) in
-      let v = voted_life j p.trans p.client p.ts nk.life nk.phase_is nk.live in
-      let q = kept_there a.holder.cells k.locks.held (a.locked p.trans) p.trans (map.get k.lives p.trans) (a.holder.lives p.trans) nk.life nk.live (h.lives p.trans) in
+      let nk : IsNoteKept left.holder.lives (left.phases j) p = note_kept left.holder.lives (left.phases j) p (subst (IsReadyNote left.holder.lives (left.phases j)) at (said.ready j fits)) in
+      let was = less.ready j p.trans p.client p.ts nk.phase_is in
+      let there : a.holder.lives p.trans ≡ Some nk.life = sym was.1 ∙ nk.live in
+      let v = voted_life j p.trans p.client p.ts nk.life was.0 there in
+      let q = kept_there a.holder.cells k.locks.held (a.locked p.trans) p.trans (map.get k.lives p.trans) (a.holder.lives p.trans) nk.life there (h.lives p.trans) in
       record {
         life = nk.life;
-        there = nk.live;
+        there = there;
         its = v.1;
         client = v.0;
         locked = λ i x. nk.kept.held x i;
@@ -261,13 +265,13 @@ module _ {V : Type 0} (a : Account) (held : Contents) (k : ServerState V) (steps
         at = q.1;
         alike = q.2;
         joined = record { join = j; trans = p.trans; client = p.client; stage = stage.Ready p.ts };
-        found = h.joins.live j ∙ ap (live_at j) nk.phase_is;
+        found = h.joins.live j ∙ ap (live_at j) was.0;
         trans = refl;
         voted = refl;
         client_is = refl;
         once = nk.kept.once;
         cells = nk.kept.cells;
-        drawn = (subst (IsPhaseOf a.servers a.holder.server a.ids.epoch a.ids.joins a.joined j) nk.phase_is (stands.phases j)).0.0;
+        drawn = (subst (IsPhaseOf a.servers a.holder.server a.ids.epoch a.ids.joins a.joined j) was.0 (stands.phases j)).0.0;
       }
 
   module _ (j : JoinNo) (p : ReadyPart) (x : IsOfPart j p) where
@@ -422,14 +426,14 @@ module _ {V : Type 0} (a : Account) (held : Contents) (k : ServerState V) (steps
   low_epoch = (let same : (clock_kept c.notes).epoch ≡ near = ap (λ (z : ClockNote). z.epoch) said.clock in omega (arith, same, late))
 
   standing_at : (d : DecisionNote) → IsDecisionAt c.notes d → IsStanding a.servers a.holder.server a.ids.epoch a.ids.transactions a.begun d.stamp.trans (a.fates d.stamp.trans)
-  standing_at d s = standing_of a.servers a.holder.server a.ids.epoch a.ids.transactions a.begun d.stamp.trans (a.fates d.stamp.trans) s.decision (sym (said.decided d.stamp.trans s.named) ∙ s.at) (stands.fates d.stamp.trans)
+  standing_at d s = standing_of a.servers a.holder.server a.ids.epoch a.ids.transactions a.begun d.stamp.trans (a.fates d.stamp.trans) s.decision (less.decided d.stamp.trans s.decision (sym (said.decided d.stamp.trans s.named) ∙ s.at)) (stands.fates d.stamp.trans)
 
   decision_good : (d : DecisionNote) → Has d (decisions_kept c.notes) → is_decided_by (clock_before (a.ids.epoch + 1) c.notes) d.stamp ≡ true
   decision_good d has =
       let s : IsDecisionAt c.notes d = decision_stands c.notes d has in
       let stands_as = standing_at d s in
-      let time : s.decision.ts ≤ a.holder.kept = said.timely d.stamp.trans s.decision (sym (said.decided d.stamp.trans s.named) ∙ s.at) in
-      let clock : (clock_kept c.notes).clock ≡ a.holder.kept = ap (λ (z : ClockNote). z.clock) said.clock in
+      let time : s.decision.ts ≤ left.holder.kept = said.timely d.stamp.trans s.decision (sym (said.decided d.stamp.trans s.named) ∙ s.at) in
+      let clock : (clock_kept c.notes).clock ≡ left.holder.kept = ap (λ (z : ClockNote). z.clock) said.clock in
       let early : d.stamp.ts ≤ (clock_kept c.notes).clock = omega (arith, time, clock, s.ts) in
       ap (λ (e : ℕ). is_drawn_by e d.stamp.trans.epoch d.stamp.trans.counter && nat_le d.stamp.ts (clock_kept c.notes).clock) low_epoch
       ∙ (λ i. drawn_by a.holder.server a.ids.epoch a.ids.transactions d.stamp.trans.server d.stamp.trans.epoch d.stamp.trans.counter stands_as.drawn i && le-leb d.stamp.ts (clock_kept c.notes).clock early i)
@@ -529,10 +533,10 @@ module _ {V : Type 0} (a : Account) (held : Contents) (k : ServerState V) (steps
 
   pub keeps_together : AreTogether a.holder.server a.servers (a.ids.epoch + 1) a.sizes c.cells c.notes
   keeps_together =
-      subst (λ (z : Cells). AreTogether a.holder.server a.servers (a.ids.epoch + 1) a.sizes z c.notes) (sym stored.cells)
+      subst (λ (z : Cells). AreTogether a.holder.server a.servers (a.ids.epoch + 1) a.sizes z c.notes) (sym (stored.cells ∙ less.cells))
       (record {
         notes_alone = record {
-          format = said.format;
+          format = subst (λ (n : ℕ). AreServerNotes n a.servers c.notes) less.server (subst (λ (n : ℕ). AreServerNotes left.holder.server n c.notes) less.among said.format);
           parts = subst (λ (e : ℕ). AllByRecursion (IsPartNote a.holder.server e) (ready_kept c.notes)) (sym low_epoch) (all_has (IsPartNote a.holder.server a.ids.epoch) (ready_kept c.notes) note_good);
           decided = all_listed (λ (d : DecisionNote). is_decided_by (clock_before (a.ids.epoch + 1) c.notes) d.stamp) (decisions_kept c.notes)
               (all_has (λ (d : DecisionNote). is_decided_by (clock_before (a.ids.epoch + 1) c.notes) d.stamp ≡ true) (decisions_kept c.notes) decision_good);
