@@ -10,9 +10,15 @@ use Rattle.alp_journal.specs.declared.act.Act.{Act}
 use Rattle.alp_journal.specs.declared.entry.Entry.{Entry}
 use Rattle.alp_journal.specs.declared.event.Event.TheVariants as event
 use Rattle.alp_node.specs.NodeStates.{NodeState}
-use Rattle.alp_node.specs.Sessions.{session_at}
+use Rattle.alp_node.specs.Sessions.{no_sessions, session_at}
 use Rattle.alp_journal.specs.Desk.{Session}
 use Rattle.alp_acknowledge.specs.declared.caller.Caller.{Caller}
+
+-- a server that did nothing yet: it has no entry and no session, and it is up
+pub record IsFresh {V : Type 0} (n : NodeState V) : Type 0 where
+  pub journal : n.journal ≡ []
+  pub sessions : n.kept.sessions ≡ no_sessions
+  pub up : n.kept.is_down ≡ false
 
 -- the session has come to this call
 abbrev pub HasComeTo : ℕ → Option Session → Type 0

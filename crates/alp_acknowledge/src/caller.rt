@@ -1,9 +1,8 @@
 //! A client with its session, which asks one call after the other.
 ghost use Rattle.std.specs.Prelude.{◌≡◌, ◌≤◌, [], IfOk, OnOk, false};
-ghost use Rattle.alp_node.specs.Nodes.{IsNew};
 ghost use Rattle.alp_node.specs.Served.{IsTurnCall};
 ghost use Rattle.alp_node.specs.Turns.{TellsUpTo};
-ghost use Rattle.alp_acknowledge.specs.Turns.{InStep, HasAsked, HasCommitted};
+ghost use Rattle.alp_acknowledge.specs.Turns.{IsFresh, InStep, HasAsked, HasCommitted};
 
 use crate::ServeFault;
 use alp_base::{Name, Stamp, TransId};
@@ -43,7 +42,7 @@ pub struct Caller<V: Vault> {
 impl<V: Vault> Caller<V> {
     /// Greets a server that did nothing yet.
     pub fn greet(alloc: Global, node: Node<V>) -> Result<Caller<V>, ServeFault>
-        requires { IsNew V.volume 1 node }
+        requires { IsFresh node }
         ensures { IfOk result InStep }
     {
         let mut node = node;

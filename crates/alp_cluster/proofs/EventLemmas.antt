@@ -10,7 +10,7 @@ use Rattle.alp_course.specs.Courses.{Seat, at}
 use Rattle.alp_course.specs.Happens.{Happening, sent_it, timed_out, ticked, forced, stop_set, restarted, lifts, finds, Stand, ComesTo, Happens}
 use Rattle.alp_course.specs.Languages.{Just}
 use Rattle.alp_cluster.specs.Fills.{MakesEntry}
-use Rattle.alp_cluster.specs.Servers.{StartsAgain}
+use Rattle.alp_cluster.specs.Servers.{HasStopSet, StartsAgain}
 use Rattle.alp_cluster.specs.Station.{standing, WentBy}
 use Rattle.alp_cluster.specs.Stations.{AreOn, IsOneOf, AreLater, StartsAgainAt, Crashes, Go, Did, IsOfEvent}
 use Rattle.alp_cluster.specs.declared.station.Station.{Station}
@@ -52,8 +52,11 @@ module _ {V : Type 0} (G : Ghosts V) (s after : Stations V) (on : AreOn G s) (se
       (go_one G (at server h) s after (later_then G s after on server here x y there items posts n stood 0 Makes w)
       (at_then G s after on server here x y there items posts n stood 0 Makes w (λ z es v. Happens z.tells z.stand h es v) (λ es v made. event_happens h e is (G.tells n.kept.vault) _ es v made)) (no_crash G server s after h e is))
 
-  pub stop_did : (calls : ℕ) → WentBy G 0 (λ w es v. Happens (G.tells n.kept.vault) w (stop_set calls) es v) x y n → Did G (Just (at server (stop_set calls) ∷ [])) s after
-  stop_did calls w = did_just G (at server (stop_set calls)) s after (goes_on (stop_set calls) w tt)
+  pub stop_did : (calls : ℕ) → WentBy G 0 (λ w es v. Happens (G.tells n.kept.vault) w (stop_set calls) es v) x y n → (m : NodeState V) × (y.server ≡ standing m) × HasStopSet G calls n m → Did G (Just (at server (stop_set calls) ∷ [])) s after
+  stop_did calls w sets =
+      let (m, stands, set) = sets in
+      did_just G (at server (stop_set calls)) s after
+      (goes_on (stop_set calls) w (record { stood_node = n; set_node = m; was = x; is = y; there = there; stood = stood; here = now_there G s after on server here x y there items; stands = stands; set = set }))
 
   pub lift_did : (down : Bool) → WentBy G 0 (λ w es v. Happens (G.tells n.kept.vault) w (lifts down) es v) x y n → Did G (Just (at server (lifts down) ∷ [])) s after
   lift_did down w = did_just G (at server (lifts down)) s after (goes_on (lifts down) w tt)

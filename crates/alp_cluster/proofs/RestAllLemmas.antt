@@ -1,7 +1,7 @@
 -- Behind a run that was settled all servers are at rest.
 use Rattle.std.specs.Prelude.{IsTrue, map as list_map, slice_get}
 use Rattle.std.specs.List.{AllByRecursion}
-use Rattle.std.proofs.Common.{inl, inr, ◌≡◌, ℕ, ◌+◌, ◌-◌, ◌<◌, ◌≤◌, List, [], ◌∷◌, ◌++◌, length, get_or, refl, sym, ◌∙◌, ap, subst, arith}
+use Rattle.std.proofs.Common.{inl, inr, ◌≡◌, ℕ, suc, ◌+◌, ◌-◌, ◌<◌, ◌≤◌, List, [], ◌∷◌, ◌++◌, length, get_or, refl, sym, ◌∙◌, ap, subst, arith}
 use Rattle.std.proofs.lemmas.List.{length-map}
 use Rattle.alp_journal.specs.Account.{Account, state_of as account_state, Stands}
 use Rattle.alp_journal.specs.Answered.{IsAnswered}
@@ -36,7 +36,7 @@ use Rattle.alp_cluster.proofs.SweepLemmas.{is_there}
 in_seats : (x : logs.ServerLog) (ss : List Seat) → IsIn x (list_map server_log ss) → (i : ℕ) × (i < length ss) × (x ≡ server_log (get_or ss i no_seat))
 in_seats x [] h = absurd h
 in_seats x (s ∷ ss) (inl is) = (0, omega arith, is)
-in_seats x (s ∷ ss) (inr h) = (let (i, less, is) = in_seats x ss h in (i + 1, omega (arith, less), is))
+in_seats x (s ∷ ss) (inr h) = (let (i, less, is) = in_seats x ss h in (suc i, omega (arith, less), is))
 
 different : (r : Course) (handed : Handed) → AreNumbered 1 r.seats → logs.AreDifferent (log_of r handed)
 different r handed h x i =
@@ -92,11 +92,11 @@ module _ {V : Type 0} (G : Ghosts V) (z : Stations V) (on : AreOn G z) where
       let facts : (k : ℕ) → IsSeat c k → IsRightSeat (length c.seats) (seat_at c k) = (λ k here. right_seat k here (each_tells c tells k here)) in
       let word : IsSettling (length via.mid.seats) behind = subst (λ (k : ℕ). IsSettling k behind) (sym count ∙ sym all ∙ many) settles in
       let well : IsWellRun c handed = record {
-          proper = record { different = different c handed numbered; sound = sound; lawful = all_lawful c handed numbered (λ k here. (facts k here).lawful); linked = linking first c hs handed begin course };
-          answered = λ k here. (facts k here).answered;
-          tells = tells;
-          spelled = spelled;
-          among = λ k here. (facts k here).among;
-          account = λ k here. (facts k here).account;
-        } in
+        proper = record { different = different c handed numbered; sound = sound; lawful = all_lawful c handed numbered (λ k here. (facts k here).lawful); linked = linking first c hs handed begin course };
+        answered = λ k here. (facts k here).answered;
+        tells = tells;
+        spelled = spelled;
+        among = λ k here. (facts k here).among;
+        account = λ k here. (facts k here).account;
+      } in
       resting first via.mid c before behind handed begin via.first word via.second well n s

@@ -1,6 +1,7 @@
 -- A server of a run, up or down, on a disk that lines may stop.
 use Rattle.std.specs.Prelude.{◌≡◌, ◌≢◌, ℕ, ◌≤◌, ◌||◌, Bool, true, false, IsTrue, List, [], ◌∷◌, ◌++◌, length, Option, None, Some, is_some, Result, Ok, Err}
 use Rattle.std.specs.List.{list_any}
+use Rattle.alp_base.specs.Allowances.{Sets}
 use Rattle.alp_base.specs.Causes.{Rose}
 use Rattle.alp_base.specs.declared.allowance.Allowance.TheVariants.{Free}
 use Rattle.alp_base.specs.declared.faults.VaultFault.{VaultFault}
@@ -217,13 +218,14 @@ abbrev pub HasTimed : {V : Type 0} → Ghosts V → (old new : NodeState V) → 
 HasTimed G old new None = new ≡ old
 HasTimed G old new (Some t) = HasComeTo G old new (event.Timeout t)
 
--- its disk passes so many more changing calls, where it is up, and nothing else changed
+-- its disk passes so many more changing calls, where it is up, unless it ignores numbers, and nothing else changed
 pub record HasStopSet {V : Type 0} (G : Ghosts V) (calls : ℕ) (old new : NodeState V) : Type 0 where
   pub kept : IsConsistent G new
   pub same : IsSameVault G.tells G.volume G.server G.servers old.kept.vault new.kept.vault
   pub faults : G.faults new.kept.vault ≡ G.faults old.kept.vault
   pub rest : new ≡ record old { kept = record old.kept { vault = new.kept.vault } }
   pub down : old.kept.is_down ≡ true → new ≡ old
+  pub allowance : old.kept.is_down ≡ false → Sets (Some calls) (G.allowance old.kept.vault) (G.allowance new.kept.vault)
 
 -- nobody stops its disk any more, and nothing else changed
 pub record IsLifted {V : Type 0} (G : Ghosts V) (old new : NodeState V) : Type 0 where

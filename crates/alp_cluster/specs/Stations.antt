@@ -12,12 +12,12 @@ use Rattle.alp_posts.specs.Post.{Post, post_of}
 use Rattle.alp_posts.specs.Posts.{AreServers, Fits, post_at}
 use Rattle.alp_vault.specs.declared.vault.Vault.{Ghosts}
 use Rattle.alp_course.specs.Courses.{Course, seat_at, Occurrence, at, Occurs}
-use Rattle.alp_course.specs.Happens.{Happening, timed_out, ticked, forced, restarted}
+use Rattle.alp_course.specs.Happens.{Happening, timed_out, ticked, forced, stop_set, restarted}
 use Rattle.alp_course.specs.Languages.{Language}
 use Rattle.alp_course.specs.Plays.{Due, IsCut}
 use Rattle.alp_cluster.specs.Come.{Come, IsReached}
 use Rattle.alp_cluster.specs.Fills.{IsEndFor}
-use Rattle.alp_cluster.specs.Servers.{HasGoneBy, StartsAgain}
+use Rattle.alp_cluster.specs.Servers.{HasGoneBy, HasStopSet, StartsAgain}
 use Rattle.alp_cluster.specs.Station.{standing, HasVault, seat_of, Keeps, EndsHere}
 use Rattle.alp_cluster.specs.declared.fault.RunFault.{RunFault}
 use Rattle.alp_cluster.specs.declared.fault.RunFault.TheVariants as fault
@@ -103,9 +103,22 @@ pub record StartsAgainAt {V : Type 0} (G : Ghosts V) (number pick : ℕ) (before
   pub stands : is.server ≡ standing started
   pub again : StartsAgain G pick fell started
 
--- what a restart leaves of the disk of its server
+-- The disk of the server of this number was let pass so many more changing calls.
+pub record StopsAt {V : Type 0} (G : Ghosts V) (number calls : ℕ) (before after : Stations V) : Type 0 where
+  pub stood_node : NodeState V
+  pub set_node : NodeState V
+  pub was : Station V
+  pub is : Station V
+  pub there : slice_get before.all.items (number - 1) ≡ Some was
+  pub stood : was.server ≡ standing stood_node
+  pub here : slice_get after.all.items (number - 1) ≡ Some is
+  pub stands : is.server ≡ standing set_node
+  pub set : HasStopSet G calls stood_node set_node
+
+-- what a restart leaves of the disk of its server, and for how long a line lets it go on
 abbrev pub Crashes : {V : Type 0} → Ghosts V → Occurrence → (before after : Stations V) → Type 0
 Crashes G (at n (restarted pick)) before after = StartsAgainAt G n pick before after
+Crashes G (at n (stop_set calls)) before after = StopsAt G n calls before after
 Crashes G x before after = Unit {0}
 
 -- all this occurred at them, one after the other

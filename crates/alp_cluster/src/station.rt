@@ -12,7 +12,7 @@ ghost use Rattle.alp_cluster.specs.declared.fault.RunFault.TheVariants as run_fa
 ghost use Rattle.alp_cluster.specs.declared.server.Server.TheVariants.{Fallen};
 ghost use Rattle.alp_cluster.specs.Exchanges.{IsHanded};
 ghost use Rattle.alp_cluster.specs.Fills.{OnEnd};
-ghost use Rattle.alp_cluster.specs.Servers.{IsOn, HasNoRoom, HasComeTo, OnFull, StartsAgain, StaysDown};
+ghost use Rattle.alp_cluster.specs.Servers.{IsOn, HasNoRoom, HasComeTo, OnFull, HasStopSet, StartsAgain, StaysDown};
 ghost use Rattle.alp_cluster.specs.Station.{standing, HasVault, Keeps, WentBy, WasHanded, LeavesVault, IsStill, EndsHere};
 
 use crate::exchange::{Handed, hand};
@@ -182,6 +182,7 @@ impl<V: Vault> Station<V> {
         requires stands { (n : NodeState V) × Keeps V.Vault self.old n }
         ensures gone { LeavesVault {T = Unit {0}} V.Vault ⊥ self.old self.new (Ok tt) }
         ensures went { (n : NodeState V) → Keeps V.Vault self.old n → (tells : Bool) → WentBy V.Vault 0 (λ w es v. Happens tells w (stop_set calls) es v) self.old self.new n }
+        ensures sets { (n : NodeState V) → Keeps V.Vault self.old n → (m : NodeState V) × (self.new.server ≡ standing m) × HasStopSet V.Vault calls n m }
     {
         match &mut self.server {
             Some(Server::Up(node)) => {

@@ -20,7 +20,7 @@ use alp_base::{OutOfMemory, TransId};
 use std::alloc::Global;
 
 /// The transactions of a server: what became of those that began in this epoch, and the decisions of older epochs that
-/// parts on other servers are still to apply. What it does costs what it is about, and a tick costs what is not settled.
+/// parts on other servers are still to apply.
 #[derive(Drop)]
 pub struct Coordinator {
     pub(crate) alloc: Global,

@@ -1,4 +1,5 @@
-//! A server of several clients over any vault: it answers their calls under locks, and writes its journal.
+//! A server of several clients over any vault, one of one to eight: it answers their calls under locks, and the messages of the others
+//! about transactions that run on several, and writes its journal.
 #![tactic(auto)]
 
 mod answer;

@@ -32,8 +32,8 @@ use std::marker::Model;
 /// So many entries the steps of a server make at most. A restart adds its entry at any count.
 const MOST_ENTRIES: usize = 65_536;
 
-/// A server: what it was started on, what it keeps, and what it did. Its journal is lawful, each entry has its cause, and its
-/// vault and tables hold what the journal says.
+/// A server: what it was started on, what it keeps, and what it did. Of a vault that tells what it holds, its journal is lawful, each
+/// entry has its cause, and its vault and tables hold what the journal says.
 #[derive(Drop)]
 pub struct Node<V: Vault> {
     pub(super) opening: Opened<V>,
@@ -63,8 +63,8 @@ impl<V: Vault> Node<V> {
     /// Answers an event in one step, with one entry more of the journal. No reply is silence.
     ///
     /// A step in which the vault fails or is stopped takes the server down. From then on it answers that it is down, and
-    /// makes no entry. Where its journal is full it says so, and makes no entry. Want of memory leaves the server as its journal
-    /// says, with no new entry.
+    /// makes no entry. Where its journal is full it says so, and makes no entry. Want of memory makes none either, and leaves the
+    /// vault, the sessions and the clock as they were; of a vault that tells, all is as the journal says.
     ///
     /// A call is answered by what it is among those of its client: a first greeting begins a session, the next call is performed,
     /// a repeat of the last one gets the same reply again, and one of no session that stands here in its epoch is told the
@@ -149,7 +149,7 @@ impl<V: Vault> Node<V> {
         self.kept.coordinator.count()
     }
 
-    /// The least transaction that runs here, or has a part here that did not vote, if there is one.
+    /// Of a vault that tells, the least transaction that runs here, or has a part here that did not vote, if there is one.
     pub fn open_part(&self) -> Option<TransId>
         ensures { IsTrue (V.tells self.now.kept.vault) → IsLeastOpen (state_of (start_in V.Vault self.now) self.now.journal) result }
     {
@@ -157,7 +157,8 @@ impl<V: Vault> Node<V> {
         lesser(own, self.kept.joins.least_open())
     }
 
-    /// Whether no part lives here, none is ready, and no decision stands.
+    /// Of a vault that tells, whether no part is at work here, none is ready, and no decision stands. A part that asks to be let in is
+    /// passed over.
     pub fn is_settled(&self) -> bool
         ensures { IsTrue (V.tells self.now.kept.vault) → IsRestOf result (state_of (start_in V.Vault self.now) self.now.journal) }
     {

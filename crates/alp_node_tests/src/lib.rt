@@ -1,4 +1,4 @@
-//! Tests that servers cross threads.
+//! Tests of servers: what crosses threads, how often they write, and messages that come from nowhere.
 #![tactic(auto)]
 
 #[cfg(test)]

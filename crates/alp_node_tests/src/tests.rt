@@ -1,4 +1,7 @@
-//! What crosses threads of a server.
+//! What crosses threads of a server, and what servers of one run say to one another.
+ghost use Rattle.alp_vault.specs.Vault.{IsServer};
+
+mod several;
 
 use alp_base::Sizes;
 use alp_journal::Journal;
@@ -13,8 +16,13 @@ const SIZES: Sizes = Sizes {
 };
 
 // A server on a vault in memory.
-fn in_memory(alloc: Global) -> Result<Node<MemVault>, Fail> {
-    match Node::start(alloc, 1, 1, MemVault::new(alloc, SIZES, 1, 1)) {
+type Server = Node<MemVault>;
+
+// One of three servers, by its number.
+fn in_memory(alloc: Global, server: u8) -> Result<Server, Fail>
+    requires { IsServer server 3 }
+{
+    match Node::start(alloc, server, 3, MemVault::new(alloc, SIZES, server, 3)) {
         Ok(node) => Ok(node),
         Err(_) => Err("a server".into()),
     }
@@ -28,7 +36,7 @@ fn crosses<T: Send + Sync>() {}
 fn servers_cross_threads(rt: HostRuntime) -> Result<(), Fail> {
     crosses::<Journal>();
     crosses::<Down<MemVault>>();
-    let node = in_memory(rt.alloc())?;
+    let node = in_memory(rt.alloc(), 1)?;
     assert!(rt; node.epoch() == 1 && !node.is_down());
     let (_, _, journal) = node.fall(0).into_parts();
     assert!(rt; journal.entries().is_empty());

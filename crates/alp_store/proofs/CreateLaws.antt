@@ -15,7 +15,7 @@ use Rattle.alp_format.specs.Format.{blank_state, IsRefused}
 use Rattle.alp_pages.specs.Reading.{MayBeDamaged}
 use Rattle.alp_pool.specs.Pools.{log_of, device_of}
 use Rattle.alp_pool.specs.declared.pool.Pool.{Pool}
-use Rattle.alp_vault.specs.Volumes.{AreNotesSoFar}
+use Rattle.alp_vault.specs.Volumes.{AreServerNotes}
 use Rattle.alp_wal.specs.State.{applied}
 use Rattle.alp_wal.specs.Wal.{anchor_of, notes_of}
 use Rattle.alp_store.specs.Reads.{IsReadOn}
@@ -38,12 +38,12 @@ module _ {D : Type 0} (g : Ghosts D) (q : Pool D) (sizes : Sizes) (least : 512 �
       (λ place is. new_undamaged sizes (told_by g (log_of q)) place least state (subst (λ (z : Sizes). IsDamagedHome z (pages_of (told_by g (log_of q))) place) sized (damaged place is)))
       (λ found is. subst MayBeDamaged is may)
 
-none_noted : (server servers : ℕ) (notes : Notes) → notes ≡ map.empty → AreNotesSoFar server servers notes
+none_noted : (server servers : ℕ) (notes : Notes) → notes ≡ map.empty → AreServerNotes server servers notes
 none_noted server servers notes none name value there =
     let gone : map.get notes name ≡ None = ap (λ (n : Notes). map.get n name) none ∙ get-empty text_cmp name in
     cc
 
-pub noted_empty : {D : Type 0} (server servers : ℕ) (result : Result (Shelf D) (D × VaultFault)) → IfOk result (λ s. notes_of (shelf_log s) ≡ map.empty) → IfOk result (λ s. AreNotesSoFar server servers (notes_of (shelf_log s)))
+pub noted_empty : {D : Type 0} (server servers : ℕ) (result : Result (Shelf D) (D × VaultFault)) → IfOk result (λ s. notes_of (shelf_log s) ≡ map.empty) → IfOk result (λ s. AreServerNotes server servers (notes_of (shelf_log s)))
 noted_empty server servers (Ok s) none = none_noted server servers (notes_of (shelf_log s)) none
 noted_empty server servers (Err e) none = tt
 

@@ -12,7 +12,6 @@ pub mod OpenLaws
 pub mod RecoverLaws
 pub mod KnowLaws
 pub mod NoteLaws
-pub mod EpochLaws
 pub mod NewLaws
 pub mod GivenLaws
 pub mod ForeignLaws

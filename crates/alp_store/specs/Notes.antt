@@ -1,8 +1,8 @@
--- The notes of a server so far, one by one.
+-- The notes of a server, one by one.
 use Rattle.std.specs.Prelude.{ℕ, Bool, true, List, Option, None, Some}
-use Rattle.alp_fields.specs.ClockNote.{is_clock_note}
+use Rattle.alp_vault.specs.Volumes.{is_server_note}
 
--- the note of that name is in the format, if it stands
-abbrev pub is_good : List ℕ → Option (List ℕ) → Bool
-is_good name None = true
-is_good name (Some value) = is_clock_note name value
+-- the note of that name is in the format of a server, which is one of so many, if it stands
+abbrev pub is_good : ℕ → ℕ → List ℕ → Option (List ℕ) → Bool
+is_good server servers name None = true
+is_good server servers name (Some value) = is_server_note server servers name value

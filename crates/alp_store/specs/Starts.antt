@@ -19,7 +19,7 @@ use Rattle.alp_format.specs.Format.{first_anchor, blank_state, Formatting}
 use Rattle.alp_pages.specs.Damage.{damage_of}
 use Rattle.alp_pages.specs.Pages.{Pages, header_page}
 use Rattle.alp_vault.specs.Contents.{Contents}
-use Rattle.alp_vault.specs.Volumes.{AreNotesSoFar}
+use Rattle.alp_vault.specs.Volumes.{AreServerNotes}
 use Rattle.alp_wal.specs.Mount.{WhyNotMounted}
 use Rattle.alp_wal.specs.Reading.{Reads}
 use Rattle.alp_wal.specs.State.{State, applied}
@@ -51,7 +51,7 @@ pub record IsDamagedVolume (server servers n : ℕ) (image : Image) (place : ℕ
 
 -- notes are in the format of that server of so many, and files were given by it in epochs up to that of the clock's note
 pub record AreOfServer (server servers : ℕ) (held : Contents) : Type 0 where
-  pub notes : AreNotesSoFar server servers held.notes
+  pub notes : AreServerNotes server servers held.notes
   pub files : (f : FileId) (c : Cell) → map.get held.cells (Leader f) ≡ Some c → (f.server ≡ server) × (f.epoch ≤ (clock_kept held.notes).epoch)
 
 -- a disk was mounted: the log holds what the disk's reading says, which is of its server, and has the anchor that counts there

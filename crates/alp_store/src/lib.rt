@@ -9,6 +9,7 @@ mod commit;
 mod fetch;
 mod home_pages;
 mod new_volume;
+mod notes;
 mod of_server;
 mod open;
 mod recover;

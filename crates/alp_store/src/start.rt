@@ -3,7 +3,7 @@ ghost use Rattle.std.specs.Prelude.{◌≡◌, ◌≤◌, ℕ, IsTrue, IfOk, IfE
 ghost use Rattle.alp_anchor.specs.Anchor.{AreSizesOf, Counts};
 ghost use Rattle.alp_disk.specs.Calls.{IsSameDevice, Looked};
 ghost use Rattle.alp_vault.specs.Vault.{AreSizes, IsServer};
-ghost use Rattle.alp_vault.specs.Volumes.{AreNotesSoFar};
+ghost use Rattle.alp_vault.specs.Volumes.{AreServerNotes};
 ghost use Rattle.alp_wal.specs.Wal.{disk_of, anchor_of, notes_of};
 ghost use Rattle.alp_store.specs.Holding.{HoldsBy};
 ghost use Rattle.alp_store.specs.Shelves.{shelf_log, IsShelf};
@@ -15,9 +15,17 @@ use crate::open::open;
 use crate::shelf::Shelf;
 use crate::stage::Stage;
 use crate::store::Store;
-use alp_base::{Halt, Sizes, VaultFault};
+use alp_base::{Halt, OutOfMemory, Sizes, VaultFault};
 use alp_disk::Disk;
 use std::alloc::Global;
+
+/// The disk under a volume.
+fn disk_under<D: Disk>(shelf: Shelf<D>) -> D
+    ensures { result ≡ disk_of (shelf_log shelf) }
+{
+    let Shelf { pages, .. } = shelf;
+    pages.close().close()
+}
 
 /// The volume of a server on a disk, with notes and files of that server.
 fn open_own<D: Disk>(
@@ -32,19 +40,21 @@ fn open_own<D: Disk>(
     ensures holds { IsTrue (D.tells disk) → IfOk result (λ s. HoldsBy D.Disk (shelf_log s) (D.seen disk) (contents_of D.Disk (shelf_log s))) }
     ensures own { IsTrue (D.tells disk) → IfOk result (λ s. AreOfServer server servers (contents_of D.Disk (shelf_log s))) }
     ensures counts { IsTrue (D.tells disk) → IfOk result (λ s. Counts (D.size disk) (D.seen disk) (anchor_of (shelf_log s))) }
-    ensures notes { IfOk result (λ s. AreNotesSoFar server servers (notes_of (shelf_log s))) }
+    ensures notes { IfOk result (λ s. AreServerNotes server servers (notes_of (shelf_log s))) }
     ensures named { IfOk result (λ s. ((anchor_of (shelf_log s)).server ≡ server) × ((anchor_of (shelf_log s)).servers ≡ servers)) }
     ensures below { MatchResult result (λ s. Looked D.Disk disk (disk_of (shelf_log s))) (λ e. Looked D.Disk disk e.0) }
     ensures why_not { IsTrue (D.tells disk) → IfErr result (λ e. WhyNotStarted server servers (D.size disk) (D.seen disk) e.1) }
     ensures cause { HasOpenCause D.Disk (λ s. disk_of (shelf_log s)) disk result }
 {
     let shelf = open(alloc, disk, server, servers)?;
-    if shelf.is_of_server(server) {
-        shelf.pages.knows();
-        return Ok(shelf);
+    match shelf.is_of_server(alloc, server, servers) {
+        Ok(true) => {
+            shelf.pages.knows();
+            Ok(shelf)
+        }
+        Ok(false) => Err((disk_under(shelf), VaultFault::Damaged { place: 0 })),
+        Err(OutOfMemory) => Err((disk_under(shelf), VaultFault::OutOfMemory)),
     }
-    let Shelf { pages, .. } = shelf;
-    Err((pages.close().close(), VaultFault::Damaged { place: 0 }))
 }
 
 /// A new disk is formatted, and any other mounted.
@@ -63,7 +73,7 @@ fn shelf_on<D: Disk>(
     ensures mounted { IsTrue (D.tells disk) → (IsNew sizes (D.size disk) (D.seen disk) → ⊥) → IfOk result (λ s. IsStarted D.Disk disk (shelf_log s)) }
     ensures why_not { IsTrue (D.tells disk) → (IsNew sizes (D.size disk) (D.seen disk) → ⊥) → IfErr result (λ e. WhyNotStarted server servers (D.size disk) (D.seen disk) e.1) }
     ensures looked { IsTrue (D.tells disk) → (IsNew sizes (D.size disk) (D.seen disk) → ⊥) → MatchResult result (λ s. Looked D.Disk disk (disk_of (shelf_log s))) (λ e. Looked D.Disk disk e.0) }
-    ensures notes { IfOk result (λ s. AreNotesSoFar server servers (notes_of (shelf_log s))) }
+    ensures notes { IfOk result (λ s. AreServerNotes server servers (notes_of (shelf_log s))) }
     ensures named { IfOk result (λ s. ((anchor_of (shelf_log s)).server ≡ server) × ((anchor_of (shelf_log s)).servers ≡ servers)) }
     ensures below { MatchResult result (λ s. IsSameDevice D.Disk disk (disk_of (shelf_log s))) (λ e. IsSameDevice D.Disk disk e.0) }
     ensures cause { HasOpenCause D.Disk (λ s. disk_of (shelf_log s)) disk result }
@@ -79,7 +89,8 @@ fn shelf_on<D: Disk>(
 
 impl<D: Disk> Store<D> {
     /// A store on the disk of a server, one of so many. A new disk is formatted, to a volume of these sizes; any other keeps
-    /// its own, and nothing that a read gives of it is changed.
+    /// its own, and nothing that a read gives of it is changed. Notes of no format of the server, and files that it did not
+    /// give, are damage at place 0; what the notes say of one another is not looked at.
     pub fn start(
         alloc: Global,
         disk: D,
@@ -99,7 +110,7 @@ impl<D: Disk> Store<D> {
         ensures why_not { IsTrue (D.tells disk) → (IsNew sizes (D.size disk) (D.seen disk) → ⊥) → IfErr result (λ e. WhyNotStarted server servers (D.size disk) (D.seen disk) e.1) }
         ensures looked { IsTrue (D.tells disk) → (IsNew sizes (D.size disk) (D.seen disk) → ⊥) → MatchResult result (λ s. Looked D.Disk disk (disk_of s.log)) (λ e. Looked D.Disk disk e.0) }
         ensures sized { IfOk result (λ s. AreSizesOf (D.size (disk_of s.log)) (anchor_of s.log).sizes) }
-        ensures notes { IfOk result (λ s. AreNotesSoFar server servers (notes_of s.log)) }
+        ensures notes { IfOk result (λ s. AreServerNotes server servers (notes_of s.log)) }
         ensures named { IfOk result (λ s. ((anchor_of s.log).server ≡ server) × ((anchor_of s.log).servers ≡ servers)) }
         ensures below { MatchResult result (λ s. IsSameDevice D.Disk disk (disk_of s.log)) (λ e. IsSameDevice D.Disk disk e.0) }
         ensures cause { HasOpenCause D.Disk (λ s. disk_of s.log) disk result }

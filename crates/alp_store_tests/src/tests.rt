@@ -3,6 +3,7 @@ mod changes;
 mod commits;
 mod fixtures;
 mod memory;
+mod notes;
 mod quiet_disk;
 mod serving;
 mod turns;

@@ -5,6 +5,7 @@ use Rattle.alp_base.specs.Causes.{Rose}
 use Rattle.alp_base.specs.Crashes.{Only, NoMore, SameOutcomes}
 use Rattle.alp_base.specs.declared.faults.Sizes.{Sizes}
 use Rattle.alp_base.specs.declared.faults.VaultFault.TheVariants as vault_fault
+use Rattle.alp_anchor.specs.Anchor.{Counts}
 use Rattle.alp_bay.specs.Bays.{IsTaken}
 use Rattle.alp_disk.specs.Disk.{Image}
 use Rattle.alp_disk.specs.declared.disk.Disk.{Ghosts}
@@ -14,7 +15,7 @@ use Rattle.alp_store.specs.Holding.{Holds}
 use Rattle.alp_store.specs.Starts.{IsNew, WhyNotStarted}
 use Rattle.alp_vault.specs.declared.vault.Vault.{Ghosts as VaultGhosts}
 use Rattle.alp_top.specs.Disks.{ShowAlike, IsStarted, IsGiven, IsOfServer, IsCountedStart, notes_in}
-use Rattle.alp_top.specs.Volumes.{pages_of, IsOpenedOn, IsReturned, IsLeftAlone, HasNoEpoch, WhyNotBegun}
+use Rattle.alp_top.specs.Volumes.{pages_of, IsOpenedOn, IsReturned, IsLeftAlone, HasNoEpoch, HoldsApart, WhyNotBegun}
 use Rattle.alp_top.specs.declared.fault.NoReport.{NoReport}
 use Rattle.alp_top.specs.declared.fault.NoReport.TheVariants as fault
 
@@ -39,7 +40,7 @@ module _ {A B : Type 0} (g : Ghosts A) (h : Ghosts B) (a : A) (b : B) (alike : S
     telling = x.telling ∙ sym alike.telling;
     sized = alike.size ∙ x.sized;
     faults = x.faults ∙ sym alike.faults;
-    bare = λ told. x.bare (subst IsTrue alike.telling told);
+    alone = λ told one. x.alone (subst IsTrue alike.telling told) one;
     new = λ told is. x.new (subst IsTrue alike.telling told) (at_first (IsNew sizes) is);
     found = λ told old. at_alike (λ m i. IsOpenedOn server servers m i (start_in G n) (notes_in G n)) (x.found (subst IsTrue alike.telling told) (λ is. old (at_alike (IsNew sizes) is)));
   }
@@ -69,6 +70,21 @@ module _ {A B : Type 0} (g : Ghosts A) (h : Ghosts B) (sizes : Sizes) (ta ga : A
   rose_alike : Rose (g.faults ta) (g.faults ga) → Rose (h.faults tb) (h.faults gb)
   rose_alike x = subst (λ (n : ℕ). Rose n (h.faults gb)) (sym taken.faults) (subst (λ (n : ℕ). Rose (g.faults ta) n) (sym given.faults) x)
 
+  apart_alike : (server servers : ℕ) → HoldsApart g sizes server servers ta ga → HoldsApart h sizes server servers tb gb
+  apart_alike server servers x = record {
+    old = λ is. x.old (at_first g h ta tb taken (IsNew sizes) is);
+    several = x.several;
+    anchor = x.anchor;
+    counts = at_alike g h ta tb taken (λ n i. Counts n i x.anchor) x.counts;
+    held = x.held;
+    holds = at_alike g h ta tb taken (λ n i. Holds server servers n x.anchor.sizes.home i x.held) x.holds;
+    own = x.own;
+    apart = x.apart;
+    left = at_alike g h ga gb given (λ n i. Holds server servers n x.anchor.sizes.home i x.held) x.left;
+    durable = only_alike (g.seen ga) (h.seen gb) (g.may_leave ga) (h.may_leave gb) given.leaves.no_more given.seen x.durable;
+    unfailed = given.faults ∙ x.unfailed ∙ sym taken.faults;
+  }
+
   -- why a server was not started
   pub cause_alike : (server servers : ℕ) (f : NoReport) → WhyNotBegun g sizes server servers f ta ga → WhyNotBegun h sizes server servers f tb gb
   cause_alike server servers fault.Bay x = absurd x
@@ -77,7 +93,13 @@ module _ {A B : Type 0} (g : Ghosts A) (h : Ghosts B) (sizes : Sizes) (ta ga : A
   cause_alike server servers fault.JournalFull x = absurd x
   cause_alike server servers (fault.EpochEnd s) x = (x.0, alone_alike x.1, at_alike g h ta tb taken (HasNoEpoch server servers) x.2)
   cause_alike server servers (fault.NotAVolume s found) x = (x.0, alone_alike x.1, at_alike g h ta tb taken (λ n i. WhyNotStarted server servers n i (vault_fault.NotAVolume found)) x.2)
-  cause_alike server servers (fault.Damaged s place) x = (x.0, alone_alike x.1, at_alike g h ta tb taken (λ n i. WhyNotStarted server servers n i (vault_fault.Damaged place)) x.2)
+  cause_alike server servers (fault.Damaged s place) x = (
+    x.0,
+    elim x.1 [
+      | inl y ↦ inl (alone_alike y.0, at_alike g h ta tb taken (λ n i. WhyNotStarted server servers n i (vault_fault.Damaged place)) y.1)
+      | inr y ↦ inr (y.0, apart_alike server servers y.1)
+    ],
+  )
 
   pub counted_alike : (server : ℕ) (f : NoReport) → IsCountedStart server f (g.faults ta) (g.faults ga) → IsOfServer h server f
   counted_alike server fault.Bay x = absurd x

@@ -24,7 +24,7 @@ use Rattle.alp_anchor.specs.Anchor.{Counts}
 use Rattle.alp_anchor.specs.declared.anchor.Anchor.{Anchor}
 use Rattle.alp_disk.specs.Disk.{Image, page}
 use Rattle.alp_disk.specs.declared.disk.Disk.{Ghosts}
-use Rattle.alp_fields.specs.ClockNote.{clock_name, clock_form}
+use Rattle.alp_fields.specs.ClockNote.{clock_name, clock_form, is_clock_note, AreClockNotes}
 use Rattle.alp_fields.specs.declared.clock_note.ClockNote.{ClockNote}
 use Rattle.alp_journal.specs.declared.entry.Entry.{Entry}
 use Rattle.alp_journal.specs.Along.{Along}
@@ -43,18 +43,18 @@ use Rattle.alp_journal.proofs.NoteLemmas.{none_ready, none_decided}
 use Rattle.alp_node.proofs.FoundNotes.{clock_beside}
 use Rattle.alp_node.proofs.StartLemmas.{no_session}
 use Rattle.alp_regain.specs.Named.{is_decided_by}
-use Rattle.alp_regain.specs.Together.{IsPartNote, AreApart, AreNotesTogether, clock_before, log_sum, size_of}
+use Rattle.alp_regain.specs.Together.{IsPartNote, AreApart, AreNotesTogether, AreTogether, clock_before, log_sum, size_of}
 use Rattle.alp_store.specs.Holding.{Holds}
 use Rattle.alp_store.specs.Starts.{AreOfServer as StartedOnOwn, IsNew, WhyNotStarted}
 use Rattle.alp_vault.specs.Contents.{Contents}
-use Rattle.alp_vault.specs.Volumes.{AreNotesSoFar}
+use Rattle.alp_vault.specs.Volumes.{AreServerNotes, AreNotesSoFar}
 use Rattle.alp_vault.specs.declared.vault.Vault.{Ghosts as VaultGhosts}
-use Rattle.alp_vault.proofs.VolumeLemmas.{noted_so_far}
+use Rattle.alp_vault.proofs.VolumeLemmas.{noted_so_far, alone_so_far}
 use Rattle.alp_cluster.specs.Servers.{AreKept, IsOn, IsDone}
 use Rattle.alp_cluster.proofs.StepLemmas.{kept_epoch, kept_clock}
 use Rattle.alp_top.specs.Disks.{IsCountedStart, notes_in}
 use Rattle.alp_top.specs.Faults.{of_vault, of_start}
-use Rattle.alp_top.specs.Volumes.{IsBare, IsLeftAlone, IsOpenedNew, IsOpenedOn, WhyNotBegun}
+use Rattle.alp_top.specs.Volumes.{IsBare, IsLeftAlone, HoldsApart, IsOpenedNew, IsOpenedOn, WhyNotBegun}
 use Rattle.alp_top.specs.declared.fault.NoReport.{NoReport}
 
 abbrev nothing : Contents
@@ -144,7 +144,7 @@ module _ {V D : Type 0} (G : VaultGhosts V) (g : Ghosts D) (sizes : Sizes) (serv
   noted = ap (λ (v : V). (G.held v).notes) at_once ∙ rose.notes ∙ ap (λ (c : ClockNote). map.insert before.notes clock_name (clock_form.spell c)) (sym note_is)
 
   -- it finds nothing
-  pub opened_bare : AreNotesSoFar server servers before.notes → IsBare o
+  pub opened_bare : AreClockNotes before.notes → IsBare o
   opened_bare clock =
       let beside = clock_beside before.notes (clock_form.spell (record { epoch = o.epoch; clock = o.clock })) in
       record { ready = ap ready_kept noted ∙ beside.0 ∙ none_ready before.notes clock; decisions = ap decisions_kept noted ∙ beside.1 ∙ none_decided before.notes clock }
@@ -193,6 +193,12 @@ together_so_far server servers epoch area notes room clock =
       log = subst (λ (rs : List ReadyNote). log_sum (list_map size_of rs) ≤ area) (sym ready) least;
     }
 
+pub empty_noted : AreClockNotes map.empty
+empty_noted name value at = (let wrong : None ≡ Some value = sym (get-empty text_cmp name) ∙ at in cc)
+
+nothing_noted : (held : Contents) → held ≡ nothing → AreClockNotes held.notes
+nothing_noted held none = subst (λ (c : Contents). AreClockNotes c.notes) (sym none) empty_noted
+
 -- ---- why a server does not start
 
 spent_free : Free ≡ Spent → ⊥
@@ -217,13 +223,14 @@ module _ {D : Type 0} (g : Ghosts D) (sizes : Sizes) (server servers : ℕ) (d e
   not_opened vault_fault.Stopped cause kept free new why on = absurd (spent_free (sym free ∙ cause.stopped refl))
   not_opened vault_fault.OutOfMemory cause kept free new why on = kept
   not_opened (vault_fault.NotAVolume found) cause kept free new why on = (refl, left_alone on new kept, why new)
-  not_opened (vault_fault.Damaged place) cause kept free new why on = (refl, left_alone on new kept, why new)
+  not_opened (vault_fault.Damaged place) cause kept free new why on = (refl, inl (left_alone on new kept, why new))
 
   -- the store did, and the server on it did not
-  pub not_started : (tells : Bool) (vol : Sizes) (held : Contents) (f : StartFault) (between : ℕ) (allowance : Allowance) (home : ℕ) → HasStartCause tells server servers vol held between (g.faults e) allowance f → allowance ≡ Free → between ≡ g.faults d → 24 ≤ vol.area → AreNotesSoFar server servers held.notes
+  pub not_started : (tells : Bool) (vol : Sizes) (held : Contents) (f : StartFault) (between : ℕ) (allowance : Allowance) (home : ℕ) → HasStartCause tells server servers vol held between (g.faults e) allowance f → allowance ≡ Free → between ≡ g.faults d → IsTrue tells → 1 ≤ server → server ≤ servers → 24 ≤ vol.area → AreServerNotes server servers held.notes
+      → (f ≡ start_fault.BadNote → (IsNewDisk → ⊥) → (servers ≡ 1 → ⊥) → (AreTogether server servers (epoch_after held) vol held.cells held.notes → ⊥) → HoldsApart g sizes server servers d e)
       → (f ≡ start_fault.Vault vault_fault.OutOfMemory → g.faults e ≡ between) → (f ≡ start_fault.EpochEnd → g.faults e ≡ between)
       → (IsNewDisk → held ≡ nothing) → ((IsNewDisk → ⊥) → Holds server servers (g.size d) home (g.seen d) held) → ((IsNewDisk → ⊥) → StartedOnOwn server servers held) → (f ≡ start_fault.EpochEnd → ReadsOn) → WhyNotBegun g sizes server servers (of_start server f) d e
-  not_started tells vol held (start_fault.Vault f) between allowance home cause free kept room notes memory last_epoch new holds own on = go f cause memory
+  not_started tells vol held (start_fault.Vault f) between allowance home cause free kept told low high room notes strange memory last_epoch new holds own on = go f cause memory
     where
       go : (f : VaultFault) → HasStartCause tells server servers vol held between (g.faults e) allowance (start_fault.Vault f) → (start_fault.Vault f ≡ start_fault.Vault vault_fault.OutOfMemory → g.faults e ≡ between) → WhyNotBegun g sizes server servers (of_vault server f) d e
       go vault_fault.Failed h memory = (refl, subst (λ (n : ℕ). Rose n (g.faults e)) kept (h.0.failed refl))
@@ -231,9 +238,14 @@ module _ {D : Type 0} (g : Ghosts D) (sizes : Sizes) (server servers : ℕ) (d e
       go vault_fault.OutOfMemory h memory = memory refl ∙ kept
       go (vault_fault.NotAVolume found) h memory = absurd h.1
       go (vault_fault.Damaged place) h memory = absurd h.1
-  not_started tells vol held start_fault.BadNote between allowance home cause free kept room notes memory last_epoch new holds own on =
-      absurd (cause.alone (none_ready held.notes notes) (together_so_far server servers (epoch_after held) vol.area held.notes room notes))
-  not_started tells vol held start_fault.EpochEnd between allowance home cause free kept room notes memory last_epoch new holds own on =
+  not_started tells vol held start_fault.BadNote between allowance home cause free kept told low high room notes strange memory last_epoch new holds own on =
+      let apart : AreNotesSoFar server servers held.notes → ⊥ = (λ clock. cause.alone (none_ready held.notes clock) (together_so_far server servers (epoch_after held) vol.area held.notes room clock)) in
+      let old : IsNewDisk → ⊥ = (λ is. apart (nothing_noted held (new is))) in
+      let several : servers ≡ 1 → ⊥ = (λ one.
+      let first : server ≡ 1 = omega (arith, low, high, one) in
+      apart (alone_so_far held.notes (subst (λ (b : ℕ). AreServerNotes 1 b held.notes) one (subst (λ (a : ℕ). AreServerNotes a servers held.notes) first notes)))) in
+      (refl, inr (refl, strange refl old several (cause.told told)))
+  not_started tells vol held start_fault.EpochEnd between allowance home cause free kept told low high room notes strange memory last_epoch new holds own on =
       let old : IsNewDisk → ⊥ = (λ is. not_last held (new is) cause) in
       (refl, left_alone (on refl) old (last_epoch refl ∙ kept), record { home = home; held = held; holds = holds old; own = own old; last = cause })
 

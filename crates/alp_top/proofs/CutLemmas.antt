@@ -34,12 +34,11 @@ use Rattle.alp_top.specs.Volumes.{IsBare, IsRightAt, IsCutShort}
 use Rattle.alp_top.proofs.AloneLemmas.{own_recorded, IsLone, lone}
 use Rattle.alp_top.proofs.BegunLemmas.{begun_of_run}
 use Rattle.alp_top.proofs.ClientLemmas.{sent_alone, IsSaid, of_clients}
-use Rattle.alp_top.proofs.OpeningLemmas.{IsOpenedWell, sound_openings}
 use Rattle.alp_top.proofs.SeatedLemmas.{seat_on, numbered, proper_course, many}
 use Rattle.alp_top.proofs.SeveralLemmas.{all_seat}
 use Rattle.alp_top.proofs.SingleLemmas.{single, IsSingle, proper}
 
-module _ {V : Type 0} (G : Ghosts V) (lines : List NumberedLine) (f : RunFault) (left : Stations V) (h : HasEndedEarly G (servers_said lines) lines f left) (told : TellAll (course_of G h.last)) (few : servers_said lines ≤ 8) (bare : (n : ℕ) → IsSeat (course_of G h.last) n → IsBare (seat_at (course_of G h.last) n).opening) where
+module _ {V : Type 0} (G : Ghosts V) (lines : List NumberedLine) (f : RunFault) (left : Stations V) (h : HasEndedEarly G (servers_said lines) lines f left) (told : TellAll (course_of G h.last)) (bare : (n : ℕ) → IsSeat (course_of G h.last) n → servers_said lines ≡ 1 → IsBare (seat_at (course_of G h.last) n).opening) where
   abbrev r : Course
   r = course_of G h.last
 
@@ -55,17 +54,9 @@ module _ {V : Type 0} (G : Ghosts V) (lines : List NumberedLine) (f : RunFault) 
         caused = subst (λ (s : Seat). Along next IsDone (opened s.opening) s.journal) (sym same) (m.keeps.on.answered tells);
       }
 
-  seat_well : (n : ℕ) → IsSeat r n → IsOpenedWell (seat_at r n)
-  seat_well n here =
-      let (x, at, m, same) = seat_on G h.last h.on n here in
-      let tells : IsTrue (G.tells m.node.kept.vault) = subst (λ (s : Seat). IsTrue s.tells) same (all_seat (λ (s : Seat). IsTrue s.tells) r.seats (n - 1) told (omega (arith, here.first, here.last))) in
-      let right : node.IsRight (start_in G m.node) (G.held m.node.kept.vault) m.node = m.keeps.on.kept.right tells in
-      let servers : (start_in G m.node).servers ≡ servers_said lines = m.keeps.on.all ∙ m.count_is ∙ h.count in
-      subst IsOpenedWell (sym same) (record { few = omega (arith, servers, few); files = right.opening.parts.sound [] refl; sizes = right.opening.parts.sized; bare = subst (λ (s : Seat). IsBare s.opening) same (bare n here) })
-
-  several : IsOneThread (log_of r handed) × AreWhole (log_of r handed)
-  several =
-      let p : IsProper (log_of r handed) = proper_course h.ran.first r h.hs handed h.ran.is_first h.ran.course (numbered G h.last h.on) (λ n here. (seat_right n here).lawful) (sound_openings r handed (numbered G h.last h.on) seat_well) in
+  several : logs.AreSoundOpenings (log_of r handed) → IsOneThread (log_of r handed) × AreWhole (log_of r handed)
+  several sound =
+      let p : IsProper (log_of r handed) = proper_course h.ran.first r h.hs handed h.ran.is_first h.ran.course (numbered G h.last h.on) (λ n here. (seat_right n here).lawful) sound in
       (history (log_of r handed) p, wholeness (log_of r handed) p)
 
   seats_many : length r.seats ≡ servers_said lines
@@ -82,7 +73,7 @@ module _ {V : Type 0} (G : Ghosts V) (lines : List NumberedLine) (f : RunFault) 
       let tells : IsTrue (G.tells m.node.kept.vault) = subst (λ (s : Seat). IsTrue s.tells) same (all_seat (λ (s : Seat). IsTrue s.tells) r.seats 0 told (omega (arith, seats_many, one_is))) in
       let right : node.IsRight (start_in G m.node) (G.held m.node.kept.vault) m.node = m.keeps.on.kept.right tells in
       let sound : node.IsSoundStart seat.opening = subst (λ (s : Seat). node.IsSoundStart s.opening) is right.opening in
-      let found : IsBare seat.opening = subst (λ (s : Seat). IsBare s.opening) sits (bare 1 here) in
+      let found : IsBare seat.opening = subst (λ (s : Seat). IsBare s.opening) sits (bare 1 here one_is) in
       let lawful : IsLawful seat.opening seat.journal = subst (λ (s : Seat). IsLawful s.opening s.journal) is right.lawful in
       let number : seat.opening.server ≡ 1 = ap (λ (s : Seat). s.opening.server) (sym is) ∙ m.number_is in
       let servers : seat.opening.servers ≡ 1 = ap (λ (s : Seat). s.opening.servers) (sym is) ∙ m.keeps.on.all ∙ m.count_is ∙ h.count ∙ one_is in

@@ -12,6 +12,7 @@ use Rattle.alp_journal.specs.Answered.{entries_limit}
 use Rattle.alp_journal.specs.Moves.{next}
 use Rattle.alp_journal.specs.State.{State, opened}
 use Rattle.alp_journal.specs.Opening.{Start, start_at}
+use Rattle.alp_node.specs.Durable.{IsSaid, IsSaidThen}
 use Rattle.alp_node.specs.DownStates.{DownState}
 use Rattle.alp_node.specs.Downs.{IsLeftOf, start_of as start_down}
 use Rattle.alp_node.specs.NodeStates.{NodeState}
@@ -37,11 +38,11 @@ use Rattle.alp_cluster.specs.declared.server.Server.TheVariants.{Fallen}
 use Rattle.alp_cluster.specs.declared.station.Station.{Station}
 use Rattle.alp_cluster.specs.declared.stations.Stations.{Stations}
 use Rattle.alp_top.specs.Disks.{notes_in}
-use Rattle.alp_top.specs.Volumes.{IsBare, IsOpenedNew, IsOpenedOn, IsStored, IsCutShort, HasFilled, HasUsedUp}
+use Rattle.alp_top.specs.Volumes.{IsBare, IsLeftBy, IsOpenedNew, IsOpenedOn, IsStored, IsCutShort, HasFilled, HasUsedUp}
 use Rattle.alp_top.proofs.BeginLemmas.{holds_by}
 use Rattle.alp_top.proofs.CutLemmas.{cut_short}
 use Rattle.alp_top.proofs.GivenLemmas.{up_vault}
-use Rattle.alp_top.proofs.GoneAtLemmas.{IsGoneAt, IsLeftSo}
+use Rattle.alp_top.proofs.GoneAtLemmas.{IsGoneAt, IsLeftSo, IsFilledRun, IsUsedUpRun}
 use Rattle.alp_top.proofs.PairLemmas.{same_there}
 use Rattle.alp_top.proofs.PlayedOutLemmas.{some_same, map_at, opening_same, tell_all}
 use Rattle.alp_top.proofs.SeveralLemmas.{one_node}
@@ -75,7 +76,7 @@ set_elsewhere (x ∷ xs) (suc i) (suc j) y away = set_elsewhere xs i j y (λ e. 
 -- ---- the servers as they were left
 
 -- each has the vault of the server that stood there
-module _ {V D T : Type 0} (G : VaultGhosts V) (g : Ghosts D) (tells : Bool) (told : IsTrue tells) (lines : List NumberedLine) (before after : ℕ → Option D) (first left : Stations V) (f : RunFault) (few : servers_said lines ≤ 8) (early : HasEndedEarly G (servers_said lines) lines f left)
+module _ {V D T : Type 0} (G : VaultGhosts V) (g : Ghosts D) (tells : Bool) (told : IsTrue tells) (lines : List NumberedLine) (before after : ℕ → Option D) (first left : Stations V) (f : RunFault) (early : HasEndedEarly G (servers_said lines) lines f left)
     (at : (n : ℕ) → IsOneOf (servers_said lines) n → IsLeftSo {T = T} G g tells lines before after first left (Err f) n) (opens : openings_of left ≡ openings_of first) where
   abbrev last : Stations V
   last = early.last
@@ -110,19 +111,41 @@ module _ {V D T : Type 0} (G : VaultGhosts V) (g : Ghosts D) (tells : Bool) (tol
       opening : m.node.opening ≡ x.node.opening
       opening = opening_same first left (n - 1) x.station x.left x.node m.node opens x.stood x.was x.stands still
 
-      -- it opened with nothing
-      pub still_bare : IsBare (seat_at r n).opening
-      still_bare =
+      -- where it is the only one, it opened with nothing
+      pub still_bare : servers_said lines ≡ 1 → IsBare (seat_at r n).opening
+      still_bare one =
           subst (λ (z : Seat). IsBare z.opening) (sym sits)
-          (bare_as G g (sizes_said lines n) n (servers_said lines) x.node m.node x.vault x.taken x.given x.begun.started (x.begun.told told) m.keeps.on m.number_is opening still_tells)
+          (bare_as G g (sizes_said lines n) n (servers_said lines) x.node m.node x.vault x.taken x.given x.begun.started (x.begun.told told) m.keeps.on m.number_is opening still_tells one)
+
+      -- what is left of it
+      pub still_left : IsLeftBy g lines r n x.taken x.given
+      still_left =
+          let same : IsSameVault G.tells G.volume G.server G.servers x.node.kept.vault x.vault = x.gone.same in
+          let server_of : G.server x.vault ≡ n = same.number ∙ x.begun.started.on.kept.number ∙ x.begun.started.number in
+          let servers_are : G.servers x.vault ≡ servers_said lines = same.of_all ∙ x.begun.started.on.kept.all ∙ x.begun.started.count in
+          let volume : G.volume x.vault ≡ (start_in G m.node).sizes = same.sizes ∙ ap G.volume (sym x.begun.started.idle.opening) ∙ ap (λ o. G.volume o.vault.value) (sym opening) in
+          record {
+            notes = notes_in G m.node;
+            new = λ new. subst (λ (z : Seat). IsOpenedNew (sizes_said lines n) z.opening (notes_in G m.node)) (sym sits)
+                (opened_new G g (sizes_said lines n) n (servers_said lines) x.node m.node x.vault x.taken x.given x.begun.started (x.begun.told told) m.keeps.on m.number_is opening still_tells new);
+            found = λ old. subst (λ (z : Seat). IsOpenedOn n (servers_said lines) (g.size x.taken) (g.seen x.taken) z.opening (notes_in G m.node)) (sym sits)
+                (opened_on G g (sizes_said lines n) n (servers_said lines) x.node m.node x.vault x.taken x.given x.begun.started (x.begun.told told) m.keeps.on m.number_is opening still_tells old);
+            left = λ image may.
+                let (c, holds, may_be) = x.back.whole (vault_tells n here) image may in (
+                  c,
+                  subst (λ (z : Seat). Holds n (servers_said lines) (g.size x.given) z.opening.sizes.home image c) (sym sits) (holds_by _ _ _ _ _ _ _ _ image c server_of servers_are refl (ap (λ z. z.home) volume) holds),
+                  subst (λ (z : Seat). IsSaid (state_after next (opened z.opening) z.journal) c ⊎ IsSaidThen (state_after next (opened z.opening) z.journal) c) (sym sits)
+                      ((m.keeps.on.kept.durable still_tells).down c (subst (λ (v : V). G.may_leave v c) vault_is may_be)),
+                );
+            read = x.back.read (vault_tells n here);
+          }
 
       -- its journal was full
-      pub still_filled : TellAll r → ((k : ℕ) → IsSeat r k → IsBare (seat_at r k).opening) → entries_limit ≤ (seat_at r n).stand.place → (seat_at r n).stand.is_down ≡ false → f ≡ run_fault.JournalFull → HasFilled g lines n x.taken x.given
-      still_filled all bare full up is =
+      pub still_filled : entries_limit ≤ (seat_at r n).stand.place → (seat_at r n).stand.is_down ≡ false → f ≡ run_fault.JournalFull → HasFilled g lines r n x.taken x.given
+      still_filled full up is =
           let node_up : m.node.kept.is_down ≡ false = ap (λ (z : Seat). z.stand.is_down) (sym sits) ∙ up in
           let serves : IsTrue (G.serves x.vault) = subst (λ v. IsTrue (G.serves v)) (sym vault_is) (m.keeps.on.kept.ready.serving node_up) in
           record {
-            last = r;
             seat = seat_here n here;
             notes = notes_in G m.node;
             started =
@@ -133,7 +156,6 @@ module _ {V D T : Type 0} (G : VaultGhosts V) (g : Ghosts D) (tells : Bool) (tol
                 subst (λ (z : Seat). IsStored g (StopNone lines) n (servers_said lines) (sizes_said lines n) z.opening (notes_in G m.node) (state_after next (opened z.opening) z.journal) x.taken x.given) (sym sits)
                 (stored G g (sizes_said lines n) n (servers_said lines) x.node m.node x.vault x.taken x.given x.begun.started (x.begun.told told) m.keeps.on m.number_is opening still_tells node_up x.gone.same (ap G.held vault_is) serves x.back (StopNone lines) here.first here.last
                 (λ none. subst (λ (q : RunFault). AreCountedIn {T = T} (G.server x.node.kept.vault) (Err q) (G.faults x.node.kept.vault) (G.faults x.vault)) is (x.gone.counted none x.begun.started.idle.free)));
-            short = subst (λ (q : RunFault). IsCutShort lines q r) is (cut_short G lines f left early all few bare);
           }
 
   -- ---- at a full journal
@@ -159,13 +181,13 @@ module _ {V D T : Type 0} (G : VaultGhosts V) (g : Ghosts D) (tells : Bool) (tol
         let stays = all_still (i + 1 - 1) y (at (i + 1) here).at.left m.node now m.keeps.stands (at (i + 1) here).at.stands in
         subst (λ (z : Station V). IsTrue (seat_of G z).tells) one (subst (λ o. IsTrue (seat_for G y.is_fused y.ranks.items o).tells) (sym m.keeps.stands) (still_tells (i + 1) here y now m sits stays)))
 
-    all_bare : (k : ℕ) → IsSeat r k → IsBare (seat_at r k).opening
-    all_bare k seat =
+    all_bare : (k : ℕ) → IsSeat r k → servers_said lines ≡ 1 → IsBare (seat_at r k).opening
+    all_bare k seat alone =
         let here : IsOneOf (servers_said lines) k = one_seat k seat in
         let (y, now, m, sits) = seat_on G last early.on k seat in
-        still_bare k here y now m sits (all_still (k - 1) y (at k here).at.left m.node now m.keeps.stands (at k here).at.stands)
+        still_bare k here y now m sits (all_still (k - 1) y (at k here).at.left m.node now m.keeps.stands (at k here).at.stands) alone
 
-    pub filled : (s : ℕ) × IsOneOf (servers_said lines) s × ((here : IsOneOf (servers_said lines) s) → HasFilled g lines s (at s here).at.taken (at s here).at.given)
+    pub filled : IsFilledRun g lines (λ n here. (at n here).at.taken) (λ n here. (at n here).at.given)
     filled =
         let due : ℕ = server_due early.due in
         let i : ℕ = due - 1 in
@@ -177,14 +199,18 @@ module _ {V D T : Type 0} (G : VaultGhosts V) (g : Ghosts D) (tells : Bool) (tol
         ] in
         let same : i + 1 - 1 ≡ i = omega arith in
         let many_is : length r.seats ≡ length last.all.items = many G last early.on in
-        let count : length last.all.items ≡ servers_said lines = early.count in (
-          i + 1,
-          record { first = omega arith; last = omega (arith, less, many_is, count) },
-          (λ here.
+        let count : length last.all.items ≡ servers_said lines = early.count in
+        record {
+          last = r;
+          short = subst (λ (q : RunFault). IsCutShort lines q r) is (cut_short G lines f left early all_told all_bare);
+          each = λ n here. (let (y, now, m, sits) = seat_on G last early.on n (seat_here n here) in still_left n here y now m sits (all_still (n - 1) y (at n here).at.left m.node now m.keeps.stands (at n here).at.stands));
+          server = i + 1;
+          among = record { first = omega arith; last = omega (arith, less, many_is, count) };
+          full = λ here.
               let (y, now, m, sits) = seat_on G last early.on (i + 1) (seat_here (i + 1) here) in
               let stays = all_still (i + 1 - 1) y (at (i + 1) here).at.left m.node now m.keeps.stands (at (i + 1) here).at.stands in
-              still_filled (i + 1) here y now m sits stays all_told all_bare (subst (λ (j : ℕ). entries_limit ≤ (get_or r.seats j no_seat).stand.place) (sym same) full) (subst (λ (j : ℕ). (get_or r.seats j no_seat).stand.is_down ≡ false) (sym same) up) is),
-        )
+              still_filled (i + 1) here y now m sits stays (subst (λ (j : ℕ). entries_limit ≤ (get_or r.seats j no_seat).stand.place) (sym same) full) (subst (λ (j : ℕ). (get_or r.seats j no_seat).stand.is_down ≡ false) (sym same) up) is;
+        }
 
   -- ---- at the last epoch
 
@@ -238,9 +264,9 @@ module _ {V D T : Type 0} (G : VaultGhosts V) (g : Ghosts D) (tells : Bool) (tol
         ])
 
     -- each opened with nothing
-    bare_then : (n : ℕ) → IsSeat r n → IsBare (seat_at r n).opening
+    bare_then : (n : ℕ) → IsSeat r n → servers_said lines ≡ 1 → IsBare (seat_at r n).opening
     unfolding down e
-    bare_then n seat =
+    bare_then n seat alone =
         let here : IsOneOf (servers_said lines) n = one_seat n seat in
         let (y, now, m, sits) = seat_on G last early.on n seat in
         elim (cases_eq (n - 1) k) [
@@ -257,14 +283,14 @@ module _ {V D T : Type 0} (G : VaultGhosts V) (g : Ghosts D) (tells : Bool) (tol
               let vault_is : x.vault ≡ down.vault = subst (λ o. HasVault o x.vault) (ap (λ (z : Station V). z.server) left_is ∙ e.ends.1) (at n here).its in
               let tells_node : IsTrue (G.tells m.node.kept.vault) = subst (λ (q : NodeState V). IsTrue (G.tells q.kept.vault)) (sym node_is) (subst IsTrue (ap G.tells vault_is ∙ stays.stays.same.telling ∙ stays.falls.same.telling) (vault_tells n here)) in
               subst (λ (z : Seat). IsBare z.opening) (sym sits)
-              (bare_as G g (sizes_said lines n) n (servers_said lines) x.node m.node x.vault x.taken x.given x.begun.started (x.begun.told told) m.keeps.on m.number_is opening tells_node)
+              (bare_as G g (sizes_said lines n) n (servers_said lines) x.node m.node x.vault x.taken x.given x.begun.started (x.begun.told told) m.keeps.on m.number_is opening tells_node alone)
           | inr away ↦
               let x = (at n here).at in
               let left_is : x.left ≡ y = same_there (slice_get left.all.items (n - 1)) x.left y x.stands (elsewhere_now (n - 1) away ∙ now) in
-              still_bare n here y now m sits (ap (λ (z : Station V). z.server) left_is ∙ m.keeps.stands)
+              still_bare n here y now m sits (ap (λ (z : Station V). z.server) left_is ∙ m.keeps.stands) alone
         ]
 
-    over_at : (here : IsOneOf (servers_said lines) (k + 1)) → server ≡ k + 1 → HasUsedUp g lines (k + 1) (at (k + 1) here).at.taken (at (k + 1) here).at.given
+    over_at : (here : IsOneOf (servers_said lines) (k + 1)) → server ≡ k + 1 → HasUsedUp g lines r (k + 1) (at (k + 1) here).at.taken (at (k + 1) here).at.given
     unfolding down e
     over_at here server_is =
         let x = (at (k + 1) here).at in
@@ -289,7 +315,6 @@ module _ {V D T : Type 0} (G : VaultGhosts V) (g : Ghosts D) (tells : Bool) (tol
         let servers_are : G.servers x.vault ≡ servers_said lines = same.of_all ∙ x.begun.started.on.kept.all ∙ x.begun.started.count in
         let volume : G.volume x.vault ≡ (start_in G e.node).sizes = same.sizes ∙ ap G.volume (sym x.begun.started.idle.opening) ∙ ap (λ o. G.volume o.vault.value) (sym opening) in
         record {
-          last = r;
           seat = seat_here (k + 1) here;
           notes = notes_in G e.node;
           started =
@@ -299,7 +324,6 @@ module _ {V D T : Type 0} (G : VaultGhosts V) (g : Ghosts D) (tells : Bool) (tol
               (opened_new G g (sizes_said lines (k + 1)) (k + 1) (servers_said lines) x.node e.node x.vault x.taken x.given x.begun.started (x.begun.told told) on number opening tells_node new);
           found = λ old. subst (λ (z : Seat). IsOpenedOn (k + 1) (servers_said lines) (g.size x.taken) (g.seen x.taken) z.opening (notes_in G e.node)) (sym sits_node)
               (opened_on G g (sizes_said lines (k + 1)) (k + 1) (servers_said lines) x.node e.node x.vault x.taken x.given x.begun.started (x.begun.told told) on number opening tells_node old);
-          short = subst (λ (q : RunFault). IsCutShort lines q r) (is ∙ ap (λ (n : ℕ). run_fault.Start n start_fault.EpochEnd) server_is) (cut_short G lines f left early all_told_then few bare_then);
           left = λ image may.
               let (c, holds, may_be) = x.back.whole tells_vault image may in (
                 c,
@@ -320,12 +344,28 @@ module _ {V D T : Type 0} (G : VaultGhosts V) (g : Ghosts D) (tells : Bool) (tol
             let began : start_down G h.fallen ≡ start_in G n = (λ i. node.start_by G (h.falls.server i) (h.falls.opening i).vault.value) in
             subst (λ (s : State). IsLeftOf s c) (λ i. node.state_of (began i) (h.falls.journal i)) (h.stood.left (subst (λ (v : V). IsTrue (G.tells v)) same tells_so) c (subst (λ (v : V). G.may_leave v c) same may))
 
-    pub over : (here : IsOneOf (servers_said lines) server) → HasUsedUp g lines server (at server here).at.taken (at server here).at.given
-    over =
+    server_at : server ≡ k + 1
+    server_at =
         let here : IsOneOf (servers_said lines) (k + 1) = one_here k e.station e.there in
         let (y, now, m, sits) = seat_on G last early.on (k + 1) (seat_here (k + 1) here) in
         let minus : k + 1 - 1 ≡ k = omega arith in
         let one : y ≡ e.station = same_there (slice_get last.all.items k) y e.station (ap (slice_get last.all.items) (sym minus) ∙ now) e.there in
         let node_is : m.node ≡ e.node = one_node y.server m.node e.node m.keeps.stands (ap (λ (z : Station V). z.server) one ∙ e.stood) in
-        let server_is : server ≡ k + 1 = e.ends.2 ∙ ap (λ (n : NodeState V). n.kept.server) (sym node_is) ∙ m.number_is in
-        subst (λ (n : ℕ). (h : IsOneOf (servers_said lines) n) → HasUsedUp g lines n (at n h).at.taken (at n h).at.given) (sym server_is) (λ h. over_at h server_is)
+        e.ends.2 ∙ ap (λ (n : NodeState V). n.kept.server) (sym node_is) ∙ m.number_is
+
+    -- what is left of another one
+    other_left : (n : ℕ) (here : IsOneOf (servers_said lines) n) → (n ≡ server → ⊥) → IsLeftBy g lines r n (at n here).at.taken (at n here).at.given
+    other_left n here other =
+        let away : n - 1 ≢ k = (λ same. (let low : 1 ≤ n = here.first in let is : n ≡ k + 1 = omega (arith, low, same) in other (is ∙ sym server_at))) in
+        let (y, now, m, sits) = seat_on G last early.on n (seat_here n here) in
+        let x = (at n here).at in
+        let left_is : x.left ≡ y = same_there (slice_get left.all.items (n - 1)) x.left y x.stands (elsewhere_now (n - 1) away ∙ now) in
+        still_left n here y now m sits (ap (λ (z : Station V). z.server) left_is ∙ m.keeps.stands)
+
+    pub over : IsUsedUpRun g lines server (λ n here. (at n here).at.taken) (λ n here. (at n here).at.given)
+    over = record {
+      last = r;
+      short = subst (λ (q : RunFault). IsCutShort lines q r) is (cut_short G lines f left early all_told_then bare_then);
+      others = other_left;
+      over = subst (λ (n : ℕ). (h : IsOneOf (servers_said lines) n) → HasUsedUp g lines r n (at n h).at.taken (at n h).at.given) (sym server_at) (λ h. over_at h server_at);
+    }

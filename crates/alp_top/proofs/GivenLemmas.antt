@@ -246,10 +246,12 @@ module _ {V D : Type 0} (G : VaultGhosts V) (g : Ghosts D) (tells : Bool) (told 
       go fault.JournalFull x of make = absurd of
       go (fault.Disk s) (inl x) of make = absurd x.1
       go (fault.Disk s) (inr x) of make =
-          next_left (λ n d e. n ≡ s → Rose (g.faults d) (g.faults e)) s of.0 (λ n here d e u is. absurd (below n s here of.0 is)) (make (λ n d e. n ≡ s → Rose (g.faults d) (g.faults e)) x (λ d e why is. why.1))
+          next_left (λ n d e. (n ≡ s → Rose (g.faults d) (g.faults e)) × ((n ≡ s → ⊥) → StopNone lines → g.faults e ≡ g.faults d)) s of.0
+          (λ n here d e u. ((λ is. absurd (below n s here of.0 is)), (λ other none. u.unfailed)))
+          (make (λ n d e. (n ≡ s → Rose (g.faults d) (g.faults e)) × ((n ≡ s → ⊥) → StopNone lines → g.faults e ≡ g.faults d)) x (λ d e why. ((λ is. why.1), (λ other. absurd (other (sym of.0))))))
       go (fault.EpochEnd s) (inl x) of make = absurd x.1
       go (fault.EpochEnd s) (inr x) of make = inl (stops (IsAtItsEnd g lines) s of (make (IsAtItsEnd g lines) x (λ d e why. (why.1, why.2))))
       go (fault.NotAVolume s found) (inl x) of make = absurd x.1
       go (fault.NotAVolume s found) (inr x) of make = stops (λ n. IsNoVolume g lines n found) s of (make (λ n. IsNoVolume g lines n found) x (λ d e why. (why.1, why.2)))
       go (fault.Damaged s place) (inl x) of make = absurd x.1
-      go (fault.Damaged s place) (inr x) of make = stops (λ n. IsDamaged g lines n place) s of (make (λ n. IsDamaged g lines n place) x (λ d e why. (why.1, why.2)))
+      go (fault.Damaged s place) (inr x) of make = inl (stops (λ n. IsDamaged g lines n place) s of (make (λ n. IsDamaged g lines n place) x (λ d e why. why.1)))

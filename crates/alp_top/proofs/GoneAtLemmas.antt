@@ -5,7 +5,7 @@ use Rattle.std.proofs.lemmas.Bool.{cases_eq}
 use Rattle.alp_base.specs.Causes.{Rose}
 use Rattle.alp_base.specs.declared.faults.VaultFault.{VaultFault}
 use Rattle.alp_base.specs.declared.faults.VaultFault.TheVariants as vault_fault
-use Rattle.alp_course.specs.Courses.{IsOneOf}
+use Rattle.alp_course.specs.Courses.{Course, IsOneOf}
 use Rattle.alp_disk.specs.declared.disk.Disk.{Ghosts}
 use Rattle.alp_node.specs.NodeStates.{NodeState}
 use Rattle.alp_node.specs.declared.opened.Opened.{Opened}
@@ -27,7 +27,7 @@ use Rattle.alp_cluster.specs.declared.stations.Stations.{Stations}
 use Rattle.alp_cluster.proofs.GoneLemmas.{gone_then}
 use Rattle.alp_top.specs.Disks.{IsBegunAt, AreBegun, AreOthersSame, IsGiven, IsLeftAt, AreLeftBy, IsClosedAt, AreClosed}
 use Rattle.alp_top.specs.Faults.{of_vault, of_start, played}
-use Rattle.alp_top.specs.Volumes.{pages_of, IsReturned, AreReturned, AreLeft, HasRunCause, HasFilled, HasUsedUp, IsOfServers}
+use Rattle.alp_top.specs.Volumes.{pages_of, IsReturned, AreReturned, AreLeft, IsCutShort, IsLeftBy, HasFilled, HasUsedUp, HasRunCause, IsOfServers}
 use Rattle.alp_top.specs.declared.fault.NoReport.{NoReport}
 use Rattle.alp_top.specs.declared.fault.NoReport.TheVariants as fault
 use Rattle.alp_top.proofs.GivenLemmas.{one_vault, up_vault, station_at, stations_many}
@@ -151,6 +151,22 @@ module _ {V D : Type 0} (G : VaultGhosts V) (g : Ghosts D) (tells : Bool) (lines
 
 -- ---- why a run was not played to its end
 
+-- a journal was full
+pub record IsFilledRun {D : Type 0} (g : Ghosts D) (lines : List NumberedLine) (taken given : (n : ℕ) → IsOneOf (servers_said lines) n → D) : Type 0 where
+  pub last : Course
+  pub short : IsCutShort lines run_fault.JournalFull last
+  pub each : (n : ℕ) (here : IsOneOf (servers_said lines) n) → IsLeftBy g lines last n (taken n here) (given n here)
+  pub server : ℕ
+  pub among : IsOneOf (servers_said lines) server
+  pub full : (here : IsOneOf (servers_said lines) server) → HasFilled g lines last server (taken server here) (given server here)
+
+-- the epochs of this server are used up
+pub record IsUsedUpRun {D : Type 0} (g : Ghosts D) (lines : List NumberedLine) (server : ℕ) (taken given : (n : ℕ) → IsOneOf (servers_said lines) n → D) : Type 0 where
+  pub last : Course
+  pub short : IsCutShort lines (run_fault.Start server start_fault.EpochEnd) last
+  pub others : (n : ℕ) (here : IsOneOf (servers_said lines) n) → (n ≡ server → ⊥) → IsLeftBy g lines last n (taken n here) (given n here)
+  pub over : (here : IsOneOf (servers_said lines) server) → HasUsedUp g lines last server (taken server here) (given server here)
+
 module _ {V D : Type 0} (G : VaultGhosts V) (g : Ghosts D) (tells : Bool) (lines : List NumberedLine) (before after : ℕ → Option D) (first now : Stations V) (T : Type 0) (f : RunFault) (some : 1 ≤ servers_said lines)
     (at : (n : ℕ) → IsOneOf (servers_said lines) n → IsGoneAt {T = T} G g tells lines before after first now (Err f) n) where
   -- the number of its vault
@@ -224,34 +240,42 @@ module _ {V D : Type 0} (G : VaultGhosts V) (g : Ghosts D) (tells : Bool) (lines
     vault_told : (n : ℕ) (here : IsOneOf (servers_said lines) n) → IsTrue (G.tells (at n here).node.kept.vault)
     vault_told n here = (let x = at n here in subst IsTrue (sym x.begun.started.telling) (x.begun.told told))
 
-    fault_told : (n : ℕ) (here : IsOneOf (servers_said lines) n) → IsToldFault {T = T} n (Err f)
-    fault_told n here = subst (λ (m : ℕ). IsToldFault {T = T} m (Err f)) (here_is n here) ((at n here).gone.told (vault_told n here))
+    fault_told : (n : ℕ) (here : IsOneOf (servers_said lines) n) → IsToldFault {T = T} (servers_said lines) n (Err f)
+    fault_told n here =
+        let many : G.servers (at n here).node.kept.vault ≡ servers_said lines = (let x = at n here in x.begun.started.on.kept.all ∙ x.begun.started.count) in
+        subst (λ (k : ℕ). IsToldFault {T = T} k n (Err f)) many (subst (λ (m : ℕ). IsToldFault {T = T} (G.servers (at n here).node.kept.vault) m (Err f)) (here_is n here) ((at n here).gone.told (vault_told n here)))
 
     record Facts (q : RunFault) : Type 0 where
       failed_so : Failed q
-      told_so : (n : ℕ) (here : IsOneOf (servers_said lines) n) → IsToldFault {T = T} n (Err q)
+      told_so : (n : ℕ) (here : IsOneOf (servers_said lines) n) → IsToldFault {T = T} (servers_said lines) n (Err q)
       counted_so : StopNone lines → (n : ℕ) (here : IsOneOf (servers_said lines) n) → AreCounted n q (G.faults (at n here).node.kept.vault) (G.faults (at n here).vault)
-      filled : q ≡ run_fault.JournalFull → (s : ℕ) × IsOneOf (servers_said lines) s × ((here : IsOneOf (servers_said lines) s) → HasFilled g lines s (at s here).taken (at s here).given)
-      over : (s : ℕ) → q ≡ run_fault.Start s start_fault.EpochEnd → (here : IsOneOf (servers_said lines) s) → HasUsedUp g lines s (at s here).taken (at s here).given
+      filled : q ≡ run_fault.JournalFull → IsFilledRun g lines (λ n here. (at n here).taken) (λ n here. (at n here).given)
+      over : (s : ℕ) → q ≡ run_fault.Start s start_fault.EpochEnd → IsUsedUpRun g lines s (λ n here. (at n here).taken) (λ n here. (at n here).given)
 
-    pub play_ended : (bay_before bay_after : ℕ) → (f ≡ run_fault.JournalFull → (s : ℕ) × IsOneOf (servers_said lines) s × ((here : IsOneOf (servers_said lines) s) → HasFilled g lines s (at s here).taken (at s here).given))
-        → ((s : ℕ) → f ≡ run_fault.Start s start_fault.EpochEnd → (here : IsOneOf (servers_said lines) s) → HasUsedUp g lines s (at s here).taken (at s here).given) → HasRunCause g lines before after bay_before bay_after (played f)
+    pub play_ended : (bay_before bay_after : ℕ) → (f ≡ run_fault.JournalFull → IsFilledRun g lines (λ n here. (at n here).taken) (λ n here. (at n here).given))
+        → ((s : ℕ) → f ≡ run_fault.Start s start_fault.EpochEnd → IsUsedUpRun g lines s (λ n here. (at n here).taken) (λ n here. (at n here).given)) → HasRunCause g lines before after bay_before bay_after (played f)
     play_ended bay_before bay_after filled over = go f (record { failed_so = failed; told_so = fault_told; counted_so = counted; filled = filled; over = over })
       where
-        failing : (s : ℕ) → IsOfRun (servers_said lines) s → ((n : ℕ) (here : IsOneOf (servers_said lines) n) → n ≡ s → Rose (G.faults (at n here).node.kept.vault) (G.faults (at n here).vault)) → HasRunCause g lines before after bay_before bay_after (fault.Disk s)
-        failing s among rose = one_left s among (λ n d e. n ≡ s → Rose (g.faults d) (g.faults e)) (λ n here is. rose_for n here (rose n here is))
+        failing : (s : ℕ) → IsOfRun (servers_said lines) s → ((n : ℕ) (here : IsOneOf (servers_said lines) n) → n ≡ s → Rose (G.faults (at n here).node.kept.vault) (G.faults (at n here).vault))
+            → (StopNone lines → (n : ℕ) (here : IsOneOf (servers_said lines) n) → (n ≡ s → ⊥) → G.faults (at n here).vault ≡ G.faults (at n here).node.kept.vault) → HasRunCause g lines before after bay_before bay_after (fault.Disk s)
+        failing s among rose same =
+            one_left s among (λ n d e. (n ≡ s → Rose (g.faults d) (g.faults e)) × ((n ≡ s → ⊥) → StopNone lines → g.faults e ≡ g.faults d))
+            (λ n here. ((λ is. rose_for n here (rose n here is)), (λ other none. same_for n here (same none n here other))))
 
         go : (q : RunFault) → Facts q → HasRunCause g lines before after bay_before bay_after (played q)
-        go (run_fault.DiskFault s) x = failing s (x.failed_so 1 first_here).0 (λ n here is. (x.failed_so n here).1 (sym is))
+        go (run_fault.DiskFault s) x = failing s (x.failed_so 1 first_here).0 (λ n here is. (x.failed_so n here).1 (sym is)) (λ none n here other. (x.counted_so none n here).1 (λ is. other (sym is)))
         go run_fault.OutOfMemory x = (servers_said lines, omega arith, returned (λ n d e. StopNone lines → g.faults e ≡ g.faults d) (λ n here none. same_for n here (x.counted_so none n here)))
         go run_fault.JournalFull x =
-            let (s, among, h) = x.filled refl in (
-              s,
-              among,
-              returned (λ n d e. n ≡ s → HasFilled g lines n d e) (λ n here is. subst (λ (m : ℕ). (here : IsOneOf (servers_said lines) m) → HasFilled g lines m (at m here).taken (at m here).given) (sym is) h here),
+            let y = x.filled refl in (
+              y.last,
+              y.short,
+              y.server,
+              y.among,
+              returned (λ n d e. IsLeftBy g lines y.last n d e × (n ≡ y.server → HasFilled g lines y.last n d e))
+                  (λ n here. (y.each n here, (λ is. subst (λ (m : ℕ). (here : IsOneOf (servers_said lines) m) → HasFilled g lines y.last m (at m here).taken (at m here).given) (sym is) y.full here))),
             )
-        go (run_fault.Start s (start_fault.Vault vault_fault.Failed)) x = failing s (x.failed_so 1 first_here).0 (λ n here is. (x.failed_so n here).1 (sym is))
-        go (run_fault.Start s (start_fault.Vault vault_fault.Stopped)) x = failing s (x.failed_so 1 first_here).0 (λ n here is. absurd ((x.failed_so n here).1 (sym is)))
+        go (run_fault.Start s (start_fault.Vault vault_fault.Failed)) x = failing s (x.failed_so 1 first_here).0 (λ n here is. (x.failed_so n here).1 (sym is)) (λ none n here other. (x.counted_so none n here).1 (λ is. other (sym is)))
+        go (run_fault.Start s (start_fault.Vault vault_fault.Stopped)) x = failing s (x.failed_so 1 first_here).0 (λ n here is. absurd ((x.failed_so n here).1 (sym is))) (λ none n here other. (x.counted_so none n here).1 (λ is. other (sym is)))
         go (run_fault.Start s (start_fault.Vault vault_fault.OutOfMemory)) x = (
           servers_said lines,
           omega arith,
@@ -259,8 +283,18 @@ module _ {V D : Type 0} (G : VaultGhosts V) (g : Ghosts D) (tells : Bool) (lines
         )
         go (run_fault.Start s (start_fault.Vault (vault_fault.NotAVolume found))) x = absurd (x.told_so s (one_of s (x.failed_so 1 first_here).0) refl)
         go (run_fault.Start s (start_fault.Vault (vault_fault.Damaged place))) x = absurd (x.told_so s (one_of s (x.failed_so 1 first_here).0) refl)
-        go (run_fault.Start s start_fault.BadNote) x = absurd (x.told_so s (one_of s (x.failed_so 1 first_here).0) refl)
-        go (run_fault.Start s start_fault.EpochEnd) x = inr (
+        go (run_fault.Start s start_fault.BadNote) x = inr (
+          refl,
+          x.told_so s (one_of s (x.failed_so 1 first_here).0) refl,
           one_of s (x.failed_so 1 first_here).0,
-          returned (λ n d e. n ≡ s → HasUsedUp g lines n d e) (λ n here is. subst (λ (m : ℕ). (here : IsOneOf (servers_said lines) m) → HasUsedUp g lines m (at m here).taken (at m here).given) (sym is) (x.over s refl) here),
+          returned (λ n d e. StopNone lines → g.faults e ≡ g.faults d) (λ n here none. same_for n here (elim (cases_eq s n) [ inl is ↦ (x.counted_so none n here).0 is | inr away ↦ (x.counted_so none n here).1 away ])),
         )
+        go (run_fault.Start s start_fault.EpochEnd) x =
+            let y = x.over s refl in
+            inr (
+              y.last,
+              y.short,
+              one_of s (x.failed_so 1 first_here).0,
+              returned (λ n d e. ((n ≡ s → ⊥) → IsLeftBy g lines y.last n d e) × (n ≡ s → HasUsedUp g lines y.last n d e))
+                  (λ n here. ((λ other. y.others n here other), (λ is. subst (λ (m : ℕ). (here : IsOneOf (servers_said lines) m) → HasUsedUp g lines y.last m (at m here).taken (at m here).given) (sym is) y.over here))),
+            )

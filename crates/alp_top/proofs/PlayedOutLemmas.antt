@@ -34,14 +34,14 @@ use Rattle.alp_top.specs.Endings.{IsLogAt, AreRestsOf, IsReportOf}
 use Rattle.alp_top.specs.Headline.{IsStoredBy, IsRunOf}
 use Rattle.alp_top.specs.Logs.{Log, ServerOfLog, openings, start_of}
 use Rattle.alp_top.specs.Reports.{end_of}
-use Rattle.alp_top.specs.Volumes.{pages_of, IsBare, IsStored, AreReturned}
+use Rattle.alp_top.specs.Volumes.{pages_of, IsBare, HasNoPart, IsStored, AreReturned}
 use Rattle.alp_top.specs.declared.finish.Rests.{Rests}
 use Rattle.alp_top.proofs.GoneAtLemmas.{IsGoneAt, IsDoneAt, done_at}
 use Rattle.alp_top.proofs.LonelyLemmas.{is_alone}
 use Rattle.alp_top.proofs.PairLemmas.{matched_at, same_there}
 use Rattle.alp_top.proofs.SeatedLemmas.{there_less, seat_on, many}
-use Rattle.alp_top.proofs.SeveralLemmas.{one_node, one_same, log_many, faithful, decided_whole, tallied}
-use Rattle.alp_top.proofs.StoredLemmas.{stored, bare_as}
+use Rattle.alp_top.proofs.SeveralLemmas.{one_node, one_same, log_many, faithful, decided_whole, decided_fresh, settled, tallied}
+use Rattle.alp_top.proofs.StoredLemmas.{stored, bare_as, bare_blank}
 
 -- ---- openings
 
@@ -96,9 +96,9 @@ module _ {V D U : Type 0} (G : VaultGhosts V) (g : Ghosts D) (tells : Bool) (tol
       let one : x.at.left ≡ s = same_there (slice_get last.all.items i) x.at.left s (ap (slice_get last.all.items) (sym minus) ∙ x.at.stands) at in
       subst (λ (z : Station V). IsTrue (seat_of G z).tells) one (subst (λ o. IsTrue (seat_for G x.at.left.is_fused x.at.left.ranks.items o).tells) (sym x.rests) (rest_told (i + 1) here)))
 
-  -- it opened with nothing
-  bare_at : (n : ℕ) → IsSeat (course_of G last) n → IsBare (seat_at (course_of G last) n).opening
-  bare_at n seat =
+  -- where that holds of what was started, the server opened with nothing
+  bare_by : (n : ℕ) → ((here : IsOneOf (servers_said lines) n) (m : NodeState V) → IsOn G m → m.kept.server ≡ n → m.opening ≡ (at_end n here).at.node.opening → IsTrue (G.tells m.kept.vault) → IsBare (start_in G m)) → IsSeat (course_of G last) n → IsBare (seat_at (course_of G last) n).opening
+  bare_by n makes seat =
       let here : IsOneOf (servers_said lines) n = record { first = seat.first; last = (let high : n ≤ length (course_of G last).seats = seat.last in let count : length last.all.items ≡ servers_said lines = out.count in let all : length (course_of G last).seats ≡ length last.all.items = many G last out.on in omega (arith, high, count, all)) } in
       let x = at_end n here in
       let (s, at, m, sits) = seat_on G last out.on n seat in
@@ -106,8 +106,17 @@ module _ {V D U : Type 0} (G : VaultGhosts V) (g : Ghosts D) (tells : Bool) (tol
       let node_is : m.node ≡ x.rest = one_node s.server m.node x.rest m.keeps.stands (ap (λ (z : Station V). z.server) one ∙ x.rests) in
       let opening : x.rest.opening ≡ x.at.node.opening = opening_same first last (n - 1) x.at.station x.at.left x.at.node x.rest opens x.at.stood x.at.was x.at.stands x.rests in
       let number : x.rest.kept.server ≡ n = ap (λ (k : NodeState V). k.kept.server) (sym node_is) ∙ m.number_is in
-      subst (λ (z : Seat). IsBare z.opening) (sym sits) (subst (λ (k : NodeState V). IsBare (start_in G k)) (sym node_is)
-      (bare_as G g (sizes_said lines n) n (servers_said lines) x.at.node x.rest x.at.vault x.at.taken x.at.given x.at.begun.started (x.at.begun.told told) (subst (λ (k : NodeState V). IsOn G k) node_is m.keeps.on) number opening (rest_told n here)))
+      subst (λ (z : Seat). IsBare z.opening) (sym sits) (subst (λ (k : NodeState V). IsBare (start_in G k)) (sym node_is) (makes here x.rest (subst (λ (k : NodeState V). IsOn G k) node_is m.keeps.on) number opening (rest_told n here)))
+
+  bare_alone : servers_said lines ≡ 1 → (n : ℕ) → IsSeat (course_of G last) n → IsBare (seat_at (course_of G last) n).opening
+  bare_alone one n seat = bare_by n (λ here m on number opening tells_m.
+      let x = (at_end n here).at in
+      bare_as G g (sizes_said lines n) n (servers_said lines) x.node m x.vault x.taken x.given x.begun.started (x.begun.told told) on number opening tells_m one) seat
+
+  bare_fresh : ((n : ℕ) → IsOneOf (servers_said lines) n → HasNoPart g lines n (before n)) → (n : ℕ) → IsSeat (course_of G last) n → IsBare (seat_at (course_of G last) n).opening
+  bare_fresh none n seat = bare_by n (λ here m on number opening tells_m.
+      let x = (at_end n here).at in
+      bare_blank G g (sizes_said lines n) n (servers_said lines) x.node m x.vault x.taken x.given x.begun.started (x.begun.told told) on number opening tells_m (none n here x.taken (x.begun.was told))) seat
 
   -- what it holds is what its journal says
   stored_at : (n : ℕ) (here : IsOneOf (servers_said lines) n) → IsStoredBy G g lines log n (at_end n here).at.taken (at_end n here).at.given
@@ -161,10 +170,12 @@ module _ {V D U : Type 0} (G : VaultGhosts V) (g : Ghosts D) (tells : Bool) (tol
   pub run_over : IsRunOf G g lines log printed before after
   run_over = record {
     count = log_many G lines last vs text printed log rests rises out kept is;
-    report = tallied G lines last vs text printed log rests rises out kept is all_told few bare_at;
-    faithful = faithful G lines last vs text printed log rests rises out kept is all_told few bare_at;
+    report = tallied G lines last vs text printed log rests rises out kept is all_told;
+    faithful = faithful G lines last vs text printed log rests rises out kept is all_told;
     stored = returned_all;
-    whole = decided_whole G lines last vs text printed log rests rises out kept is all_told few bare_at;
+    whole = decided_whole G lines last vs text printed log rests rises out kept is all_told;
+    settled = settled G lines last vs text printed log rests rises out kept is all_told;
+    fresh = λ none. decided_fresh G lines last vs text printed log rests rises out kept is all_told few (bare_fresh none);
     alone = λ one. is_alone G lines last vs text printed log rests rises out kept is all_told one
-        (bare_at 1 (record { first = omega arith; last = (let count : length last.all.items ≡ servers_said lines = out.count in let all : length (course_of G last).seats ≡ length last.all.items = many G last out.on in omega (arith, one, count, all)) }));
+        (bare_alone one 1 (record { first = omega arith; last = (let count : length last.all.items ≡ servers_said lines = out.count in let all : length (course_of G last).seats ≡ length last.all.items = many G last out.on in omega (arith, one, count, all)) }));
   }

@@ -32,7 +32,7 @@ use Rattle.alp_top.specs.Endings.{AreRestsOf, IsReportOf}
 use Rattle.alp_top.specs.Faults.{of_bay, played}
 use Rattle.alp_top.specs.Headline.{IsRunOf}
 use Rattle.alp_top.specs.Logs.{Log}
-use Rattle.alp_top.specs.Volumes.{HasFilled, HasUsedUp, HasRunCause, IsBayFault, IsBayTold, IsOfServers}
+use Rattle.alp_top.specs.Volumes.{HasRunCause, IsBayFault, IsBayTold, IsOfServers}
 use Rattle.alp_top.specs.declared.fault.NoReport.{NoReport}
 use Rattle.alp_top.specs.declared.fault.NoReport.TheVariants as fault
 use Rattle.alp_top.specs.declared.finish.Rests.{Rests}
@@ -180,8 +180,8 @@ module _ {V D : Type 0} (G : VaultGhosts V) (g : Ghosts D) (tells : Bool) (lines
       fell_ended told bay_before bay_after ended opens =
           play_ended G g tells lines before after first now (Unit {0}) f some (λ n here. (fell_at n here).at) told
           (others_same G g tells lines before mid after h.nodes h.disks first now h.gathered.stations h.many h.begun h.others (Err f) gone told (left.others told)) bay_before bay_after
-          (λ is. filled G g tells told lines before after first now f few (end_full f (λ e. HasEndedEarly G (servers_said lines) lines e now) ended is) fell_at (end_full f (λ e. openings_of now ≡ openings_of first) opens is) is)
-          (λ s is. over G g tells told lines before after first now f few (end_over f s (λ e. HasEndedEarly G (servers_said lines) lines e now) ended is) fell_at (end_over f s (λ e. openings_of now ≡ openings_of first) opens is) s is)
+          (λ is. filled G g tells told lines before after first now f (end_full f (λ e. HasEndedEarly G (servers_said lines) lines e now) ended is) fell_at (end_full f (λ e. openings_of now ≡ openings_of first) opens is) is)
+          (λ s is. over G g tells told lines before after first now f (end_over f s (λ e. HasEndedEarly G (servers_said lines) lines e now) ended is) fell_at (end_over f s (λ e. openings_of now ≡ openings_of first) opens is) s is)
 
   -- ---- when it was played
 

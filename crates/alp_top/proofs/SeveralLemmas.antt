@@ -15,11 +15,13 @@ use Rattle.alp_journal.specs.declared.entry.Entry.{Entry}
 use Rattle.alp_journal.specs.declared.log.Item.{Item}
 use Rattle.alp_history.specs.Log as logs
 use Rattle.alp_history.specs.RunLogs as runs
-use Rattle.alp_history.specs.Theorems.{IsProper}
+use Rattle.alp_history.specs.Theorems.{IsProper, IsSettled}
 use Rattle.alp_history.proofs.Merged.{history}
 use Rattle.alp_history.proofs.Agreed.{agreement}
 use Rattle.alp_history.proofs.EffectiveActs.{listing}
 use Rattle.alp_history.proofs.Wholes.{wholeness}
+use Rattle.alp_course.proofs.SeatLemmas.{of_seat}
+use Rattle.alp_course.specs.Resting.{AreSpelled}
 use Rattle.alp_course.specs.Courses.{Course, Seat, IsOneOf, IsSeat, no_seat, seat_at, TellAll}
 use Rattle.alp_course.specs.Links as links
 use Rattle.alp_course.specs.Links.{server_log}
@@ -56,7 +58,7 @@ use Rattle.alp_top.specs.Reports.{end_of, holding_in, files_text_of, owners_text
 use Rattle.alp_top.specs.Tallies.{begun_in, committed_in}
 use Rattle.alp_top.specs.declared.finish.Rests.{Rests}
 use Rattle.alp_top.specs.Volumes.{IsBare}
-use Rattle.alp_top.proofs.OpeningLemmas.{IsOpenedWell, all_bare, sound_openings}
+use Rattle.alp_top.proofs.OpeningLemmas.{IsOpenedWell, sound_openings}
 use Rattle.alp_top.proofs.PairLemmas.{matched_many, matched_map, same_there}
 use Rattle.alp_top.proofs.SeatedLemmas.{there_less, seat_on, numbered, of_each, proper_course, many}
 use Rattle.alp_top.proofs.SummaryLemmas.{held_is, owned_is}
@@ -220,7 +222,7 @@ module _ {V : Type 0} (G : Ghosts V) (lines : List NumberedLine) (last : Station
 
   -- ---- where all vaults tell
 
-  module _ (told : TellAll r) (few : servers_said lines ≤ 8) (bare : (n : ℕ) → IsSeat r n → IsBare (seat_at r n).opening) where
+  module _ (told : TellAll r) where
     seat_told : (n : ℕ) → IsSeat r n → IsTrue (seat_at r n).tells
     seat_told n here = all_seat (λ (s : Seat). IsTrue s.tells) r.seats (n - 1) told (omega (arith, here.first, here.last))
 
@@ -229,14 +231,6 @@ module _ {V : Type 0} (G : Ghosts V) (lines : List NumberedLine) (last : Station
         let (x, at, m, same) = seat_on G last out.on n here in
         let tells : IsTrue (G.tells m.node.kept.vault) = subst (λ (s : Seat). IsTrue s.tells) same (seat_told n here) in
         subst (λ (s : Seat). IsLawful s.opening s.journal × Along next IsDone (opened s.opening) s.journal) (sym same) ((m.keeps.on.kept.right tells).lawful, m.keeps.on.answered tells)
-
-    seat_well : (n : ℕ) → IsSeat r n → IsOpenedWell (seat_at r n)
-    seat_well n here =
-        let (x, at, m, same) = seat_on G last out.on n here in
-        let tells : IsTrue (G.tells m.node.kept.vault) = subst (λ (s : Seat). IsTrue s.tells) same (seat_told n here) in
-        let right : node.IsRight (start_in G m.node) (G.held m.node.kept.vault) m.node = m.keeps.on.kept.right tells in
-        let all : (start_in G m.node).servers ≡ servers_said lines = m.keeps.on.all ∙ m.count_is ∙ out.count in
-        subst IsOpenedWell (sym same) (record { few = omega (arith, all, few); files = right.opening.parts.sound [] refl; sizes = right.opening.parts.sized; bare = subst (λ (s : Seat). IsBare s.opening) same (bare n here) })
 
     seat_up : (i : ℕ) (s : Station V) → slice_get last.all.items i ≡ Some s → IsUpTold G servers s
     seat_up i s at =
@@ -258,17 +252,16 @@ module _ {V : Type 0} (G : Ghosts V) (lines : List NumberedLine) (last : Station
     faithful = record {
       script = of_script;
       tells = told;
-      bare = subst (λ (l : logs.Log). (n : ℕ) → IsBare (logs.opening_of l n)) log_same (all_bare r (runs.handed_of (lists_of G log)) (numbered G last out.on) seat_well);
       linked = subst logs.IsLinked log_same (linking out.ran.first r out.hs (runs.handed_of (lists_of G log)) out.ran.is_first out.ran.course);
       lawful = subst logs.AreLawful log_same (of_each (λ l. IsLawful l.opening l.journal) r (runs.handed_of (lists_of G log)) (numbered G last out.on) (λ n here. (seat_right n here).0) (λ n. tt));
       caused = subst (λ (l : logs.Log). (n : ℕ) → Along next IsDone (opened (logs.opening_of l n)) (logs.journal_of l n)) log_same
           (of_each (λ l. Along next IsDone (opened l.opening) l.journal) r (runs.handed_of (lists_of G log)) (numbered G last out.on) (λ n here. (seat_right n here).1) (λ n. tt));
     }
 
-    pub decided_whole : AreDecidedWhole (log_of G log)
-    decided_whole =
+    pub decided_whole : logs.AreSoundOpenings (log_of G log) → AreDecidedWhole (log_of G log)
+    decided_whole sound =
         let p : IsProper (log_of G log) = subst IsProper log_same
-        (proper_course out.ran.first r out.hs (runs.handed_of (lists_of G log)) out.ran.is_first out.ran.course (numbered G last out.on) (λ n here. (seat_right n here).0) (sound_openings r (runs.handed_of (lists_of G log)) (numbered G last out.on) seat_well)) in
+        (proper_course out.ran.first r out.hs (runs.handed_of (lists_of G log)) out.ran.is_first out.ran.course (numbered G last out.on) (λ n here. (seat_right n here).0) (subst logs.AreSoundOpenings (sym log_same) sound)) in
         let h = history (log_of G log) p in
         record {
           whole = wholeness (log_of G log) p;
@@ -277,6 +270,32 @@ module _ {V : Type 0} (G : Ghosts V) (lines : List NumberedLine) (last : Station
           serial = record { replies = h.replies; files = h.files };
           charged = record { each = h.charged; last = h.charged_last };
         }
+
+    -- behind it all they are at rest
+    pub settled : logs.AreSoundOpenings (log_of G log) → ((n : ℕ) → IsOneOf servers n → AreSpelled (logs.opening_of (log_of G log) n)) → (n : ℕ) → IsOneOf servers n → IsSettled (logs.final (log_of G log) n)
+    settled sound spelled n one =
+        let handed = runs.handed_of (lists_of G log) in
+        let seats : length r.seats ≡ servers = many G last out.on ∙ out.count in
+        let here : IsSeat r n = record { first = one.first; last = (let high : n ≤ servers = one.last in omega (arith, high, seats)) } in
+        let there : (k : ℕ) (seat : IsSeat r k) → logs.of (log_of G log) k ≡ server_log (seat_at r k) = (λ k seat. ap (λ (l : logs.Log). logs.of l k) (sym log_same) ∙ of_seat r handed k (numbered G last out.on) seat) in
+        let rested : IsSettled (seat_at r n).stand.state = out.rested handed told (subst logs.AreSoundOpenings (sym log_same) sound)
+        (λ k seat. subst (λ (l : logs.ServerLog). AreSpelled l.opening) (there k seat) (spelled k (record { first = seat.first; last = (let high : k ≤ length r.seats = seat.last in omega (arith, high, seats)) }))) n here in
+        let (x, at, m, same) = seat_on G last out.on n here in
+        let ends : (seat_at r n).stand.state ≡ state_after next (opened (seat_at r n).opening) (seat_at r n).journal = subst (λ (z : Seat). z.stand.state ≡ state_after next (opened z.opening) z.journal) (sym same) refl in
+        subst IsSettled (ends ∙ ap (λ (l : logs.ServerLog). state_after next (opened l.opening) l.journal) (sym (there n here))) rested
+
+    -- where the servers opened with nothing, what they opened on is sound
+    module _ (few : servers_said lines ≤ 8) (bare : (n : ℕ) → IsSeat r n → IsBare (seat_at r n).opening) where
+      seat_well : (n : ℕ) → IsSeat r n → IsOpenedWell (seat_at r n)
+      seat_well n here =
+          let (x, at, m, same) = seat_on G last out.on n here in
+          let tells : IsTrue (G.tells m.node.kept.vault) = subst (λ (s : Seat). IsTrue s.tells) same (seat_told n here) in
+          let right : node.IsRight (start_in G m.node) (G.held m.node.kept.vault) m.node = m.keeps.on.kept.right tells in
+          let all : (start_in G m.node).servers ≡ servers_said lines = m.keeps.on.all ∙ m.count_is ∙ out.count in
+          subst IsOpenedWell (sym same) (record { few = omega (arith, all, few); files = right.opening.parts.sound [] refl; sizes = right.opening.parts.sized; bare = subst (λ (s : Seat). IsBare s.opening) same (bare n here) })
+
+      pub decided_fresh : AreDecidedWhole (log_of G log)
+      decided_fresh = decided_whole (subst logs.AreSoundOpenings log_same (sound_openings r (runs.handed_of (lists_of G log)) (numbered G last out.on) seat_well))
 
     pub tallied : printed ≡ tallied_report G lines log
     tallied =

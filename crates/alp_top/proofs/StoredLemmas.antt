@@ -1,23 +1,25 @@
 -- what a server leaves on its disk
 use Rattle.std.specs.Prelude.{IsTrue, false}
-use Rattle.std.proofs.Common.{◌≡◌, ℕ, ◌≤◌, refl, sym, ◌∙◌, ap, subst, arith}
+use Rattle.std.proofs.Common.{inl, inr, ◌⊎◌, List, ◌≡◌, ℕ, ◌≤◌, refl, sym, ◌∙◌, ap, subst, arith}
 use Rattle.std.specs.FinMap as map
 use Rattle.alp_base.specs.Notes.{Notes}
 use Rattle.alp_base.specs.declared.faults.Sizes.{Sizes}
 use Rattle.alp_disk.specs.declared.disk.Disk.{Ghosts}
 use Rattle.alp_files.specs.Apart.{AreSized}
 use Rattle.alp_files.specs.Cells.{Cells}
-use Rattle.alp_fields.specs.ClockNote.{AreClockNotes}
+use Rattle.alp_fields.specs.ClockNote.{clock_name, AreClockNotes}
 use Rattle.alp_journal.specs.Account.{Account, state_of as account_state}
-use Rattle.alp_journal.specs.Opening.{Start, start_at}
+use Rattle.alp_journal.specs.Opening.{Start, start_at, ready_kept, decisions_kept}
 use Rattle.alp_journal.specs.State.{State}
 use Rattle.alp_journal.proofs.NoteLemmas.{none_ready, none_decided}
+use Rattle.alp_node.proofs.FoundNotes.{clock_beside}
 use Rattle.alp_node.specs.Durable.{IsSaid}
 use Rattle.alp_node.specs.Nodes as node
 use Rattle.alp_node.specs.Nodes.{start_in}
 use Rattle.alp_node.specs.NodeStates.{NodeState}
 use Rattle.alp_store.specs.Holding.{Holds}
 use Rattle.alp_store.specs.Starts.{IsNew}
+use Rattle.alp_vault.specs.Contents.{Contents}
 use Rattle.alp_vault.specs.Vault.{IsSameVault}
 use Rattle.alp_vault.specs.Volumes.{AreServerNotes}
 use Rattle.alp_vault.specs.declared.vault.Vault.{Ghosts as VaultGhosts}
@@ -25,7 +27,7 @@ use Rattle.alp_vault.proofs.VolumeLemmas.{alone_so_far}
 use Rattle.alp_cluster.specs.Servers.{IsOn, state_of}
 use Rattle.alp_top.specs.Disks.{IsStarted, IsGiven, notes_in}
 use Rattle.alp_top.specs.Volumes.{IsOpenedNew, IsOpenedOn, IsBare, IsSoundAlone, IsStored}
-use Rattle.alp_top.proofs.BeginLemmas.{holds_by}
+use Rattle.alp_top.proofs.BeginLemmas.{holds_by, new_by, empty_noted}
 
 module _ {V D : Type 0} (G : VaultGhosts V) (g : Ghosts D) (sizes : Sizes) (number servers : ℕ) (n m : NodeState V) (v : V) (d e : D) (begun : IsStarted G g sizes number servers d n) (told : IsTrue (g.tells d)) (on : IsOn G m) (here : m.kept.server ≡ number)
     (opening : m.opening ≡ n.opening) (telling : IsTrue (G.tells m.kept.vault)) where
@@ -38,9 +40,24 @@ module _ {V D : Type 0} (G : VaultGhosts V) (g : Ghosts D) (sizes : Sizes) (numb
   right : node.IsRight (start_in G m) (G.held m.kept.vault) m
   right = on.kept.right telling
 
-  -- it opened with nothing
-  pub bare_as : IsBare (start_in G m)
-  bare_as = subst IsBare (sym same_start) (begun.bare told)
+  -- where it is the only one, it opened with nothing
+  pub bare_as : servers ≡ 1 → IsBare (start_in G m)
+  bare_as one = subst IsBare (sym same_start) (begun.alone told one)
+
+  -- so it did where its disk had no part
+  pub bare_blank : IsNew sizes (g.size d) (g.seen d) ⊎ ((home : ℕ) (held : Contents) → Holds number servers (g.size d) home (g.seen d) held → AreClockNotes held.notes) → IsBare (start_in G m)
+  bare_blank h = subst IsBare (sym same_start) (go h (new_by sizes (g.size d) (g.seen d)))
+    where
+      by_notes : (before : Notes) (value : List ℕ) → notes_in G n ≡ map.insert before clock_name value → AreClockNotes before → IsBare (start_in G n)
+      by_notes before value is clock = record { ready = ap ready_kept is ∙ (clock_beside before value).0 ∙ none_ready before clock; decisions = ap decisions_kept is ∙ (clock_beside before value).1 ∙ none_decided before clock }
+
+      blank : IsNew sizes (g.size d) (g.seen d) → IsBare (start_in G n)
+      blank is = by_notes map.empty _ (begun.new told is).noted empty_noted
+
+      go : IsNew sizes (g.size d) (g.seen d) ⊎ ((home : ℕ) (held : Contents) → Holds number servers (g.size d) home (g.seen d) held → AreClockNotes held.notes) → IsNew sizes (g.size d) (g.seen d) ⊎ (IsNew sizes (g.size d) (g.seen d) → ⊥) → IsBare (start_in G n)
+      go (inl is) two = blank is
+      go (inr f) (inl is) = blank is
+      go (inr f) (inr old) = (let o = begun.found told old in by_notes o.held.notes _ o.noted (f _ o.held o.holds))
 
   -- its opening
   pub opened_new : IsNew sizes (g.size d) (g.seen d) → IsOpenedNew sizes (start_in G m) (notes_in G m)

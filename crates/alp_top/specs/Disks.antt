@@ -66,7 +66,8 @@ pub record IsGivenAs {A B : Type 0} (g : Ghosts A) (h : Ghosts B) (tells : Bool)
 abbrev pub notes_in : {V : Type 0} → VaultGhosts V → NodeState V → Notes
 notes_in G n = (G.held n.opening.vault.value).notes
 
--- The server of this number, one of so many, was started on this disk, and did nothing yet. It opened on what the disk read, and found no part and no decision.
+-- The server of this number, one of so many, was started on this disk, and did nothing yet. It opened on what the disk read; the only server of a
+-- run found no part and no decision.
 pub record IsStarted {V D : Type 0} (G : VaultGhosts V) (g : Ghosts D) (sizes : Sizes) (server servers : ℕ) (taken : D) (n : NodeState V) : Type 0 where
   pub on : IsOn G n
   pub idle : IsIdle G n
@@ -75,7 +76,7 @@ pub record IsStarted {V D : Type 0} (G : VaultGhosts V) (g : Ghosts D) (sizes : 
   pub telling : G.tells n.kept.vault ≡ g.tells taken
   pub sized : g.size taken ≡ pages_of (G.volume n.kept.vault)
   pub faults : G.faults n.kept.vault ≡ g.faults taken
-  pub bare : IsTrue (g.tells taken) → IsBare (start_in G n)
+  pub alone : IsTrue (g.tells taken) → servers ≡ 1 → IsBare (start_in G n)
   pub new : IsTrue (g.tells taken) → IsNew sizes (g.size taken) (g.seen taken) → IsOpenedNew sizes (start_in G n) (notes_in G n)
   pub found : IsTrue (g.tells taken) → (IsNew sizes (g.size taken) (g.seen taken) → ⊥) → IsOpenedOn server servers (g.size taken) (g.seen taken) (start_in G n) (notes_in G n)
 

@@ -10,7 +10,7 @@ use Rattle.alp_journal.specs.Moves.{next}
 use Rattle.alp_journal.specs.State.{opened}
 use Rattle.alp_history.specs.Handed.{ArePromisesKept}
 use Rattle.alp_history.specs.Log as logs
-use Rattle.alp_history.specs.Theorems.{AreWhole, AreListed, DoAgreeOnEnds}
+use Rattle.alp_history.specs.Theorems.{AreWhole, AreListed, DoAgreeOnEnds, IsSettled}
 use Rattle.alp_script.specs.Accepted.{servers_said}
 use Rattle.alp_script.specs.Reading.{GaveScript}
 use Rattle.alp_script.specs.Volumes.{sizes_said}
@@ -21,13 +21,14 @@ use Rattle.alp_course.specs.Courses.{Course, Occurrence, IsOneOf, TellAll, AreCo
 use Rattle.alp_course.specs.Links.{IsFirst, AreNumbered, server_log}
 use Rattle.alp_course.specs.Lone.{happenings_of}
 use Rattle.alp_course.specs.Plays.{ArePlayed}
+use Rattle.alp_course.specs.Resting.{AreSpelled}
 use Rattle.alp_course.specs.Settles.{AreUp, AreTaken}
 use Rattle.alp_course.specs.Turns.{turns_of, own_in}
 use Rattle.alp_cluster.specs.Runs.{StopNone}
 use Rattle.alp_cluster.specs.Servers.{IsDone}
 use Rattle.alp_top.specs.Logs.{Log, ServerOfLog, openings, start_of, log_of, lists_of}
 use Rattle.alp_top.specs.Reports.{end_of, report_of, tallied_report}
-use Rattle.alp_top.specs.Volumes.{IsBare, IsStored, AreReturned, HasRunCause, StartsOn}
+use Rattle.alp_top.specs.Volumes.{IsBare, HasNoPart, IsStored, AreReturned, HasRunCause, StartsOn}
 use Rattle.alp_top.specs.declared.fault.NoReport.{NoReport}
 
 -- ---- what happened
@@ -55,13 +56,11 @@ pub record IsOfScript {V : Type 0} (G : Ghosts V) (lines : List NumberedLine) (l
   pub taken : AreTaken last
 
 -- Each journal is lawful. Each reply has its cause, and comes just where that stands, with what comes about by it; no device failed. The
--- journals are linked: ranks rise along each, and each message that arrives was sent before. A server opens with no part that is ready, and no
--- decision.
+-- journals are linked: ranks rise along each, and each message that arrives was sent before.
 pub record IsFaithful {V : Type 0} (G : Ghosts V) (lines : List NumberedLine) (log : Log V) : Type 0 where
   pub script : IsOfScript G lines log
   pub tells : TellAll script.last
   pub linked : logs.IsLinked (log_of G log)
-  pub bare : (n : ℕ) → IsBare (logs.opening_of (log_of G log) n)
   pub lawful : logs.AreLawful (log_of G log)
   pub caused : (n : ℕ) → Along next IsDone (opened (logs.opening_of (log_of G log) n)) (logs.journal_of (log_of G log) n)
 
@@ -141,7 +140,9 @@ pub record IsRunOf {V D : Type 0} (G : Ghosts V) (g : DiskGhosts D) (lines : Lis
   pub report : text ≡ tallied_report G lines log
   pub faithful : IsFaithful G lines log
   pub stored : AreReturned g lines (servers_said lines) before after (IsStoredBy G g lines log)
-  pub whole : AreDecidedWhole (log_of G log)
+  pub whole : logs.AreSoundOpenings (log_of G log) → AreDecidedWhole (log_of G log)
+  pub fresh : ((n : ℕ) → IsOneOf (servers_said lines) n → HasNoPart g lines n (before n)) → AreDecidedWhole (log_of G log)
+  pub settled : logs.AreSoundOpenings (log_of G log) → ((n : ℕ) → IsOneOf (servers_said lines) n → AreSpelled (logs.opening_of (log_of G log) n)) → (n : ℕ) → IsOneOf (servers_said lines) n → IsSettled (logs.final (log_of G log) n)
   pub alone : servers_said lines ≡ 1 → IsAlone G lines log
 
 -- ---- the headline
@@ -152,7 +153,8 @@ pub record IsPromisedAlone {V : Type 0} (G : Ghosts V) (lines : List NumberedLin
   pub output : Written (report_of G lines log)
 
 -- What holds of a run of a script that the source gave, which left this log, and of what was written of its report. A run of one server
--- has six points (`alone`). Of several servers these stand: output; faithful; stored; and that each decided transaction is whole.
+-- has six points (`alone`). Of several servers these stand: output; faithful; stored; and that each decided transaction is whole, where what the
+-- servers opened on is sound (`whole`), or no disk had a part or a decision (`fresh`).
 pub record IsPromised {V D : Type 0} (G : Ghosts V) (g : DiskGhosts D) (old new : Option (List ℕ)) (Written : List ℕ → Type 0) (before after : ℕ → Option D) (log : Log V) : Type 0 where
   pub lines : List NumberedLine
   pub script : GaveScript old new lines
@@ -163,8 +165,11 @@ pub record IsPromised {V D : Type 0} (G : Ghosts V) (g : DiskGhosts D) (old new 
   pub faithful : IsFaithful G lines log
   -- the disks were taken from the bay and are given back with what the servers hold in the end
   pub stored : AreReturned g lines (servers_said lines) before after (IsStoredBy G g lines log)
-  -- each decided transaction is whole
-  pub whole : AreDecidedWhole (log_of G log)
+  -- each decided transaction is whole: on sound openings, and on disks without parts and decisions, as new ones are
+  pub whole : logs.AreSoundOpenings (log_of G log) → AreDecidedWhole (log_of G log)
+  pub fresh : ((n : ℕ) → IsOneOf (servers_said lines) n → HasNoPart g lines n (before n)) → AreDecidedWhole (log_of G log)
+  -- and behind it all no part lives, none is ready, and no decision stands, on sound openings whose notes name ids that are such
+  pub settled : logs.AreSoundOpenings (log_of G log) → ((n : ℕ) → IsOneOf (servers_said lines) n → AreSpelled (logs.opening_of (log_of G log) n)) → (n : ℕ) → IsOneOf (servers_said lines) n → IsSettled (logs.final (log_of G log) n)
   -- and of one server all six
   pub alone : servers_said lines ≡ 1 → IsPromisedAlone G lines Written log
 
@@ -185,3 +190,7 @@ pub record HasCause {D : Type 0} (g : DiskGhosts D) (old new : Option (List ℕ)
 -- the disks are some that a run of the script starts on, and none failed
 abbrev pub StartsHere : {D : Type 0} → DiskGhosts D → (old new : Option (List ℕ)) → (before after : ℕ → Option D) → Type 0
 StartsHere g old new before after = (lines : List NumberedLine) → GaveScript old new lines → StartsOn g lines before after
+
+-- what the source gave is a script of one server
+abbrev pub IsOfOne : (old new : Option (List ℕ)) → Type 0
+IsOfOne old new = (lines : List NumberedLine) → GaveScript old new lines → servers_said lines ≡ 1

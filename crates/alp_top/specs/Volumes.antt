@@ -21,8 +21,9 @@ use Rattle.alp_journal.specs.Laws.{IsLawful}
 use Rattle.alp_journal.specs.Moves.{next}
 use Rattle.alp_journal.specs.State.{State, opened}
 use Rattle.alp_node.specs.Downs.{IsLeftOf}
-use Rattle.alp_node.specs.Durable.{IsSaid}
-use Rattle.alp_node.specs.Starts.{raised}
+use Rattle.alp_node.specs.Durable.{IsSaid, IsSaidThen}
+use Rattle.alp_node.specs.Starts.{raised, epoch_after}
+use Rattle.alp_regain.specs.Together.{AreTogether}
 use Rattle.alp_node.specs.declared.start.StartFault.TheVariants.{EpochEnd}
 use Rattle.alp_store.specs.Holding.{Holds}
 use Rattle.alp_store.specs.Starts.{AreOfServer, IsNew, WhyNotStarted}
@@ -73,6 +74,13 @@ pub record IsOpenedOn (server servers n : ℕ) (image : Image) (o : Start) (note
   pub cells : o.cells ≡ held.cells
   pub next : raised held ≡ Ok (record { epoch = o.epoch; clock = o.clock })
   pub noted : notes ≡ map.insert held.notes clock_name (clock_form.spell (record { epoch = o.epoch; clock = o.clock }))
+
+-- The disk that comes from this place is new, or has no note but that of the epoch and the clock: its server finds no part that is ready, and no
+-- decision.
+abbrev pub HasNoPart : {D : Type 0} → Ghosts D → List NumberedLine → (server : ℕ) → Option D → Type 0
+HasNoPart {D} g lines server was =
+    (d : D) → IsTaken g was (pages_of (sizes_said lines server)) d
+    → IsNew (sizes_said lines server) (g.size d) (g.seen d) ⊎ ((home : ℕ) (held : Contents) → Holds server (servers_said lines) (g.size d) home (g.seen d) held → AreClockNotes held.notes)
 
 -- ---- what a disk holds behind the run
 
@@ -141,9 +149,9 @@ pub record IsRightAt (last : Course) (n : ℕ) : Type 0 where
   pub caused : Along next IsDone (opened (seat_at last n).opening) (seat_at last n).journal
 
 -- The run of these lines ended for that fault where its servers stood so: a line had more to send or to bring about, or the settling behind
--- the lines had (`stopped`). The journals are those of what occurred by then, each reply is the one that was handed, and they are lawful. The
--- decided transactions are one thread's history, each with all of its parts. Of a server that runs alone what the clients are promised is kept
--- too.
+-- the lines had (`stopped`). The journals are those of what occurred by then, each reply is the one that was handed, and they are lawful. Where
+-- what the servers opened on is sound the decided transactions are one thread's history, each with all of its parts. Of a server that runs
+-- alone all this holds, and what the clients are promised is kept too.
 pub record IsCutShort (lines : List NumberedLine) (f : RunFault) (last : Course) : Type 0 where
   pub first : Course
   pub begins : IsFirst first
@@ -156,35 +164,57 @@ pub record IsCutShort (lines : List NumberedLine) (f : RunFault) (last : Course)
   pub stopped : StopsInLine (servers_said lines) lines turns happened due ⊎ StopsBehindLines (servers_said lines) lines turns happened due
   pub ends : IsEndFor f last due
   pub right : (n : ℕ) → IsSeat last n → IsRightAt last n
-  pub several : IsOneThread (log_of last (handed_of (λ k. own_in k turns))) × AreWhole (log_of last (handed_of (λ k. own_in k turns)))
+  pub several : logs.AreSoundOpenings (log_of last (handed_of (λ k. own_in k turns))) → IsOneThread (log_of last (handed_of (λ k. own_in k turns))) × AreWhole (log_of last (handed_of (λ k. own_in k turns)))
   pub alone : servers_said lines ≡ 1
       → IsOneThread (log_of last (handed_of (λ k. own_in k turns))) × AreWhole (log_of last (handed_of (λ k. own_in k turns))) × ArePromisesKept (log_of last (handed_of (λ k. own_in k turns)))
 
+-- Where the servers stand so, this one was started on the disk, and what a crash leaves of the disk that is given back is what its journal
+-- says; of a server that is down, it is that or what its last write makes of that.
+pub record IsLeftBy {D : Type 0} (g : Ghosts D) (lines : List NumberedLine) (last : Course) (server : ℕ) (taken given : D) : Type 0 where
+  pub notes : Notes
+  pub new : IsNew (sizes_said lines server) (g.size taken) (g.seen taken) → IsOpenedNew (sizes_said lines server) (seat_at last server).opening notes
+  pub found : (IsNew (sizes_said lines server) (g.size taken) (g.seen taken) → ⊥) → IsOpenedOn server (servers_said lines) (g.size taken) (g.seen taken) (seat_at last server).opening notes
+  pub left : (image : Image) → g.may_leave given image
+      → (c : Contents) × Holds server (servers_said lines) (g.size given) (seat_at last server).opening.sizes.home image c
+      × (IsSaid (state_after next (opened (seat_at last server).opening) (seat_at last server).journal) c ⊎ IsSaidThen (state_after next (opened (seat_at last server).opening) (seat_at last server).journal) c)
+  pub read : g.may_leave given (g.seen given)
+
 -- The journal of the server that was started on the disk was full where another event was to come. The disk holds what the journal
 -- says.
-pub record HasFilled {D : Type 0} (g : Ghosts D) (lines : List NumberedLine) (server : ℕ) (taken given : D) : Type 0 where
-  pub last : Course
+pub record HasFilled {D : Type 0} (g : Ghosts D) (lines : List NumberedLine) (last : Course) (server : ℕ) (taken given : D) : Type 0 where
   pub seat : IsSeat last server
   pub notes : Notes
   pub started : (seat_at last server).opening ≡ start_at server (servers_said lines) (seat_at last server).opening.sizes (seat_at last server).opening.cells notes
   pub full : entries_limit ≤ length (seat_at last server).journal
   pub stored : IsStored g (StopNone lines) server (servers_said lines) (sizes_said lines server) (seat_at last server).opening notes (state_after next (opened (seat_at last server).opening) (seat_at last server).journal) taken given
-  pub short : IsCutShort lines run_fault.JournalFull last
 
 -- The server that was started on the disk was to start again, and had come to the last epoch. What the disk reads and what a crash leaves
 -- of it is what the journal says, or that with the whole of what was tried last.
-pub record HasUsedUp {D : Type 0} (g : Ghosts D) (lines : List NumberedLine) (server : ℕ) (taken given : D) : Type 0 where
-  pub last : Course
+pub record HasUsedUp {D : Type 0} (g : Ghosts D) (lines : List NumberedLine) (last : Course) (server : ℕ) (taken given : D) : Type 0 where
   pub seat : IsSeat last server
   pub notes : Notes
   pub started : (seat_at last server).opening ≡ start_at server (servers_said lines) (seat_at last server).opening.sizes (seat_at last server).opening.cells notes
   pub new : IsNew (sizes_said lines server) (g.size taken) (g.seen taken) → IsOpenedNew (sizes_said lines server) (seat_at last server).opening notes
   pub found : (IsNew (sizes_said lines server) (g.size taken) (g.seen taken) → ⊥) → IsOpenedOn server (servers_said lines) (g.size taken) (g.seen taken) (seat_at last server).opening notes
-  pub short : IsCutShort lines (run_fault.Start server EpochEnd) last
   pub left : (image : Image) → g.may_leave given image
       → (c : Contents) × Holds server (servers_said lines) (g.size given) (seat_at last server).opening.sizes.home image c × IsLeftOf (state_after next (opened (seat_at last server).opening) (seat_at last server).journal) c
   pub read : g.may_leave given (g.seen given)
   pub unfailed : StopNone lines → g.faults given ≡ g.faults taken
+
+-- A disk that is not new holds a volume of this server, one of several, whose notes do not go together, with one another or with its files. It
+-- comes back with the same, after a crash too.
+pub record HoldsApart {D : Type 0} (g : Ghosts D) (sizes : Sizes) (server servers : ℕ) (taken given : D) : Type 0 where
+  pub old : IsNew sizes (g.size taken) (g.seen taken) → ⊥
+  pub several : servers ≡ 1 → ⊥
+  pub anchor : Anchor
+  pub counts : Counts (g.size taken) (g.seen taken) anchor
+  pub held : Contents
+  pub holds : Holds server servers (g.size taken) anchor.sizes.home (g.seen taken) held
+  pub own : AreOfServer server servers held
+  pub apart : AreTogether server servers (epoch_after held) anchor.sizes held.cells held.notes → ⊥
+  pub left : Holds server servers (g.size given) anchor.sizes.home (g.seen given) held
+  pub durable : Only (g.seen given) (g.may_leave given)
+  pub unfailed : g.faults given ≡ g.faults taken
 
 -- The disk failed, or it holds no volume of the server, or a damaged one, or one without a further epoch: so the server did not start.
 abbrev pub WhyNotBegun : {D : Type 0} → Ghosts D → Sizes → (server servers : ℕ) → NoReport → D → D → Type 0
@@ -192,7 +222,8 @@ WhyNotBegun g sizes server servers (fault.Disk s) taken given = (s ≡ server) �
 WhyNotBegun g sizes server servers (fault.NotAVolume s found) taken given =
     (s ≡ server) × IsLeftAlone g sizes taken given × WhyNotStarted server servers (g.size taken) (g.seen taken) (vault_fault.NotAVolume found)
 WhyNotBegun g sizes server servers (fault.Damaged s place) taken given =
-    (s ≡ server) × IsLeftAlone g sizes taken given × WhyNotStarted server servers (g.size taken) (g.seen taken) (vault_fault.Damaged place)
+    (s ≡ server)
+    × ((IsLeftAlone g sizes taken given × WhyNotStarted server servers (g.size taken) (g.seen taken) (vault_fault.Damaged place)) ⊎ ((place ≡ 0) × HoldsApart g sizes server servers taken given))
 WhyNotBegun g sizes server servers (fault.EpochEnd s) taken given = (s ≡ server) × IsLeftAlone g sizes taken given × HasNoEpoch server servers (g.size taken) (g.seen taken)
 WhyNotBegun g sizes server servers fault.OutOfMemory taken given = g.faults given ≡ g.faults taken
 WhyNotBegun g sizes server servers fault.JournalFull taken given = ⊥
@@ -226,7 +257,9 @@ abbrev pub IsNoVolume : {D : Type 0} → Ghosts D → List NumberedLine → (ser
 IsNoVolume g lines server found taken given = IsLeftAlone g (sizes_said lines server) taken given × WhyNotStarted server (servers_said lines) (g.size taken) (g.seen taken) (vault_fault.NotAVolume found)
 
 abbrev pub IsDamaged : {D : Type 0} → Ghosts D → List NumberedLine → (server place : ℕ) → D → D → Type 0
-IsDamaged g lines server place taken given = IsLeftAlone g (sizes_said lines server) taken given × WhyNotStarted server (servers_said lines) (g.size taken) (g.seen taken) (vault_fault.Damaged place)
+IsDamaged g lines server place taken given =
+    (IsLeftAlone g (sizes_said lines server) taken given × WhyNotStarted server (servers_said lines) (g.size taken) (g.seen taken) (vault_fault.Damaged place))
+    ⊎ ((place ≡ 0) × HoldsApart g (sizes_said lines server) server (servers_said lines) taken given)
 
 abbrev pub IsAtItsEnd : {D : Type 0} → Ghosts D → List NumberedLine → (server : ℕ) → D → D → Type 0
 IsAtItsEnd g lines server taken given = IsLeftAlone g (sizes_said lines server) taken given × HasNoEpoch server (servers_said lines) (g.size taken) (g.seen taken)
@@ -234,27 +267,35 @@ IsAtItsEnd g lines server taken given = IsLeftAlone g (sizes_said lines server) 
 -- Why a run ended before its report, and how the bay stands then. Where the bay failed, so many servers were started, and the next disk was not
 -- taken. A disk that is none to start on is the first one that is not. Where a disk failed it is one that was taken, and where memory was
 -- wanting all that were taken are given back; without a line that stops a disk none failed then. A full journal, and an epoch that is the
--- last one of a server in the run, come when all were started.
+-- last one of a server in the run, come when all were started, and each disk comes back as its server's journal says. A server of several
+-- that starts again in the run may find that its notes do not go together.
 abbrev pub HasRunCause : {D : Type 0} → Ghosts D → List NumberedLine → (before after : ℕ → Option D) → (bay_before bay_after : ℕ) → NoReport → Type 0
 HasRunCause g lines before after bay_before bay_after fault.Bay = (count : ℕ) × (count < servers_said lines) × AreReturned g lines count before after (IsUnplayed g lines) × Rose bay_before bay_after
 HasRunCause g lines before after bay_before bay_after fault.OutOfMemory =
     (count : ℕ) × (count ≤ servers_said lines) × AreReturned g lines count before after (λ n taken given. StopNone lines → g.faults given ≡ g.faults taken)
 HasRunCause g lines before after bay_before bay_after fault.JournalFull =
-    (server : ℕ) × IsOneOf (servers_said lines) server × AreReturned g lines (servers_said lines) before after (λ n taken given. n ≡ server → HasFilled g lines n taken given)
-HasRunCause g lines before after bay_before bay_after (fault.Disk server) = AreLeft g lines server before after (λ n taken given. n ≡ server → Rose (g.faults taken) (g.faults given))
+    (last : Course) × IsCutShort lines run_fault.JournalFull last × (server : ℕ) × IsOneOf (servers_said lines) server
+    × AreReturned g lines (servers_said lines) before after (λ n taken given. IsLeftBy g lines last n taken given × (n ≡ server → HasFilled g lines last n taken given))
+HasRunCause g lines before after bay_before bay_after (fault.Disk server) =
+    AreLeft g lines server before after (λ n taken given. (n ≡ server → Rose (g.faults taken) (g.faults given)) × ((n ≡ server → ⊥) → StopNone lines → g.faults given ≡ g.faults taken))
 HasRunCause g lines before after bay_before bay_after (fault.EpochEnd server) =
     StopsAt g lines server before after (IsAtItsEnd g lines server)
-    ⊎ (IsOneOf (servers_said lines) server × AreReturned g lines (servers_said lines) before after (λ n taken given. n ≡ server → HasUsedUp g lines n taken given))
+    ⊎ ((last : Course) × IsCutShort lines (run_fault.Start server EpochEnd) last × IsOneOf (servers_said lines) server
+    × AreReturned g lines (servers_said lines) before after (λ n taken given. ((n ≡ server → ⊥) → IsLeftBy g lines last n taken given) × (n ≡ server → HasUsedUp g lines last n taken given)))
 HasRunCause g lines before after bay_before bay_after (fault.NotAVolume server found) = StopsAt g lines server before after (IsNoVolume g lines server found)
-HasRunCause g lines before after bay_before bay_after (fault.Damaged server place) = StopsAt g lines server before after (IsDamaged g lines server place)
+HasRunCause g lines before after bay_before bay_after (fault.Damaged server place) =
+    StopsAt g lines server before after (IsDamaged g lines server place)
+    ⊎ ((place ≡ 0) × (servers_said lines ≡ 1 → ⊥) × IsOneOf (servers_said lines) server × AreReturned g lines (servers_said lines) before after (λ n taken given. StopNone lines → g.faults given ≡ g.faults taken))
 
 -- ---- which disks a run starts on
 
--- it is new, or holds a volume of the server that has a further epoch
+-- it is new, or holds a volume of the server that has a further epoch, and whose notes go together where the run has several servers
 pub record IsStartable (sizes : Sizes) (server servers n : ℕ) (image : Image) : Type 0 where
   pub volume : (found : List ℕ) → WhyNotStarted server servers n image (vault_fault.NotAVolume found) → IsNew sizes n image
   pub whole : (place : ℕ) → WhyNotStarted server servers n image (vault_fault.Damaged place) → IsNew sizes n image
   pub epoch : HasNoEpoch server servers n image → IsNew sizes n image
+  pub notes : (a : Anchor) (held : Contents) → (servers ≡ 1 → ⊥) → Counts n image a → Holds server servers n a.sizes.home image held → AreOfServer server servers held
+      → IsNew sizes n image ⊎ AreTogether server servers (epoch_after held) a.sizes held.cells held.notes
 
 -- the device that was at the place of a server, or a new one, is such a disk, and did not fail
 pub record StartsAt {D : Type 0} (g : Ghosts D) (lines : List NumberedLine) (before after : ℕ → Option D) (server : ℕ) : Type 0 where

@@ -17,7 +17,7 @@ use alp_base::{JoinNo, Name, OutOfMemory, TransId};
 use std::alloc::Global;
 
 /// A server's own number, its epoch, how many joins it drew in that, and the joins that are live. Nothing is kept of one that is
-/// over, so every call costs what is live.
+/// over.
 #[derive(Drop)]
 pub struct Joins {
     pub(super) server: u8,

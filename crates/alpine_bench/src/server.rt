@@ -1,6 +1,6 @@
 //! A server that is started on a disk.
 ghost use Rattle.std.specs.Prelude.{◌≡◌, ◌≤◌, IfOk, IsTrue, false};
-ghost use Rattle.alp_node.specs.Nodes.{IsNew};
+ghost use Rattle.alp_acknowledge.specs.Turns.{IsFresh};
 ghost use Rattle.alp_vault.specs.Vault.{AreSizes};
 
 use crate::failed::Failed;
@@ -41,7 +41,7 @@ pub(crate) fn start<D: Disk + Drop>(
     requires silent { D.tells disk ≡ false }
     requires pages { 2 ≤ D.size disk }
     requires sizes { AreSizes sizes }
-    ensures { IfOk result (IsNew ⟦<Store<D> as Vault>⟧.volume 1) }
+    ensures { IfOk result IsFresh }
 {
     let store = store_on(alloc, disk, sizes)?;
     match Node::start(alloc, SERVER, 1, store) {

@@ -1,8 +1,9 @@
 //! A disk on which a store can be started.
 ghost use Rattle.std.specs.Prelude.{◌≡◌, ◌≤◌, false};
+ghost use Rattle.alp_vault.specs.Vault.{AreSizes, IsServer};
 
 use super::serving::Serving;
-use alp_base::{Page, Sizes};
+use alp_base::{Page, Sizes, VaultFault};
 use alp_disk::Disk;
 use alp_store::Store;
 use std::alloc::Global;
@@ -66,9 +67,25 @@ impl<D: Disk> QuietDisk<D> {
         if sizes.home < 512 || 65536 < sizes.home || sizes.area < 64 || 4096 < sizes.area {
             return None;
         }
-        match Store::start(alloc, self.disk, 1, 1, sizes) {
-            Ok(store) => Some(Serving::of(store)),
+        match self.start_among(alloc, 1, sizes) {
+            Ok(store) => Some(store),
             Err(_) => None,
+        }
+    }
+
+    // The store of server 1 of so many on the disk.
+    pub(super) fn start_among(
+        self,
+        alloc: Global,
+        servers: u8,
+        sizes: Sizes,
+    ) -> Result<Serving<Store<D>>, VaultFault>
+        requires server { IsServer 1 servers }
+        requires sizes { AreSizes sizes }
+    {
+        match Store::start(alloc, self.disk, 1, servers, sizes) {
+            Ok(store) => Ok(Serving::of(store)),
+            Err((_, fault)) => Err(fault),
         }
     }
 }

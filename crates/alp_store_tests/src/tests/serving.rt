@@ -80,6 +80,10 @@ impl<V: Vault> Serving<V> {
         }
     }
 
+    pub(super) fn note_count(&self) -> usize {
+        self.vault.note_names().len()
+    }
+
     // Files, owners, places and the clock.
     pub(super) fn counts(&self, alloc: Global) -> Result<(u32, u32, u32, u64), Fail> {
         counts_of(alloc, &self.vault)

@@ -50,4 +50,3 @@ returns-clause-log g c =
     let area : c.sizes.result ≡ volume = c.sizes.ensures ∙ c.in_ok-lives.ensures.looked.0.same.sizes in
     log_said tells held c.args.of.0 c.args.of.1 volume.area c.in_ok-lives.lives.parts.items ns live.parts
     (sym (λ i. nat_le (log_sum (list_map part_size (c.as_slice-2.ensures.value i))) (area i).area) ∙ sym c.in_ok-log_has_room.ensures ∙ c.if-not-branch.false)
-

@@ -1,13 +1,17 @@
 use Rattle.std.specs.Prelude.{IsTrue}
 use Rattle.std.proofs.Common.{◌≡◌, ◌≤◌, ℕ, arith, refl, sym, ◌∙◌, ap, subst}
-use Rattle.alp_base.specs.Crashes.{NoMore}
+use Rattle.alp_base.specs.Crashes.{NoMore, Only}
 use Rattle.alp_base.specs.declared.faults.Sizes.{Sizes}
 use Rattle.alp_anchor.specs.declared.anchor.Anchor.{Anchor}
 use Rattle.alp_node.specs.NodeStates.{NodeState}
 use Rattle.alp_node.specs.Starts.{AreOfServer as StartOfServer, HasStartCause, HasRaised, IsNoteFault}
 use Rattle.alp_node.specs.declared.start.StartFault.{StartFault}
 use Rattle.alp_store.specs.Starts.{AreOfServer as StoredOfServer}
+use Rattle.alp_store.specs.Holding.{Holds, HoldsBy}
 use Rattle.alp_store.specs.Told.{contents_of}
+use Rattle.alp_vault.specs.Contents.{Contents}
+use Rattle.alp_vault.specs.Volumes.{AreServerNotes}
+use Rattle.alp_vault.proofs.VolumeLemmas.{alone_so_far}
 use Rattle.alp_store.specs.contracts.store.StoreVault.TheImpl as store_vault
 use Rattle.alp_wal.specs.Wal.{disk_of, anchor_of}
 use Rattle.alp_cluster.proofs.GoneLemmas.{stays_free}
@@ -56,7 +60,28 @@ returns-in-Err-start-clause-cause g c told =
     (subst (λ (a : ℕ). HasStartCause (G.tells (disk_of s)) a (anchor_of s).servers (anchor_of s).sizes (contents_of G s) (G.faults (disk_of s)) (G.faults e) (G.allowance e) f) h.named.0 k.cause) in
     subst (λ (q : NoReport). WhyNotBegun G c.args.sizes c.args.server c.args.servers q d c.into_disk.result) (sym c.of_start.ensures)
     (subst (λ (q : g.row.D.Denot). WhyNotBegun G c.args.sizes c.args.server c.args.servers (of_start c.args.server f) d q) (sym c.into_disk.ensures.disk)
-    (not_started G c.args.sizes c.args.server c.args.servers d e (G.tells (disk_of s)) (anchor_of s).sizes (contents_of G s) f (G.faults (disk_of s)) (G.allowance e) (anchor_of s).sizes.home cause (stays_free _ _ k.allowance (stays_free _ _ h.below.allowance c.requires.free)) h.cause.still (let least : 64 ≤ (anchor_of s).sizes.area = h.sized.least_area in omega (arith, least)) h.notes
+    (not_started G c.args.sizes c.args.server c.args.servers d e (G.tells (disk_of s)) (anchor_of s).sizes (contents_of G s) f (G.faults (disk_of s)) (G.allowance e) (anchor_of s).sizes.home cause (stays_free _ _ k.allowance (stays_free _ _ h.below.allowance c.requires.free)) h.cause.still (subst IsTrue (sym h.below.tells) told) c.requires.server.first c.requires.server.among ((let least : 64 ≤ (anchor_of s).sizes.area = h.sized.least_area in omega (arith, least))) h.notes
+    (λ bad old several apart. (
+    let into = c.into_disk.ensures in
+    let quiet = k.noted (subst IsNoteFault (sym bad) tt) in
+    let here : IsTrue (G.tells (disk_of s)) = subst IsTrue (sym h.below.tells) told in
+    let now : IsTrue (G.tells c.into_disk.result) = subst IsTrue (sym (ap G.tells into.disk ∙ k.same.telling)) here in
+    record {
+      old = old;
+      several = several;
+      anchor = anchor_of s;
+      counts = (h.mounted told old).counts;
+      held = contents_of G s;
+      holds = holds_by _ _ _ _ _ _ _ _ (G.seen d) (contents_of G s) h.named.0 h.named.1 (h.looked told old).size refl (h.mounted told old).holds;
+      own = subst (λ (b : ℕ). StoredOfServer c.args.server b (contents_of G s)) h.named.1 (subst (λ (a : ℕ). StoredOfServer a (anchor_of s).servers (contents_of G s)) h.named.0 (h.mounted told old).own);
+      apart = apart;
+      left = subst (λ (x : Contents). Holds c.args.server c.args.servers (G.size e) (anchor_of s).sizes.home (G.seen e) x) quiet.0.held
+          (holds_by _ _ _ _ _ _ _ _ (G.seen e) (contents_of G c.in-Err-start.store.log) (k.same.number ∙ h.named.0) (k.same.of_all ∙ h.named.1) refl (ap (λ (z : Sizes). z.home) k.same.sizes)
+          (subst (λ (q : g.row.D.Denot). HoldsBy G c.in-Err-start.store.log (G.seen q) (contents_of G c.in-Err-start.store.log)) into.disk (into.holds now quiet.1)));
+      durable = subst (λ (q : g.row.D.Denot). Only (G.seen q) (G.may_leave q)) into.disk (into.left now quiet.1);
+      unfailed = quiet.0.faults ∙ h.cause.still;
+    }
+    ))
     (λ is. (k.memory is).0.faults)
     (λ is. ap (λ v. G.faults (disk_of v.log)) (k.untouched is))
     (λ is. (h.new told is).empty)
@@ -108,9 +133,13 @@ returns-in-Ok-start-clause-started g c =
       telling = telling;
       sized = sym h.below.size ∙ sym h.sized.total ∙ ap pages_of (sym k.same.sizes);
       faults = k.counted ∙ h.cause.still;
-      bare = λ given.
+      alone = λ given one.
           opened_bare V G c.args.sizes c.args.server c.args.servers n (contents_of G s) vol d c.knows.ensures k.new.journal k.new.opening k.same.sizes (subst IsTrue (sym telling) given) rose
-          h.notes;
+          (let low : 1 ≤ c.args.server = c.requires.server.first in
+          let high : c.args.server ≤ c.args.servers = c.requires.server.among in
+          let first : c.args.server ≡ 1 = omega (arith, low, high, one) in
+          alone_so_far (contents_of G s).notes
+          (subst (λ (b : ℕ). AreServerNotes 1 b (contents_of G s).notes) one (subst (λ (a : ℕ). AreServerNotes a c.args.servers (contents_of G s).notes) first h.notes)));
       new = λ given is.
           opened_new V G c.args.sizes c.args.server c.args.servers n (contents_of G s) vol d c.knows.ensures k.new.journal k.new.opening k.same.sizes (subst IsTrue (sym telling) given) rose (h.new given is).empty (ap (λ (a : Anchor). a.sizes) (h.new given is).anchor);
       found = λ given old.

@@ -17,4 +17,4 @@ returns-clause-did g c =
     let x = c.index_mut.result.now in
     let (n, keeps) = at_keeps g.V.Vault s c.requires.on c.args.server c.requires.server x c.index_mut.ensures.value in
     let there = at_there s c.args.server c.requires.server x c.index_mut.ensures.value in
-    stop_did g.V.Vault s _ c.requires.on c.args.server c.requires.server x c.stop.new.self there refl refl n keeps.stands c.args.calls (c.stop.ensures.went n keeps (g.V.Vault.tells n.kept.vault))
+    stop_did g.V.Vault s _ c.requires.on c.args.server c.requires.server x c.stop.new.self there refl refl n keeps.stands c.args.calls (c.stop.ensures.went n keeps (g.V.Vault.tells n.kept.vault)) (c.stop.ensures.sets n keeps)

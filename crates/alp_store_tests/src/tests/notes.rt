@@ -1,0 +1,108 @@
+//! Disks of server 1 of three, with notes that a run before left there, spelled by hand.
+use super::fixtures::{SIZES, mem_disk};
+use super::quiet_disk::QuietDisk;
+use alp_base::{Page, VaultFault};
+use alp_disk::Disk;
+use alp_fields::put_bytes;
+use std::alloc::Global;
+use std::test::*;
+
+const SERVERS: u8 = 3;
+
+// The page behind the one record of a new volume, with its first home page.
+const FREE: u32 = 5;
+
+// Epoch 1 and clock 9.
+const CLOCK: &[u8] = b"\
+\x01\x01C\x00\x00\x00\x0c\
+\x00\x00\x00\x01\x00\x00\x00\x00\x00\x00\x00\x09";
+
+// The transaction 1.1.7 is decided, at time 9, with the parts 2.1.5 and 3.1.1.
+const DECISION: &[u8] = b"\
+\x01\x0aD\x01\x00\x00\x00\x01\x00\x00\x00\x07\x00\x00\x00\x1b\
+\x00\x00\x00\x00\x00\x00\x00\x09\x02\
+\x02\x00\x00\x00\x01\x00\x00\x00\x05\
+\x03\x00\x00\x00\x01\x00\x00\x00\x01";
+
+// The part 1.1.5 of the transaction 2.1.7, at time 9, of client 2, locks nothing and changes nothing.
+const READY: &[u8] = b"\
+\x01\x0aR\x01\x00\x00\x00\x01\x00\x00\x00\x05\x00\x00\x00\x1a\
+\x02\x00\x00\x00\x01\x00\x00\x00\x07\
+\x00\x00\x00\x00\x00\x00\x00\x09\x02\
+\x00\x00\x00\x00\x00\x00\x00\x00";
+
+// A batch of no images, with so many notes.
+fn batch_of(alloc: Global, count: u8, notes: &[u8]) -> Result<Vec<u8>, Fail> {
+    let mut bytes = Vec::new(alloc);
+    put_bytes(&mut bytes, &[0, 0, 0, count])?;
+    put_bytes(&mut bytes, notes)?;
+    Ok(bytes)
+}
+
+// The disk with a record of that batch behind those of a new volume.
+fn recorded<D: Disk>(disk: QuietDisk<D>, batch: &[u8]) -> Result<QuietDisk<D>, Fail> {
+    if batch.len() > 255 {
+        return Err("a long batch".into());
+    }
+    let header = [0xa5, b'R', 0, 0, 0, 1, 0, 0, 0, batch.len() as u8];
+    disk.write_page(FREE, &Page::beginning(&header))?
+        .write_page(FREE + 1, &Page::beginning(batch))?
+        .sync()
+}
+
+// How many notes a store has that starts on a disk with these; nothing where it is refused for what is no page.
+fn noted(alloc: Global, count: u8, notes: &[u8]) -> Result<Option<usize>, Fail> {
+    let disk = mem_disk(alloc, SIZES, Vec::new(alloc))?;
+    let Ok(store) = disk.start_among(alloc, SERVERS, SIZES) else {
+        return Err("a new disk".into());
+    };
+    let batch = batch_of(alloc, count, notes)?;
+    let disk = recorded(store.into_disk()?, &batch)?;
+    match disk.start_among(alloc, SERVERS, SIZES) {
+        Ok(store) => Ok(Some(store.note_count())),
+        Err(VaultFault::Damaged { place: 0 }) => Ok(None),
+        Err(_) => Err("a start".into()),
+    }
+}
+
+#[test]
+fn notes_of_the_server(rt: HostRuntime) -> Result<(), Fail> {
+    let alloc = rt.alloc();
+    assert_eq!(rt; noted(alloc, 1, CLOCK)?, Some(1));
+    assert_eq!(rt; noted(alloc, 1, DECISION)?, Some(1));
+    assert_eq!(rt; noted(alloc, 1, READY)?, Some(1));
+    let mut all = Vec::new(alloc);
+    for note in [CLOCK, DECISION, READY] {
+        put_bytes(&mut all, note)?;
+    }
+    assert_eq!(rt; noted(alloc, 3, &all)?, Some(3));
+    Ok(())
+}
+
+// Whether a start is refused with the note, one byte of which is changed.
+fn is_refused(alloc: Global, note: &[u8], at: usize, to: u8) -> Result<bool, Fail> {
+    let mut bytes = Vec::new(alloc);
+    put_bytes(&mut bytes, note)?;
+    if let Some(byte) = bytes.get_mut(at) {
+        *byte = to;
+    }
+    Ok(noted(alloc, 1, &bytes)?.is_none())
+}
+
+#[test]
+fn notes_of_no_such_server(rt: HostRuntime) -> Result<(), Fail> {
+    let alloc = rt.alloc();
+    // Another letter, a clock that is too late.
+    for (at, to) in [(2usize, b'E'), (11, 0x41)] {
+        assert!(rt; is_refused(alloc, CLOCK, at, to)?, "C at {at}");
+    }
+    // A decision of another server, with parts here, on no server of the run, or with more than it counts.
+    for (at, to) in [(3usize, 2u8), (25, 1), (34, 4), (24, 1)] {
+        assert!(rt; is_refused(alloc, DECISION, at, to)?, "D at {at}");
+    }
+    // A part on another server, of a transaction from here, from no server of the run, or with a time that is too late.
+    for (at, to) in [(3usize, 2u8), (16, 1), (16, 4), (25, 0x41)] {
+        assert!(rt; is_refused(alloc, READY, at, to)?, "R at {at} to {to}");
+    }
+    Ok(())
+}
