@@ -1,6 +1,5 @@
 -- a server that fell, and its journal when it starts again
-use Rattle.std.specs.Prelude.{false, IsTrue, Some, slice_get, true}
-use Rattle.std.specs.List.{list_all}
+use Rattle.std.specs.Prelude.{false, IsTrue, Some, slice_get}
 use Rattle.std.proofs.Common.{◌≡◌, ◌⊎◌, inl, inr, ⊎_elim, ℕ, zero, suc, ◌+◌, ◌<◌, ◌≤◌, ◌^◌, List, [], ◌∷◌, ◌++◌, length, refl, sym, ◌∙◌, ap, subst, arith}
 use Rattle.alp_base.specs.Crashes.{Only, NoMore}
 use Rattle.alp_base.specs.Notes.{Notes, noted}
@@ -9,14 +8,13 @@ use Rattle.alp_base.specs.declared.faults.Sizes.{Sizes}
 use Rattle.alp_fields.specs.ClockNote.{clock_form, clock_kept}
 use Rattle.alp_fields.specs.declared.clock_note.ClockNote.{ClockNote}
 use Rattle.alp_vault.specs.Contents.{Contents}
-use Rattle.alp_vault.specs.Vault.{IsServer, IsOneOf, IsSameVault}
-use Rattle.alp_vault.specs.Volumes.{AreServerNotes, IsVolumeOf}
+use Rattle.alp_vault.specs.Vault.{IsOneOf, IsSameVault}
+use Rattle.alp_vault.specs.Volumes.{IsVolumeOf}
 use Rattle.alp_vault.specs.declared.vault.Vault.{Ghosts}
 use Rattle.alp_journal.specs.declared.entry.Entry.{Entry}
 use Rattle.alp_journal.specs.declared.event.Event.TheVariants as event
 use Rattle.alp_journal.specs.Opening.{Start, ready_kept, decisions_kept}
-use Rattle.alp_journal.specs.Along.{state_after}
-use Rattle.alp_journal.specs.State.{State, opened, state_deed}
+use Rattle.alp_journal.specs.State.{State, opened}
 use Rattle.alp_journal.specs.Moves.{next}
 use Rattle.alp_journal.specs.Laws.{IsLawful, IsLawfulEntry}
 use Rattle.alp_journal.specs.Answered.{IsAnswered, IsAnsweredSo, IsAnsweredEntry, FitsJournal}
@@ -40,15 +38,14 @@ use Rattle.alp_node.proofs.ClockLaws.{time_fits}
 use Rattle.alp_node.proofs.FoundAs.{IsTold, found_as}
 use Rattle.alp_node.proofs.FoundReady.{found_kept, found_ready, raised_noted}
 use Rattle.alp_node.proofs.NodeLemmas.{state_after-push, Along-push, sent_pushed, up_durable}
-use Rattle.alp_node.proofs.NoteLemmas.{raised_stored, alone_apart}
+use Rattle.alp_node.proofs.NoteLemmas.{raised_stored}
 use Rattle.alp_node.proofs.PastLemmas.{IsFoundAs, past_of, found_before, found_then}
 use Rattle.alp_node.proofs.RestartTold.{clock_found, found_leads, found_told}
 use Rattle.alp_node.proofs.StartLemmas.{before_less}
 use Rattle.alp_node.proofs.StartMade.{put_back}
 use Rattle.alp_node.specs.SoundLives.{HasSoundLives}
 use Rattle.alp_node.proofs.SoundLives.{journal_sound}
-use Rattle.alp_node.specs.NoMore.{brings_no_more}
-use Rattle.alp_node.proofs.NoMoreLemmas.{no_more_itself, tried_less}
+use Rattle.alp_node.proofs.TriedVotes.{TriesInRoom, room_tried}
 
 -- ---- a server falls
 
@@ -69,7 +66,8 @@ module _ {V : Type 0} (G : Ghosts V) (n : NodeState V) (v : V) (h : IsConsistent
         state = r.state;
         says = r.says;
         past = past_of r.state (G.held n.kept.vault) n.kept (G.volume v) r.kept (h.sizes ∙ sym same.sizes) (length n.journal) (G.serves n.kept.vault) h.ready
-            (subst (λ (s : State). HasSoundLives s.holder) r.says (journal_sound (opened (start_in G n)) n.journal r.lawful r.opening.parts));
+            (subst (λ (s : State). HasSoundLives s.holder) r.says (journal_sound (opened (start_in G n)) n.journal r.lawful r.opening.parts))
+            (subst TriesInRoom r.says (room_tried (start_in G n) n.journal r.lawful r.caused));
       }
 
   here_last : IsRight (start_in G n) (G.held n.kept.vault) n → (state_of (start_in G n) n.journal).ids.epoch < 2 ^ 32
@@ -144,12 +142,6 @@ known_as : (a : Account) (server servers epoch : ℕ) (sizes : Sizes) → IsPast
 known_as a server servers epoch sizes past c l = ⊎_elim
     (λ e. record { state = account_state a; it = found_before a server servers epoch sizes past; near = l.epoch; stored = e })
     (λ e. record { state = state_then (account_state a); it = found_then a server servers epoch sizes past; near = l.epoch; stored = e }) l.either
-
--- its notes are in the format of the server
-known_format : (a : Account) (server servers epoch : ℕ) (sizes : Sizes) → IsPast a server servers epoch sizes → (c : Contents) → IsKnownAs a c → AreServerNotes server servers c.notes
-known_format a server servers epoch sizes past c k =
-    subst (λ (n : ℕ). AreServerNotes n servers c.notes) (k.it.last.number ∙ k.it.so.number ∙ past.number)
-    (subst (λ (n : ℕ). AreServerNotes k.state.holder.server n c.notes) (k.it.last.among ∙ k.it.so.among ∙ past.among) k.stored.notes.format)
 
 module _ {V : Type 0} (G : Ghosts V) (d : DownState V) (n : NodeState V) (clock : ClockNote) (f : Found) (h : IsFallen G d) (b : HasBegunEpoch G d.server d.servers d.epoch d.vault n.kept.vault clock f) (s : HasBegun (G.volume n.kept.vault) d.server d.servers clock f n.kept.vault n.kept)
     (opening : n.opening ≡ d.opening) (journal : n.journal ≡ d.journal ++ entry_again clock f.ready f.decided ∷ []) where
@@ -282,13 +274,13 @@ module _ {V : Type 0} (G : Ghosts V) (d : DownState V) (n : NodeState V) (clock 
     crash = b.crash;
   }
 
--- what a crash leaves goes together, of a server that did not go down as it wrote a vote, a decision or what was decided
-left_together : (a : Account) (server servers last : ℕ) (sizes : Sizes) → IsPast a server servers last sizes → list_all brings_no_more a.pending ≡ true → (c : Contents) → IsLeftOf (account_state a) c → (here all : ℕ) → here ≡ server → all ≡ servers → AreTogether here all (last + 1) sizes c.cells c.notes
-left_together a server servers last sizes past none c left here all is of_all =
+-- what a crash leaves goes together
+left_together : (a : Account) (server servers last : ℕ) (sizes : Sizes) → IsPast a server servers last sizes → (c : Contents) → IsLeftOf (account_state a) c → (here all : ℕ) → here ≡ server → all ≡ servers → AreTogether here all (last + 1) sizes c.cells c.notes
+left_together a server servers last sizes past c left here all is of_all =
     subst (λ (n : ℕ). AreTogether n all (last + 1) sizes c.cells c.notes) (past.number ∙ sym is)
     (subst (λ (n : ℕ). AreTogether a.holder.server n (last + 1) sizes c.cells c.notes) (past.among ∙ sym of_all)
     (subst (λ (n : ℕ). AreTogether a.holder.server a.servers (n + 1) sizes c.cells c.notes) past.now
-    (subst (λ (z : Sizes). AreTogether a.holder.server a.servers (a.ids.epoch + 1) z c.cells c.notes) past.volume (one left.either))))
+    (subst (λ (z : Sizes). AreTogether a.holder.server a.servers (a.ids.epoch + 1) z c.cells c.notes) past.volume (past.together left.epoch c late left.either))))
   where
     late : a.ids.epoch ≤ left.epoch
     late = go left.near
@@ -296,10 +288,6 @@ left_together a server servers last sizes past none c left here all is of_all =
         go : (left.epoch ≡ a.ids.epoch) ⊎ (left.epoch ≡ a.ids.epoch + 1) → a.ids.epoch ≤ left.epoch
         go (inl same) = omega (arith, same)
         go (inr next) = omega (arith, next)
-
-    one : IsStoredBy left.epoch (account_state a) c ⊎ IsStoredBy left.epoch (state_after state_deed (account_state a) a.pending) c → AreTogether a.holder.server a.servers (a.ids.epoch + 1) a.sizes c.cells c.notes
-    one (inl x) = past.together left.epoch (account_state a) c late (no_more_itself (account_state a)) x
-    one (inr x) = past.together left.epoch (state_after state_deed (account_state a) a.pending) c late (tried_less a past.quiet none) x
 
 -- a vault that is handed back may be left with no more
 handed_no_more : {V : Type 0} (G : Ghosts V) (old new : V) (P : Contents → Type 0) → IsHandedBack G old new P → IsTrue (G.tells old) → NoMore P (G.may_leave new)
@@ -337,8 +325,8 @@ module _ {V : Type 0} (G : Ghosts V) (d : DownState V) (new : V) (journal : List
     left = λ told. (let before : IsTrue (G.tells d.vault) = subst IsTrue b.same.telling told in still_left G d new h before (handed_no_more G d.vault new (IsLeftOrRaised G d.server d.servers d.epoch d.vault) b.back before));
   })
 
-  pub still_down : (d.epoch ≡ 4294967295 → f ≡ start_fault.EpochEnd) → IsServer (G.server d.vault) (G.servers d.vault) → 64 ≤ (G.volume d.vault).area → IsStillDown G d then_down f
-  still_down end seat least = record {
+  pub still_down : (d.epoch ≡ 4294967295 → f ≡ start_fault.EpochEnd) → IsStillDown G d then_down f
+  still_down end = record {
     opening = refl;
     journal = is;
     server = refl;
@@ -347,19 +335,11 @@ module _ {V : Type 0} (G : Ghosts V) (d : DownState V) (new : V) (journal : List
     same = b.same;
     cause = b.cause;
     end = end;
-    sound = λ one told e. (
+    sound = λ told e. (
         let r : IsPastRight (start_of G d) (G.volume d.vault) d = h.right told in
         let bad = (subst (HasRaiseCause G d.epoch d.vault new) e b.cause).1 told in
         let left : IsLeftOf (account_state r.state) bad.0 = subst (λ (z : State). IsLeftOf z bad.0) r.says (h.left told bad.0 bad.1) in
-        let format : AreServerNotes d.server d.servers bad.0.notes = known_format r.state d.server d.servers d.epoch (G.volume d.vault) r.past bad.0 (known_as r.state d.server d.servers d.epoch (G.volume d.vault) r.past bad.0 left) in
-        alone_apart (G.tells d.vault) (G.server d.vault) (G.servers d.vault) (d.epoch + 1) (G.volume d.vault) bad.0 seat (h.all ∙ one) least
-        (subst (λ (n : ℕ). AreServerNotes n (G.servers d.vault) bad.0.notes) (sym h.number) (subst (λ (n : ℕ). AreServerNotes d.server n bad.0.notes) (sym h.all) format)) bad.2
-        );
-    whole = λ none told e. (
-        let r : IsPastRight (start_of G d) (G.volume d.vault) d = h.right told in
-        let bad = (subst (HasRaiseCause G d.epoch d.vault new) e b.cause).1 told in
-        let left : IsLeftOf (account_state r.state) bad.0 = subst (λ (z : State). IsLeftOf z bad.0) r.says (h.left told bad.0 bad.1) in
-        bad.2.told told (left_together r.state d.server d.servers d.epoch (G.volume d.vault) r.past (ap (λ (z : State). list_all brings_no_more z.pending) (sym r.says) ∙ none) bad.0 left (G.server d.vault) (G.servers d.vault) h.number h.all)
+        bad.2.told told (left_together r.state d.server d.servers d.epoch (G.volume d.vault) r.past bad.0 left (G.server d.vault) (G.servers d.vault) h.number h.all)
         );
     back = b.back;
   }

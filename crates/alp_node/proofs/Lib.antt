@@ -145,3 +145,5 @@ pub mod LocksNoted
 pub mod TogetherLemmas
 pub mod HeldHere
 pub mod NoMoreLemmas
+pub mod TriedVotes
+pub mod TriedTogether

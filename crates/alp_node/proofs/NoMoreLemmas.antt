@@ -1,24 +1,28 @@
--- what a server tried that went down has no more to restart from, but for a vote, a decision and what was decided
+-- states with no more to restart from than another one: less is ready, or stands
 use Rattle.std.specs.Prelude.{cond, Bool, true, false, None, Some}
-use Rattle.std.specs.List.{list_all}
-use Rattle.std.proofs.Common.{◌≡◌, ℕ, List, [], ◌∷◌, refl, sym, ◌∙◌, ap, subst}
+use Rattle.std.proofs.Common.{◌≡◌, ℕ, [], ◌∷◌, refl, sym, ◌∙◌, ap}
 use Rattle.alp_base.specs.declared.ids.JoinNo.{JoinNo}
-use Rattle.alp_base.specs.declared.ids.Stamp.{Stamp}
 use Rattle.alp_base.specs.declared.ids.TransId.{TransId}
 use Rattle.alp_fields.specs.declared.decision_note.Decision.{Decision}
 use Rattle.alp_files.specs.declared.refusal.Cause.{Cause}
-use Rattle.alp_journal.specs.Along.{state_after}
-use Rattle.alp_journal.specs.Account.{Account, state_of, IsQuiet, HasTried}
+use Rattle.alp_journal.specs.Account.{Account, state_of, IsQuiet}
 use Rattle.alp_journal.specs.Coordinator.{Fate, Undrawn, Running, Finishing, Committed, Forgotten, Ended, acknowledged, forgotten, has_all}
-use Rattle.alp_journal.specs.Deeds.{Deed, Acknowledges, Forgets, Aborts}
+use Rattle.alp_journal.specs.Deeds.{Acknowledges, Forgets, Aborts}
 use Rattle.alp_journal.specs.Ids.{same_join, same_trans}
-use Rattle.alp_journal.specs.Participant.{Phase, Ready, is_ready}
+use Rattle.alp_journal.specs.Participant.{Ready, is_ready}
 use Rattle.alp_journal.specs.State.{State, state_deed}
 use Rattle.alp_journal.proofs.IdLemmas.{same_join-true}
-use Rattle.alp_node.specs.NoMore.{IsNoMore, brings_no_more}
 use Rattle.alp_node.specs.Noted.{decision_kept}
 use Rattle.alp_node.proofs.NoteLaw.{stands_voted}
 use Rattle.alp_node.proofs.NoteWrites.{IsOneOn, aborted_one, aborted_over}
+
+-- the same files of the same server; each part that is ready is so in the other one, as it is there; and each decision stands there
+pub record IsNoMore (s m : State) : Type 0 where
+  pub server : m.holder.server ≡ s.holder.server
+  pub among : m.servers ≡ s.servers
+  pub cells : m.holder.cells ≡ s.holder.cells
+  pub ready : (j : JoinNo) (t : TransId) (client ts : ℕ) → m.phases j ≡ Ready t client ts → (s.phases j ≡ Ready t client ts) × (m.holder.lives t ≡ s.holder.lives t)
+  pub decided : (t : TransId) (d : Decision) → decision_kept (m.fates t) ≡ Some d → decision_kept (s.fates t) ≡ Some d
 
 pub no_more_itself : (s : State) → IsNoMore s s
 no_more_itself s = record { server = refl; among = refl; cells = refl; ready = λ j t client ts is. (is, refl); decided = λ t d is. is }
@@ -61,7 +65,7 @@ forgotten_kept true (Committed s js ds) d is = go (has_all ds js) is
 forgotten_kept true (Forgotten s js) d is = is
 forgotten_kept true (Ended c) d is = is
 
-end_less : (s : State) (t : TransId) (j : JoinNo) → IsNoMore s (state_deed (state_deed s (Acknowledges t j)) (Forgets t))
+pub end_less : (s : State) (t : TransId) (j : JoinNo) → IsNoMore s (state_deed (state_deed s (Acknowledges t j)) (Forgets t))
 end_less s t j = record {
   server = refl;
   among = refl;
@@ -70,24 +74,6 @@ end_less s t j = record {
   decided = λ u d is. sym (acknowledged_kept j (same_trans t u) (s.fates u)) ∙ forgotten_kept (same_trans t u) (cond {A = Fate} (same_trans t u) (acknowledged j (s.fates u)) (s.fates u)) d is;
 }
 
-abort_less : (a : Account) → IsQuiet a → (j : JoinNo) (t : TransId) (client ts n : ℕ) (c : Cause) → a.phases j ≡ Ready t client ts → IsNoMore (state_of a) (state_deed (state_of a) (Aborts j t n c))
+pub abort_less : (a : Account) → IsQuiet a → (j : JoinNo) (t : TransId) (client ts n : ℕ) (c : Cause) → a.phases j ≡ Ready t client ts → IsNoMore (state_of a) (state_deed (state_of a) (Aborts j t n c))
 abort_less a q j t client ts n c ready =
     over_less (state_of a) (state_deed (state_of a) (Aborts j t n c)) j t (aborted_one (state_of a) j t client ts n c (stands_voted a q) ready) (aborted_over (state_of a) j t client ts n c (stands_voted a q) ready) refl refl (λ u. refl)
-
-pub tried_less : (a : Account) → IsQuiet a → list_all brings_no_more a.pending ≡ true → IsNoMore (state_of a) (state_after state_deed (state_of a) a.pending)
-tried_less a q none = go q.tried
-  where
-    by : (ds : List Deed) → a.pending ≡ ds → IsNoMore (state_of a) (state_after state_deed (state_of a) ds) → IsNoMore (state_of a) (state_after state_deed (state_of a) a.pending)
-    by ds is = subst (λ (xs : List Deed). IsNoMore (state_of a) (state_after state_deed (state_of a) xs)) (sym is)
-
-    never : {P : Type 0} (ds : List Deed) → a.pending ≡ ds → list_all brings_no_more ds ≡ false → P
-    never ds is brings = let wrong : true ≡ false = sym none ∙ ap (list_all brings_no_more) is ∙ brings in cc
-
-    go : HasTried a → IsNoMore (state_of a) (state_after state_deed (state_of a) a.pending)
-    go (HasTried.nothing is) = by [] is (no_more_itself (state_of a))
-    go (HasTried.commit x) = never _ x.tried refl
-    go (HasTried.decision x) = never _ x.tried refl
-    go (HasTried.vote x) = never _ x.tried refl
-    go (HasTried.application x) = never _ x.tried refl
-    go (HasTried.end x) = by (Acknowledges x.trans x.join ∷ Forgets x.trans ∷ []) x.tried (end_less (state_of a) x.trans x.join)
-    go (HasTried.abort x) = by (Aborts x.join x.trans x.client x.cause ∷ []) x.tried (abort_less a q x.join x.trans x.client x.ts x.client x.cause x.ready)

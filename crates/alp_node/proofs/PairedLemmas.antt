@@ -375,7 +375,7 @@ settled_counts t (Some (settled.Committed ts)) = refl
 settled_counts t (Some (settled.Forgotten ts ms)) = refl
 settled_counts t (Some (settled.Ended c)) = refl
 
-runs_counts : (f : Fate) (n : ℕ) → client_of f ≡ Some n → is_counted f ≡ true
+pub runs_counts : (f : Fate) (n : ℕ) → client_of f ≡ Some n → is_counted f ≡ true
 runs_counts Undrawn n e = let wrong : None ≡ Some n = e in cc
 runs_counts (Running c js) n e = refl
 runs_counts (Finishing c js vs) n e = refl

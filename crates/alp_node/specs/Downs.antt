@@ -1,6 +1,6 @@
 -- Servers that fell, and how they start again.
-use Rattle.std.specs.Prelude.{◌≡◌, ◌⊎◌, ℕ, ◌+◌, ◌<◌, ◌≤◌, ◌^◌, false, IsTrue, List, [], ◌∷◌, ◌++◌, None, Some, true}
-use Rattle.std.specs.List.{AllByRecursion, list_all}
+use Rattle.std.specs.Prelude.{◌≡◌, ◌⊎◌, ℕ, ◌+◌, ◌<◌, ◌≤◌, ◌^◌, false, IsTrue, List, [], ◌∷◌, ◌++◌, None, Some}
+use Rattle.std.specs.List.{AllByRecursion}
 use Rattle.std.specs.FinMap as map
 use Rattle.alp_base.specs.Crashes.{NoMore, Adds}
 use Rattle.alp_base.specs.Faults.{HasFaultCause, IsCountKept, IsOfVolume}
@@ -35,7 +35,6 @@ use Rattle.alp_regain.specs.Together.{AreNotesTogether, AreTogether}
 use Rattle.alp_node.specs.Covers.{AreHeld, AreSizedEdits}
 use Rattle.alp_node.specs.DownStates.{DownState}
 use Rattle.alp_node.specs.NodeStates.{NodeState}
-use Rattle.alp_node.specs.NoMore.{IsNoMore, brings_no_more}
 use Rattle.alp_node.specs.Durable.{IsStoredBy, Leaves}
 use Rattle.alp_node.specs.Found.{FindsAll, GoApart, HasBegun, KeepsFound, joins_noted, stamps_noted}
 use Rattle.alp_node.specs.Halts.{MaySay}
@@ -72,8 +71,8 @@ pub record IsPartPast (l : Life) (locked : List Resource) : Type 0 where
   pub known : AreHeld l.held locked
 
 -- Of the state that a server fell in these stay: which it is, one of so many; its parts; the ids of files that it gave and those that
--- it did not; what was applied; that it was quiet; and that its notes go together, for the epoch after its last one, of which a vault has
--- what the journal says, or no more.
+-- it did not; what was applied; that it was quiet; and that its notes go together, for the epoch after its last one: those of what the
+-- journal says, and those of that with the whole of what was tried last.
 pub record IsPast (a : Account) (server servers epoch : ℕ) (sizes : Sizes) : Type 0 where
   pub number : a.holder.server ≡ server
   pub among : a.servers ≡ servers
@@ -85,7 +84,7 @@ pub record IsPast (a : Account) (server servers epoch : ℕ) (sizes : Sizes) : T
   pub born : SeesNoneToCome a.holder.server a.ids.epoch a.ids.files (map.get a.holder.cells)
   pub earlier : AreEarlier a.holder.kept a.holder.applied
   pub quiet : IsQuiet a
-  pub together : (near : ℕ) (m : State) (c : Contents) → a.ids.epoch ≤ near → IsNoMore (account_state a) m → IsStoredBy near m c → AreTogether a.holder.server a.servers (a.ids.epoch + 1) a.sizes c.cells c.notes
+  pub together : (near : ℕ) (c : Contents) → a.ids.epoch ≤ near → IsStoredBy near (account_state a) c ⊎ IsStoredBy near (state_then (account_state a)) c → AreTogether a.holder.server a.servers (a.ids.epoch + 1) a.sizes c.cells c.notes
 
 -- its journal is lawful, and each of its entries has its cause
 pub record IsPastRight {V : Type 0} (o : Start) (sizes : Sizes) (d : DownState V) : Type 0 where
@@ -269,9 +268,8 @@ pub record HasRestarted {V : Type 0} (G : Ghosts V) (d : DownState V) (n : NodeS
   pub crash : IsTrue (G.tells d.vault) → Leaves G d.vault n.kept.vault (IsLeftOrRaised G d.server d.servers d.epoch d.vault)
 
 -- It is the same server, which may be started again. Just where its last epoch is the last there is, that is the cause, whatever else is
--- wanting. Of the only server of a run whose vault tells what it holds the notes are never at fault: what a crash leaves of them is in the
--- format. Nor are they of any server, but of one that went down as it wrote a vote, a decision or what was decided: what it keeps
--- goes together.
+-- wanting. Where its vault tells what it holds the notes are never at fault, in whatever it went down: what a crash leaves of them is in the
+-- format and goes together, with the files too.
 pub record IsStillDown {V : Type 0} (G : Ghosts V) (old new : DownState V) (f : StartFault) : Type 0 where
   pub opening : new.opening ≡ old.opening
   pub journal : new.journal ≡ old.journal
@@ -281,6 +279,5 @@ pub record IsStillDown {V : Type 0} (G : Ghosts V) (old new : DownState V) (f : 
   pub same : IsSameVault G.tells G.volume G.server G.servers old.vault new.vault
   pub cause : HasRaiseCause G old.epoch old.vault new.vault f
   pub end : old.epoch ≡ 4294967295 → f ≡ fault.EpochEnd
-  pub sound : new.servers ≡ 1 → IsTrue (G.tells old.vault) → f ≡ fault.BadNote → ⊥
-  pub whole : list_all brings_no_more (state_of (start_of G old) old.journal).pending ≡ true → IsTrue (G.tells old.vault) → f ≡ fault.BadNote → ⊥
+  pub sound : IsTrue (G.tells old.vault) → f ≡ fault.BadNote → ⊥
   pub back : IsHandedBack G old.vault new.vault (IsLeftOrRaised G old.server old.servers old.epoch old.vault)

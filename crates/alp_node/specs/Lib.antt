@@ -1,6 +1,5 @@
 pub mod Sessions
 pub mod Orders
-pub mod NoMore
 pub mod Noted
 pub mod Opens
 pub mod Outcomes
