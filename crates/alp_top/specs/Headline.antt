@@ -190,7 +190,3 @@ pub record HasCause {D : Type 0} (g : DiskGhosts D) (old new : Option (List ℕ)
 -- the disks are some that a run of the script starts on, and none failed
 abbrev pub StartsHere : {D : Type 0} → DiskGhosts D → (old new : Option (List ℕ)) → (before after : ℕ → Option D) → Type 0
 StartsHere g old new before after = (lines : List NumberedLine) → GaveScript old new lines → StartsOn g lines before after
-
--- what the source gave is a script of one server
-abbrev pub IsOfOne : (old new : Option (List ℕ)) → Type 0
-IsOfOne old new = (lines : List NumberedLine) → GaveScript old new lines → servers_said lines ≡ 1
