@@ -220,13 +220,22 @@ impl<V: Vault> Desk<V> {
         }
     }
 
-    /// The pages of the run are locked.
-    pub(crate) fn take(&mut self, opened: Opened, run: Run, mode: Mode) -> Result<(), ServeFault> {
-        if !matches!(mode, Mode::Read | Mode::Update | Mode::Write) {
-            return Err(ServeFault::Refused);
-        }
-        match self.ask(opened.client, lock(opened, run, mode))? {
+    // A call that is answered plainly.
+    fn done(&mut self, client: u8, call: Call) -> Result<(), ServeFault>
+        requires { IsAskable call }
+    {
+        match self.ask(client, call)? {
             Reply::Plain => Ok(()),
+            _ => Err(ServeFault::Refused),
+        }
+    }
+
+    /// The pages of the run are locked, in a mode of pages.
+    pub(crate) fn take(&mut self, opened: Opened, run: Run, mode: Mode) -> Result<(), ServeFault> {
+        match mode {
+            Mode::Read => self.done(opened.client, lock(opened, run, Mode::Read)),
+            Mode::Update => self.done(opened.client, lock(opened, run, Mode::Update)),
+            Mode::Write => self.done(opened.client, lock(opened, run, Mode::Write)),
             _ => Err(ServeFault::Refused),
         }
     }
