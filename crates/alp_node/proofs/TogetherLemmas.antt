@@ -262,10 +262,11 @@ module _ {V : Type 0} (a : Account) (held : Contents) (k : ServerState V) (steps
       let nk : IsNoteKept left.holder.lives (left.phases j) p = note_kept left.holder.lives (left.phases j) p (subst (IsReadyNote left.holder.lives (left.phases j)) at (said.ready j fits)) in
       let x : IsReadyIn j p.trans p.client = made.ready j p.trans p.client p.ts nk.phase_is in
       let same : nk.life ≡ x.now = same-some nk.life x.now (sym nk.live ∙ x.left_now) in
+      let noted : held_by p.locks ≡ nk.life.held = λ i q. nk.kept.held q i in
       record {
         here = x;
-        locked = (λ i q. nk.kept.held q i) ∙ ap (λ (l : Life). l.held) same ∙ x.held;
-        intents = nk.kept.intents ∙ ap (λ (l : Life). intents_of l.edits) same ∙ ap intents_of x.edits;
+        locked = noted ∙ ap (λ (l : Life). l.held) same ∙ x.held;
+        intents = nk.kept.intents ∙ ap (λ (l : Life). intents_of l.edits) same ∙ ap (λ (es : List Edit). intents_of es) x.edits;
         once = nk.kept.once;
         cells = nk.kept.cells;
       }
@@ -378,7 +379,7 @@ module _ {V : Type 0} (a : Account) (held : Contents) (k : ServerState V) (steps
         now = x.now;
         still = x.still;
         locked = y.locked ∙ sym x.held;
-        intents = y.intents ∙ ap intents_of (sym x.edits);
+        intents = y.intents ∙ ap (λ (es : List Edit). intents_of es) (sym x.edits);
         live = x.live;
         stays = x.stays;
         needs = part_needs n.join s.part y;

@@ -354,9 +354,8 @@ module _ {V : Type 0} (a : Account) (held : Contents) (k : ServerState V) (steps
 
     size_same : (j : JoinNo) (t : TransId) (client : ℕ) (y : IsPartHere j t client) → size_told (state_of a) t ≡ size_in k.lives t
     size_same j t client y =
-        (λ i. record { cells = part_cells (y.there i); locks = length (a.locked t) })
-        ∙ (λ i. record { cells = sym y.alike.counts.cells i; locks = sym y.alike.count i })
-        ∙ ap live_size (sym y.at)
+        let cells : part_cells (a.holder.lives t) ≡ y.live.part.counts.cells = ap part_cells y.there ∙ sym y.alike.counts.cells in
+        (λ i. record { cells = cells i; locks = sym y.alike.count i }) ∙ ap live_size (sym y.at)
 
     log_room : log_sum (list_map (size_told (state_of a)) voters) ≤ k.sizes.area
     log_room =
