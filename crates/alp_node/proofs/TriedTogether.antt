@@ -9,7 +9,7 @@ use Rattle.alp_base.specs.declared.ids.TransId.{TransId}
 use Rattle.alp_fields.specs.declared.decision_note.Decision.{Decision}
 use Rattle.alp_files.specs.Cells.{Cells}
 use Rattle.alp_files.specs.Edits.{Edit, edits_map}
-use Rattle.alp_files.specs.Needs.{intents_of, need_of}
+use Rattle.alp_files.specs.Needs.{intents_of, need_of, made_of, is_leader, is_owner}
 use Rattle.alp_files.proofs.FilesLemmas.{same-some}
 use Rattle.alp_vault.specs.Contents.{Contents}
 use Rattle.alp_trans.specs.Counting.{AreCountsOf}
@@ -76,7 +76,9 @@ standing_of servers server epoch count begun t (Ended c) d e h = let wrong : Non
 eased_less : (m : Cells) (es : List Edit) (n : Counts) (places : ℕ) → AreCountsOf m es (record n { places = n.places - places }) → NeedsNoMore m es n
 eased_less m es n places h =
     let eased : n.places - places ≡ need_of m es = h.places in
-    record { places = omega (arith, eased); files = omega (arith, h.files); owners = omega (arith, h.owners) }
+    let files : n.files ≡ made_of is_leader m es = h.files in
+    let owners : n.owners ≡ made_of is_owner m es = h.owners in
+    record { places = omega (arith, eased); files = omega (arith, files); owners = omega (arith, owners) }
 
 -- the parts of those that voted are among them
 voters_named : (phases : JoinNo → Phase) (j : JoinNo) (t : TransId) (client ts : ℕ) → phases j ≡ Ready t client ts → (js : List JoinNo) → has_join j js ≡ true → Has t (flat_map (λ (i : JoinNo). trans_ready (phases i)) js)
