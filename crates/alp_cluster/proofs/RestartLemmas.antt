@@ -161,12 +161,12 @@ module _ {V : Type 0} (G : Ghosts V) (pick : ℕ) (n : NodeState V) (on : IsOn G
   failed_for (vault_fault.Damaged place) h = tt
 
   -- it tells what it holds
-  of_volume : (servers : ℕ) (f : VaultFault) → IsOfVolume f → IsOfVolumeAt servers (start_fault.Vault f)
-  of_volume servers vault_fault.Failed h = tt
-  of_volume servers vault_fault.Stopped h = tt
-  of_volume servers vault_fault.OutOfMemory h = tt
-  of_volume servers (vault_fault.NotAVolume found) h = absurd h
-  of_volume servers (vault_fault.Damaged place) h = absurd h
+  of_volume : (f : VaultFault) → IsOfVolume f → IsOfVolumeAt (start_fault.Vault f)
+  of_volume vault_fault.Failed h = tt
+  of_volume vault_fault.Stopped h = tt
+  of_volume vault_fault.OutOfMemory h = tt
+  of_volume (vault_fault.NotAVolume found) h = absurd h
+  of_volume (vault_fault.Damaged place) h = absurd h
 
   fallen_told : (f : StartFault) → (h : StaysDown G pick n e f) → IsTrue (G.tells n.kept.vault) → IsTrue (G.tells h.fallen.vault)
   fallen_told f h told = subst IsTrue (sym h.falls.same.telling) told
@@ -183,7 +183,7 @@ module _ {V : Type 0} (G : Ghosts V) (pick : ℕ) (n : NodeState V) (on : IsOn G
         same = all_same (start_fault.Vault f) h;
         later = omega (arith, still, up);
         failed = (sym on.kept.number, λ here. failed_for f h);
-        told = λ tells here. of_volume (G.servers n.kept.vault) f (h.stays.cause.1 (fallen_told (start_fault.Vault f) h tells));
+        told = λ tells here. of_volume f (h.stays.cause.1 (fallen_told (start_fault.Vault f) h tells));
         free = λ p k. h.free;
         counted = λ p k. ((λ here. counted_for f h.fallen h.falls.faults h.stays.cause), (λ away. absurd (away (sym on.kept.number))));
       }
@@ -193,7 +193,7 @@ module _ {V : Type 0} (G : Ghosts V) (pick : ℕ) (n : NodeState V) (on : IsOn G
         same = all_same start_fault.BadNote h;
         later = omega (arith, counted);
         failed = (sym on.kept.number, λ here. tt);
-        told = λ tells here one. h.stays.sound (h.stays.servers ∙ h.falls.servers ∙ sym on.kept.all ∙ one) (fallen_told start_fault.BadNote h tells) refl;
+        told = λ tells here. h.stays.sound (fallen_told start_fault.BadNote h tells) refl;
         free = λ p k. h.free;
         counted = λ p k. ((λ here. counted), (λ away. counted));
       }

@@ -108,12 +108,12 @@ module _ {V : Type 0} (G : Ghosts V) (s after : Stations V) (on : AreOn G s) (se
   still_failed n count at faults other (Err fault.JournalFull) of away h a = tt
   still_failed n count at faults other (Err (fault.Start m f)) of away h a = (subst (IsOfRun count) (sym h.0) of, λ same. absurd (away (sym same ∙ h.0)))
 
-  still_told : {T : Type 0} (servers n at : ℕ) (faults other : ℕ) (r : Result T RunFault) → at ≢ n → IsFailure (λ m. m ≡ n) n r faults other → IsToldFault servers at r
-  still_told servers n at faults other (Ok z) away h = tt
-  still_told servers n at faults other (Err (fault.DiskFault m)) away h = tt
-  still_told servers n at faults other (Err fault.OutOfMemory) away h = tt
-  still_told servers n at faults other (Err fault.JournalFull) away h = tt
-  still_told servers n at faults other (Err (fault.Start m f)) away h = λ same. absurd (away (sym same ∙ h.0))
+  still_told : {T : Type 0} (n at : ℕ) (faults other : ℕ) (r : Result T RunFault) → at ≢ n → IsFailure (λ m. m ≡ n) n r faults other → IsToldFault at r
+  still_told n at faults other (Ok z) away h = tt
+  still_told n at faults other (Err (fault.DiskFault m)) away h = tt
+  still_told n at faults other (Err fault.OutOfMemory) away h = tt
+  still_told n at faults other (Err fault.JournalFull) away h = tt
+  still_told n at faults other (Err (fault.Start m f)) away h = λ same. absurd (away (sym same ∙ h.0))
 
   still_counted : {T : Type 0} (n at : ℕ) (faults other : ℕ) (r : Result T RunFault) → at ≢ n → IsFailure (λ m. m ≡ n) n r faults other → (a : ℕ) → AreCountedIn at r a a
   still_counted n at faults other (Ok z) away h a = refl
@@ -168,7 +168,7 @@ module _ {V : Type 0} (G : Ghosts V) (s after : Stations V) (on : AreOn G s) (se
             vault = n.kept.vault;
             its = subst (λ (o : Option (Server V)). HasVault o n.kept.vault) (sym stood) refl;
             gone = gone_nothing G (IsOfRun (length s.all.items)) P n.kept.vault r (still_failed server (length s.all.items) (G.server n.kept.vault) (G.faults mine.node.kept.vault) (G.faults own.0) r of_run apart failed (G.faults n.kept.vault))
-                (still_told (G.servers n.kept.vault) server (G.server n.kept.vault) (G.faults mine.node.kept.vault) (G.faults own.0) r apart failed) (still_counted server (G.server n.kept.vault) (G.faults mine.node.kept.vault) (G.faults own.0) r apart failed (G.faults n.kept.vault));
+                (still_told server (G.server n.kept.vault) (G.faults mine.node.kept.vault) (G.faults own.0) r apart failed) (still_counted server (G.server n.kept.vault) (G.faults mine.node.kept.vault) (G.faults own.0) r apart failed (G.faults n.kept.vault));
           }
 
       each : (i : ℕ) (z : Station V) (n : NodeState V) → slice_get s.all.items i ≡ Some z → z.server ≡ standing n → LeavesOf G (length s.all.items) P n (slice_get after.all.items i) r

@@ -136,17 +136,16 @@ IsFailure N here (Err (fault.DiskFault server)) before now = N server × (server
 IsFailure N here (Err (fault.Start server f)) before now = N server × (server ≡ here → IsFailureAt f before now)
 IsFailure N here (Err f) before now = Unit {0}
 
--- A vault that tells what it holds is found to be a volume in its format, as it is started again, and the notes of the only server of a
--- run are not at fault.
-abbrev pub IsOfVolumeAt : (servers : ℕ) → StartFault → Type 0
-IsOfVolumeAt servers (start_fault.Vault (vault_fault.NotAVolume found)) = ⊥
-IsOfVolumeAt servers (start_fault.Vault (vault_fault.Damaged place)) = ⊥
-IsOfVolumeAt servers start_fault.BadNote = servers ≡ 1 → ⊥
-IsOfVolumeAt servers f = Unit {0}
+-- A vault that tells what it holds is found to be a volume in its format, as it is started again, and its notes are not at fault.
+abbrev pub IsOfVolumeAt : StartFault → Type 0
+IsOfVolumeAt (start_fault.Vault (vault_fault.NotAVolume found)) = ⊥
+IsOfVolumeAt (start_fault.Vault (vault_fault.Damaged place)) = ⊥
+IsOfVolumeAt start_fault.BadNote = ⊥
+IsOfVolumeAt f = Unit {0}
 
-abbrev pub IsToldFault : {T : Type 0} → (servers here : ℕ) → Result T RunFault → Type 0
-IsToldFault servers here (Err (fault.Start server f)) = server ≡ here → IsOfVolumeAt servers f
-IsToldFault servers here r = Unit {0}
+abbrev pub IsToldFault : {T : Type 0} → (here : ℕ) → Result T RunFault → Type 0
+IsToldFault here (Err (fault.Start server f)) = server ≡ here → IsOfVolumeAt f
+IsToldFault here r = Unit {0}
 
 -- What a call leaves of the vault of a server, whether it went well or not: it is the vault that it was, and its count of faults
 -- did not fall. It rose where its device failed; a fault names one of the servers that may be named. Where nobody stopped it before,
@@ -156,7 +155,7 @@ pub record HasGoneBy {V T : Type 0} (G : Ghosts V) (N : ℕ → Type 0) (P : Typ
   pub same : IsSameVault G.tells G.volume G.server G.servers old new
   pub later : G.faults old ≤ G.faults new
   pub failed : IsFailure N (G.server old) result (G.faults old) (G.faults new)
-  pub told : IsTrue (G.tells old) → IsToldFault (G.servers old) (G.server old) result
+  pub told : IsTrue (G.tells old) → IsToldFault (G.server old) result
   pub free : P → G.allowance old ≡ Free → G.allowance new ≡ Free
   pub counted : P → G.allowance old ≡ Free → AreCountedIn (G.server old) result (G.faults old) (G.faults new)
 

@@ -266,14 +266,12 @@ module _ {V D : Type 0} (G : VaultGhosts V) (g : Ghosts D) (tells : Bool) (lines
     vault_told : (n : ℕ) (here : IsOneOf (servers_said lines) n) → IsTrue (G.tells (at n here).node.kept.vault)
     vault_told n here = (let x = at n here in subst IsTrue (sym x.begun.started.telling) (x.begun.told told))
 
-    fault_told : (n : ℕ) (here : IsOneOf (servers_said lines) n) → IsToldFault {T = T} (servers_said lines) n (Err f)
-    fault_told n here =
-        let many : G.servers (at n here).node.kept.vault ≡ servers_said lines = (let x = at n here in x.begun.started.on.kept.all ∙ x.begun.started.count) in
-        subst (λ (k : ℕ). IsToldFault {T = T} k n (Err f)) many (subst (λ (m : ℕ). IsToldFault {T = T} (G.servers (at n here).node.kept.vault) m (Err f)) (here_is n here) ((at n here).gone.told (vault_told n here)))
+    fault_told : (n : ℕ) (here : IsOneOf (servers_said lines) n) → IsToldFault {T = T} n (Err f)
+    fault_told n here = subst (λ (m : ℕ). IsToldFault {T = T} m (Err f)) (here_is n here) ((at n here).gone.told (vault_told n here))
 
     record Facts (q : RunFault) : Type 0 where
       failed_so : Failed q
-      told_so : (n : ℕ) (here : IsOneOf (servers_said lines) n) → IsToldFault {T = T} (servers_said lines) n (Err q)
+      told_so : (n : ℕ) (here : IsOneOf (servers_said lines) n) → IsToldFault {T = T} n (Err q)
       counted_so : StopNone lines → (n : ℕ) (here : IsOneOf (servers_said lines) n) → AreCounted n q (G.faults (at n here).node.kept.vault) (G.faults (at n here).vault)
       filled : q ≡ run_fault.JournalFull → IsFilledRun g lines (λ n here. (at n here).taken) (λ n here. (at n here).given)
       over : (s : ℕ) → q ≡ run_fault.Start s start_fault.EpochEnd → IsUsedUpRun g lines s (λ n here. (at n here).taken) (λ n here. (at n here).given)
@@ -311,13 +309,7 @@ module _ {V D : Type 0} (G : VaultGhosts V) (g : Ghosts D) (tells : Bool) (lines
         go (run_fault.Start s (start_fault.Vault vault_fault.OutOfMemory)) x = wanting (λ none n here. same_for n here (elim (cases_eq s n) [ inl is ↦ (x.counted_so none n here).0 is | inr away ↦ (x.counted_so none n here).1 away ]))
         go (run_fault.Start s (start_fault.Vault (vault_fault.NotAVolume found))) x = absurd (x.told_so s (one_of s (x.failed_so 1 first_here).0) refl)
         go (run_fault.Start s (start_fault.Vault (vault_fault.Damaged place))) x = absurd (x.told_so s (one_of s (x.failed_so 1 first_here).0) refl)
-        go (run_fault.Start s start_fault.BadNote) x = inr (
-          refl,
-          x.told_so s (one_of s (x.failed_so 1 first_here).0) refl,
-          one_of s (x.failed_so 1 first_here).0,
-          returned (λ n d e. (StopNone lines → g.faults e ≡ g.faults d) × IsLeftWhole g lines n d e)
-              (λ n here. ((λ none. same_for n here (elim (cases_eq s n) [ inl is ↦ (x.counted_so none n here).0 is | inr away ↦ (x.counted_so none n here).1 away ])), whole_at n here)),
-        )
+        go (run_fault.Start s start_fault.BadNote) x = absurd (x.told_so s (one_of s (x.failed_so 1 first_here).0) refl)
         go (run_fault.Start s start_fault.EpochEnd) x =
             let y = x.over s refl in
             inr (

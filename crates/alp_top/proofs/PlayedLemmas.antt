@@ -327,8 +327,8 @@ module _ {D : Type 0} {g : Ghosts D} (lines : List NumberedLine) (before after :
       record { volume = λ found why. blank; whole = λ place why. blank; epoch = λ none. blank; notes = λ a held several counts holds own. inl blank }
   startable n here d (Some s) is same = subst (λ (q : D). IsStartable (sizes_said lines n) n (servers_said lines) (g.size q) (g.seen q)) (sym same) ((starts n here).startable s is)
 
-  pub plays_on : (s : Status D g) (f : NoReport) (bay_before bay_after : ℕ) → s ≡ ended_by f → HasRunCause g lines before after bay_before bay_after f → (Rose bay_before bay_after → ⊥) → (P : Type 0) → ((servers_said lines ≡ 1 → ⊥) → P) → IsPlayedOrMemory P s
-  plays_on s f bay_before bay_after is cause still P several = subst (λ (q : Status D g). IsPlayedOrMemory P q) (sym is) (go f cause)
+  pub plays_on : (s : Status D g) (f : NoReport) (bay_before bay_after : ℕ) → s ≡ ended_by f → HasRunCause g lines before after bay_before bay_after f → (Rose bay_before bay_after → ⊥) → IsPlayedOrMemory s
+  plays_on s f bay_before bay_after is cause still = subst (λ (q : Status D g). IsPlayedOrMemory q) (sym is) (go f cause)
     where
       on : (n : ℕ) → IsOneOf (servers_said lines) n → (d : D) → IsTaken g (before n) (pages_of (sizes_said lines n)) d → IsStartable (sizes_said lines n) n (servers_said lines) (g.size d) (g.seen d)
       on n here d was = startable n here d (before n) refl was
@@ -336,7 +336,7 @@ module _ {D : Type 0} {g : Ghosts D} (lines : List NumberedLine) (before after :
       its : (n : ℕ) → IsOneOf (servers_said lines) n → IsOneOf n n
       its n here = record { first = here.first; last = omega arith }
 
-      go : (f : NoReport) → HasRunCause g lines before after bay_before bay_after f → IsPlayedOrMemory P (ended_by {D = D} {g = g} f)
+      go : (f : NoReport) → HasRunCause g lines before after bay_before bay_after f → IsPlayedOrMemory (ended_by {D = D} {g = g} f)
       go fault.Bay x = absurd (still x.3)
       go (fault.Disk n) x =
           let e = x.returned.each n x.cause in
@@ -347,8 +347,7 @@ module _ {D : Type 0} {g : Ghosts D} (lines : List NumberedLine) (before after :
       go (fault.EpochEnd n) (inl x) = (let e = x.returned.each n (its n x.among) in let why = e.left.0 refl in absurd (why.0.old ((on n x.among e.taken e.from_there).epoch why.1)))
       go (fault.EpochEnd n) (inr x) = inr refl
       go (fault.NotAVolume n found) x = (let e = x.returned.each n (its n x.among) in let why = e.left.0 refl in absurd (why.0.old ((on n x.among e.taken e.from_there).volume found why.1)))
-      go (fault.Damaged n place) (inr x) = (x.0, several x.1)
-      go (fault.Damaged n place) (inl x) =
+      go (fault.Damaged n place) x =
           let e = x.returned.each n (its n x.among) in
           let y = on n x.among e.taken e.from_there in
           elim (e.left.0 refl) [

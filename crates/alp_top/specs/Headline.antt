@@ -217,10 +217,6 @@ OfAllToPlay words old new P = (command : Command) → IsNamedBy words command �
 abbrev pub StartsHere : {D : Type 0} → DiskGhosts D → (words : List (List ℕ)) → (old new : Option (List ℕ)) → (before after : ℕ → Option D) → Type 0
 StartsHere g words old new before after = OfAllToPlay words old new (λ lines. StartsOn g lines before after)
 
--- the lines declare one server
-abbrev pub IsOfOne : (words : List (List ℕ)) → (old new : Option (List ℕ)) → Type 0
-IsOfOne words old new = OfAllToPlay words old new (λ lines. servers_said lines ≡ 1)
-
 -- there are lines to play, as far as the source says
 abbrev pub HasLinesFor : (words : List (List ℕ)) → Option (List ℕ) → Type 0
 HasLinesFor words has = (command : Command) → IsNamedBy words command → HasLines command has

@@ -168,14 +168,12 @@ module _ {D : Type 0} {g : Ghosts D} where
   IsHandedOver (status.WriteFault log) = Unit {0}
   IsHandedOver _ = ⊥
 
-  -- the report is written, or there was no memory, or a journal was full, or a server had come to the last epoch; or, where that holds, a
-  -- server that started again found that its notes do not go together
-  abbrev pub IsPlayedOrMemory : Type 0 → Status D g → Type 0
-  IsPlayedOrMemory P (status.Done log) = Unit {0}
-  IsPlayedOrMemory P status.OutOfMemory = Unit {0}
-  IsPlayedOrMemory P (status.TooLong limit) = (limit ≡ entries_limit) ⊎ (limit ≡ 4294967295)
-  IsPlayedOrMemory P (status.Damaged server place) = (place ≡ 0) × P
-  IsPlayedOrMemory P _ = ⊥
+  -- the report is written, or there was no memory, or a journal was full, or a server had come to the last epoch
+  abbrev pub IsPlayedOrMemory : Status D g → Type 0
+  IsPlayedOrMemory (status.Done log) = Unit {0}
+  IsPlayedOrMemory status.OutOfMemory = Unit {0}
+  IsPlayedOrMemory (status.TooLong limit) = (limit ≡ entries_limit) ⊎ (limit ≡ 4294967295)
+  IsPlayedOrMemory _ = ⊥
 
 -- the limit of the lines of a script, that of the entries of a journal, or the last epoch
 abbrev pub IsLimit : ℕ → Type 0

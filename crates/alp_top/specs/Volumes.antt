@@ -289,8 +289,8 @@ IsAtItsEnd g lines server taken given = IsLeftAlone g (sizes_said lines server) 
 -- Why a run ended before its report, and how the bay stands then. Where the bay failed, so many servers were started, and the next disk was not
 -- taken. A disk that is none to start on is the first one that is not. Where a disk failed it is one that was taken, and where memory was
 -- wanting all that were taken are given back. A full journal, and an epoch that is the last one of a server in the run, come when all were
--- started, and each disk comes back as its server's journal says. A server of several that starts again in the run may find that its notes do
--- not go together.
+-- started, and each disk comes back as its server's journal says. A server that starts again in the run finds its own notes good, in whatever it
+-- was stopped.
 abbrev pub HasRunCause : {D : Type 0} → Ghosts D → List NumberedLine → (before after : ℕ → Option D) → (bay_before bay_after : ℕ) → NoReport → Type 0
 HasRunCause g lines before after bay_before bay_after fault.Bay = (count : ℕ) × (count < servers_said lines) × AreReturned g lines count before after (IsUnplayed g lines) × Rose bay_before bay_after
 HasRunCause g lines before after bay_before bay_after fault.OutOfMemory = AreLeftWanting g lines before after
@@ -305,8 +305,6 @@ HasRunCause g lines before after bay_before bay_after (fault.EpochEnd server) =
 HasRunCause g lines before after bay_before bay_after (fault.NotAVolume server found) = StopsAt g lines server before after (IsNoVolume g lines server found)
 HasRunCause g lines before after bay_before bay_after (fault.Damaged server place) =
     StopsAt g lines server before after (IsDamaged g lines server place)
-    ⊎ ((place ≡ 0) × (servers_said lines ≡ 1 → ⊥) × IsOneOf (servers_said lines) server
-    × AreReturned g lines (servers_said lines) before after (λ n taken given. (StopNone lines → g.faults given ≡ g.faults taken) × IsLeftWhole g lines n taken given))
 
 -- ---- which disks a run starts on
 

@@ -82,7 +82,7 @@ returns-clause-complete g c good says source sink bay told starts =
     let lines : List NumberedLine = c.deref-played.result.now in
     let script : AreToPlay c.in-Ok.command (g.S.Source.left c.args.script.now) (g.S.Source.left c.lines_of.new.script) lines = subst (AreToPlay c.in-Ok.command _ _) (sym c.deref-played.ensures.value) c.in-Ok-lines_of.ensures.lines in
     let asked = folder_told (λ name. name.now) c.folder_of.result _ _ (c.folder_of.ensures ∙ named_folder _ c.in-Ok.command c.in-Ok.ensures.named) told in
-    plays_on lines _ _ (starts c.in-Ok.command c.in-Ok.ensures.named lines script) c.ended_by.result c.in-Err.fault _ _ c.ended_by.ensures (c.in-Err.ensures.cause asked) bay _ (λ several all. several (all c.in-Ok.command c.in-Ok.ensures.named lines script))
+    plays_on lines _ _ (starts c.in-Ok.command c.in-Ok.ensures.named lines script) c.ended_by.result c.in-Err.fault _ _ c.ended_by.ensures (c.in-Err.ensures.cause asked) bay
 
 pub returns-clause-flaw : goal.returns-clause-flaw
 returns-clause-flaw g c = not_flawed c.ended_by.result c.in-Err.fault _ c.ended_by.ensures
