@@ -1,6 +1,6 @@
 -- A server of a run, up or down, on a disk that lines may stop.
 use Rattle.std.specs.Prelude.{◌≡◌, ◌≢◌, ℕ, ◌≤◌, ◌||◌, Bool, true, false, IsTrue, List, [], ◌∷◌, ◌++◌, length, Option, None, Some, is_some, Result, Ok, Err}
-use Rattle.std.specs.List.{list_any}
+use Rattle.std.specs.List.{list_any, AllByRecursion}
 use Rattle.alp_base.specs.Allowances.{Sets}
 use Rattle.alp_base.specs.Causes.{Rose}
 use Rattle.alp_base.specs.declared.allowance.Allowance.TheVariants.{Free}
@@ -66,6 +66,10 @@ is_failed_at (Some e) = fails e
 -- an entry that has its cause, where no device failed; it may have been stopped
 abbrev pub IsDone : State → Entry → Type 0
 IsDone s e = (fails e ≡ false) × IsAnsweredEntry false s e
+
+-- no entry of a journal stopped its server
+abbrev pub AreCalm : List Entry → Type 0
+AreCalm es = AllByRecursion (λ (e : Entry). stops e ≡ false) es
 
 -- ---- what it keeps of its clients
 
@@ -182,7 +186,7 @@ pub record IsShut {V : Type 0} (old new : NodeState V) (r : Option Reply) : Type
   pub same : new ≡ old
 
 -- One event was answered so: one entry more, and the device did not fail, which the entry shows where the vault tells. It may have
--- been stopped, if it was let.
+-- been stopped, if it was let; where it was not, its count of faults stays.
 pub record HasStepped {V : Type 0} (G : Ghosts V) (old new : NodeState V) (e : Event) (r : Option Reply) : Type 0 where
   pub on : IsOn G new
   pub up : old.kept.is_down ≡ false
@@ -198,6 +202,7 @@ pub record HasStepped {V : Type 0} (G : Ghosts V) (old new : NodeState V) (e : E
   pub journal : new.journal ≡ old.journal ++ (record { event = e; reply = r; acts = acts }) ∷ []
   pub down : new.kept.is_down ≡ stops (record { event = e; reply = r; acts = acts })
   pub halts : new.kept.is_down ≡ true → G.allowance old.kept.vault ≢ Free
+  pub counted : new.kept.is_down ≡ false → G.faults new.kept.vault ≡ G.faults old.kept.vault
   pub closes : new.kept.is_down ≡ true → r ≡ Some (reply.Refused Down)
   pub done : IsTrue (G.tells old.kept.vault) → IsDone (state_of G old) (record { event = e; reply = r; acts = acts })
   pub turned : new.kept.is_down ≡ false → HasTurned (order_in old.kept e) old.kept new.kept e r
