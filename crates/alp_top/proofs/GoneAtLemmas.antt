@@ -3,6 +3,7 @@ use Rattle.std.specs.Prelude.{Bool, IsTrue, map as list_map, slice_get, Option, 
 use Rattle.std.proofs.Common.{inl, inr, ◌⊎◌, ◌≡◌, ◌≢◌, ℕ, zero, suc, ◌+◌, ◌-◌, ◌<◌, ◌≤◌, List, [], ◌∷◌, length, refl, sym, ◌∙◌, ap, subst, arith}
 use Rattle.std.proofs.lemmas.Bool.{cases_eq}
 use Rattle.alp_base.specs.Causes.{Rose}
+use Rattle.alp_base.specs.declared.allowance.Allowance.TheVariants.{Free}
 use Rattle.alp_base.specs.declared.faults.Sizes.{Sizes}
 use Rattle.alp_base.specs.declared.faults.VaultFault.{VaultFault}
 use Rattle.alp_base.specs.declared.faults.VaultFault.TheVariants as vault_fault
@@ -60,14 +61,19 @@ pub record IsLeftSo {V D T : Type 0} (G : VaultGhosts V) (g : Ghosts D) (tells :
   pub at : IsGoneAt G g tells lines before after first now r n
   pub its : HasVault at.left.server at.vault
 
--- It was at rest, and was closed.
+-- It was at rest, and was closed. Where nobody stops it then, its count of faults stayed.
 pub record IsDoneAt {V D T : Type 0} (G : VaultGhosts V) (g : Ghosts D) (tells : Bool) (lines : List NumberedLine) (before after : ℕ → Option D) (first now : Stations V) (r : Result T RunFault) (n : ℕ) : Type 0 where
   pub at : IsGoneAt G g tells lines before after first now r n
   pub rest : NodeState V
   pub rests : at.left.server ≡ standing rest
   pub held : OnOk r (G.held at.vault ≡ G.held rest.kept.vault)
   pub serves : OnOk r (IsTrue (G.serves at.vault))
+  pub still : OnOk r (G.allowance rest.kept.vault ≡ Free → G.faults at.vault ≡ G.faults rest.kept.vault)
   pub telling : G.tells rest.kept.vault ≡ G.tells at.node.kept.vault
+
+ok_counted : {U : Type 0} (F : Type 0) (here before now : ℕ) (q : Result U RunFault) → (F → AreCountedIn here q before now) → OnOk q (F → now ≡ before)
+ok_counted F here before now (Ok x) h = h
+ok_counted F here before now (Err f) h = tt
 
 module _ {V D : Type 0} (G : VaultGhosts V) (g : Ghosts D) (tells : Bool) (lines : List NumberedLine) (before mid after : ℕ → Option D) (ns : List (NodeState V)) (ds : List D) (first now : Stations V) (stand : AreStationsOf ns first.all.items) (many : length ns ≡ servers_said lines)
     (begun : AreBegun G g tells lines before 1 ns ds) (same : IsTrue tells → AreOthersSame (servers_said lines) before mid) where
@@ -150,6 +156,7 @@ module _ {V D : Type 0} (G : VaultGhosts V) (g : Ghosts D) (tells : Bool) (lines
           rests = y.stands;
           held = y.held;
           serves = y.serves;
+          still = ok_counted (G.allowance y.node.kept.vault ≡ Free) (G.server y.node.kept.vault) (G.faults y.node.kept.vault) (G.faults y.vault) q (λ free. y.gone.counted tt free);
           telling = first_gone.same.telling;
         }
 

@@ -4,6 +4,9 @@ pub mod LonelyLemmas
 pub mod BeginLemmas
 pub mod BegunLemmas
 pub mod CommandLemmas
+pub mod AwayDeeds
+pub mod AwayEdits
+pub mod CalmAtLemmas
 pub mod CloseLemmas
 pub mod CloseOneLemmas
 pub mod KeptCourse
@@ -27,6 +30,7 @@ pub mod RefusedLemmas
 pub mod RunLemmas
 pub mod SeatedLemmas
 pub mod SeveralLemmas
+pub mod StartableLemmas
 pub mod StartedLemmas
 pub mod StoredLemmas
 pub mod StreamLemmas

@@ -18,7 +18,7 @@ use Rattle.alp_cluster.specs.Gathered.{AreStationsOf, AreGathered}
 use Rattle.alp_cluster.specs.Runs.{StopNone, HasPlayed, HasPlayedOut, HasEndedEarly}
 use Rattle.alp_cluster.specs.Servers.{HasGoneBy}
 use Rattle.alp_cluster.specs.Station.{standing, HasVault, seat_for}
-use Rattle.alp_cluster.specs.Stations.{IsOfRun, HaveGone, course_of, openings_of}
+use Rattle.alp_cluster.specs.Stations.{AreCalmSince, IsOfRun, HaveGone, course_of, openings_of}
 use Rattle.alp_cluster.specs.declared.cluster.Cluster.{Cluster}
 use Rattle.alp_cluster.specs.declared.fault.RunFault.{RunFault}
 use Rattle.alp_cluster.specs.declared.fault.RunFault.TheVariants as run_fault
@@ -175,13 +175,13 @@ module _ {V D : Type 0} (G : VaultGhosts V) (g : Ghosts D) (tells : Bool) (lines
       pub fell_counted : IsOfServers g (servers_said lines) (played f)
       fell_counted = play_counted G g tells lines before after first now (Unit {0}) f some (λ n here. (fell_at n here).at)
 
-      pub fell_ended : IsTrue tells → (bay_before bay_after : ℕ) → OnEndBy f (λ e. HasEndedEarly G (servers_said lines) lines e now) → OnEndBy f (λ e. openings_of now ≡ openings_of first)
+      pub fell_ended : IsTrue tells → (bay_before bay_after : ℕ) → OnEndBy f (λ e. HasEndedEarly G (servers_said lines) lines e now) → OnEndBy f (λ e. openings_of now ≡ openings_of first) → OnEndBy f (λ e. AreCalmSince G first now)
           → HasRunCause g lines before after bay_before bay_after (played f)
-      fell_ended told bay_before bay_after ended opens =
+      fell_ended told bay_before bay_after ended opens calm =
           play_ended G g tells lines before after first now (Unit {0}) f some (λ n here. (fell_at n here).at) told
           (others_same G g tells lines before mid after h.nodes h.disks first now h.gathered.stations h.many h.begun h.others (Err f) gone told (left.others told)) bay_before bay_after
-          (λ is. filled G g tells told lines before after first now f (end_full f (λ e. HasEndedEarly G (servers_said lines) lines e now) ended is) fell_at (end_full f (λ e. openings_of now ≡ openings_of first) opens is) is)
-          (λ s is. over G g tells told lines before after first now f (end_over f s (λ e. HasEndedEarly G (servers_said lines) lines e now) ended is) fell_at (end_over f s (λ e. openings_of now ≡ openings_of first) opens is) s is)
+          (λ is. filled G g tells told lines before after first now f (end_full f (λ e. HasEndedEarly G (servers_said lines) lines e now) ended is) fell_at (end_full f (λ e. openings_of now ≡ openings_of first) opens is) (end_full f (λ e. AreCalmSince G first now) calm is) is)
+          (λ s is. over G g tells told lines before after first now f (end_over f s (λ e. HasEndedEarly G (servers_said lines) lines e now) ended is) fell_at (end_over f s (λ e. openings_of now ≡ openings_of first) opens is) (end_over f s (λ e. AreCalmSince G first now) calm is) s is)
 
   -- ---- when it was played
 
@@ -243,9 +243,9 @@ module _ {V D : Type 0} (G : VaultGhosts V) (g : Ghosts D) (tells : Bool) (lines
 
       -- all went well
       module _ (vs : List (Vec Item Global)) (text printed : List ℕ) (log : Log V) (rests : Rests V) (rises : RisesFrom 1 lines) (out : HasPlayedOut G (servers_said lines) lines now vs text) (kept : AreRestsOf G now.all.items rests) (shows : Bool) (is : IsReportOf rests vs (shown_text shows text) log printed) where
-        pub went_well : IsTrue tells → openings_of now ≡ openings_of first → IsRunOf G g shows lines log printed before after
-        went_well told opens =
-            run_over G g tells told lines before mid after h.nodes h.disks first now h.gathered.stations h.many few h.begun h.others gone u closed opens vs text printed log rests rises out kept shows is
+        pub went_well : IsTrue tells → openings_of now ≡ openings_of first → AreCalmSince G first now → IsRunOf G g shows lines log printed before after
+        went_well told opens calm =
+            run_over G g tells told lines before mid after h.nodes h.disks first now h.gathered.stations h.many few h.begun h.others gone u closed opens calm vs text printed log rests rises out kept shows is
 
         pub went_through : IsPlayedThrough G shows lines log printed
         went_through = played_through G lines now vs text printed log rests rises out kept shows is

@@ -20,6 +20,7 @@ use Rattle.alp_journal.specs.Answered.{entries_limit}
 use Rattle.alp_journal.specs.Laws.{IsLawful}
 use Rattle.alp_journal.specs.Moves.{next}
 use Rattle.alp_journal.specs.State.{State, opened}
+use Rattle.alp_journal.specs.declared.entry.Entry.{Entry}
 use Rattle.alp_node.specs.Downs.{IsLeftOf}
 use Rattle.alp_node.specs.Durable.{IsSaid, IsSaidThen}
 use Rattle.alp_node.specs.Nodes.{IsSoundStart}
@@ -38,7 +39,7 @@ use Rattle.alp_history.specs.RunLogs.{handed_of}
 use Rattle.alp_history.specs.Theorems.{IsOneThread, AreWhole}
 use Rattle.alp_cluster.specs.Fills.{IsEndFor}
 use Rattle.alp_cluster.specs.Runs.{StopNone, StopsInLine, StopsBehindLines}
-use Rattle.alp_cluster.specs.Servers.{IsDone}
+use Rattle.alp_cluster.specs.Servers.{AreCalm, IsDone}
 use Rattle.alp_course.specs.Courses.{Course, Occurrence, IsOneOf, IsSeat, seat_at, TellAll, AreCourse}
 use Rattle.alp_course.specs.Links.{IsFirst, log_of}
 use Rattle.alp_course.specs.Plays.{Due, sent_of}
@@ -85,6 +86,11 @@ HasNoPart {D} g lines server was =
 
 -- ---- what a disk holds behind the run
 
+-- No line lets a disk be stopped, or no entry of this journal stopped its server: of a disk that was stopped no count says whether it failed, since
+-- the write that stops it is handed on.
+abbrev pub IsUnstopped : List NumberedLine → List Entry → Type 0
+IsUnstopped lines journal = StopNone lines ⊎ AreCalm journal
+
 -- a server finds no part of a transaction that is ready, and no decision that is not at its end
 pub record IsBare (o : Start) : Type 0 where
   pub ready : o.ready ≡ []
@@ -95,14 +101,16 @@ pub record IsSoundAlone (o : Start) (held : Contents) : Type 0 where
   pub clock : AreClockNotes held.notes
   pub bare : IsBare (start_at 1 1 o.sizes held.cells held.notes)
 
--- What the server holds in the end by its journal is what the disk that was given back holds, and what a crash leaves of it. What its notes
--- said of its own files was sound. Where this holds, the disk did not fail.
+-- What the server holds in the end by its journal is what the disk that was given back holds, and what a crash leaves of it: the notes are in its
+-- format, and it gave the files, in epochs up to that of its note. What its notes said of its own files was sound. Where this holds, the disk
+-- did not fail.
 pub record IsStored {D : Type 0} (g : Ghosts D) (P : Type 0) (server servers : ℕ) (sizes : Sizes) (o : Start) (notes : Notes) (m : State) (taken given : D) : Type 0 where
   pub new : IsNew sizes (g.size taken) (g.seen taken) → IsOpenedNew sizes o notes
   pub found : (IsNew sizes (g.size taken) (g.seen taken) → ⊥) → IsOpenedOn server servers (g.size taken) (g.seen taken) o notes
   pub held : Contents
   pub finish : Holds server servers (g.size given) o.sizes.home (g.seen given) held
   pub said : IsSaid m held
+  pub own : AreOfServer server servers held
   pub files : AreSound held.cells
   pub sized : AreSized (map.get held.cells)
   pub durable : Only (g.seen given) (g.may_leave given)
@@ -190,7 +198,7 @@ pub record HasFilled {D : Type 0} (g : Ghosts D) (lines : List NumberedLine) (la
   pub notes : Notes
   pub started : (seat_at last server).opening ≡ start_at server (servers_said lines) (seat_at last server).opening.sizes (seat_at last server).opening.cells notes
   pub full : entries_limit ≤ length (seat_at last server).journal
-  pub stored : IsStored g (StopNone lines) server (servers_said lines) (sizes_said lines server) (seat_at last server).opening notes (state_after next (opened (seat_at last server).opening) (seat_at last server).journal) taken given
+  pub stored : IsStored g (IsUnstopped lines (seat_at last server).journal) server (servers_said lines) (sizes_said lines server) (seat_at last server).opening notes (state_after next (opened (seat_at last server).opening) (seat_at last server).journal) taken given
 
 -- The server that was started on the disk was to start again, and had come to the last epoch. What the disk reads and what a crash leaves
 -- of it is what the journal says, or that with the whole of what was tried last.
@@ -204,7 +212,7 @@ pub record HasUsedUp {D : Type 0} (g : Ghosts D) (lines : List NumberedLine) (la
   pub left : (image : Image) → g.may_leave given image
       → (c : Contents) × Holds server (servers_said lines) (g.size given) (seat_at last server).opening.sizes.home image c × IsLeftOf (state_after next (opened (seat_at last server).opening) (seat_at last server).journal) c
   pub read : g.may_leave given (g.seen given)
-  pub unfailed : StopNone lines → g.faults given ≡ g.faults taken
+  pub unfailed : IsUnstopped lines (seat_at last server).journal → g.faults given ≡ g.faults taken
 
 -- A disk that is not new holds a volume of this server, one of several, whose notes do not go together, with one another or with its files. It
 -- comes back with the same, after a crash too.

@@ -121,7 +121,7 @@ returns-in-Err-play_out-clause-cause g c asked =
     (subst (λ (b : ℕ → Option g.row.B-Device.Denot). HasRunCause g.B.Device.Disk c.args.lines.now b three (g.B.Bay.faults c.args.bay.now) (g.B.Bay.faults c.leave_all-in-Err-play_out.new.bay) (played c.in-Err-play_out.fault)) c.choose.ensures.places
     (fell_ended G g.B.Device.Disk t c.args.lines.now c.requires.accepted.least c.requires.accepted.most one two three old begun c.play_out.new.self.parties.stations c.in-Err-play_out.fault c.in-Err-play_out.ensures.gone
     (left_moved G g.B.Device.Disk (g.B.Bay.tells c.start_all.new.bay) t c.into_parts-stations-in-Err-play_out.result.0.items c.play_out.new.self.parties.stations.all.items two three c.start_all.ensures.tells (ap (λ v. v.items) c.into_parts-stations-in-Err-play_out.ensures.stations) c.leave_all-in-Err-play_out.ensures.left)
-    told (g.B.Bay.faults c.args.bay.now) (g.B.Bay.faults c.leave_all-in-Err-play_out.new.bay) c.in-Err-play_out.ensures.ended c.in-Err-play_out.ensures.left))
+    told (g.B.Bay.faults c.args.bay.now) (g.B.Bay.faults c.leave_all-in-Err-play_out.new.bay) c.in-Err-play_out.ensures.ended c.in-Err-play_out.ensures.left c.in-Err-play_out.ensures.calm_left))
 
 pub returns-in-Err-play_out-clause-counted : goal.returns-in-Err-play_out-clause-counted
 returns-in-Err-play_out-clause-counted g c =
@@ -258,7 +258,7 @@ returns-clause-ran g c asked =
     c.args.shows
     (report_moved c.in_ok-rests.rests c.into_parts-stations-2.result.1.items last.lists.items c.shown.result.items (shown_text c.args.shows last.text.items) c.in_ok-report.field-0.log c.in_ok-report.field-0.text.items (ap (λ v. v.items) c.into_parts-stations-2.ensures.parts.0)
     (c.shown.ensures ∙ ap (λ v. shown_text c.args.shows v.items) c.into_parts-stations-2.ensures.parts.1) c.in_ok-report.ensures)
-    told c.in_default-play_out.ensures.openings)
+    told c.in_default-play_out.ensures.openings c.in_default-play_out.ensures.calm)
 
 pub returns-clause-through : goal.returns-clause-through
 returns-clause-through g c =
