@@ -225,6 +225,10 @@ module _ {V D : Type 0} (G : VaultGhosts V) (g : Ghosts D) (tells : Bool) (lines
       go (run_fault.Start s start_fault.BadNote) x = one_of s (x 1 first_here).0
       go (run_fault.Start s start_fault.EpochEnd) x = tt
 
+  -- and the last epoch is that of a server of the run
+  pub play_epoch : (s : ℕ) → f ≡ run_fault.Start s start_fault.EpochEnd → IsOneOf (servers_said lines) s
+  play_epoch s is = (let named : Failed (run_fault.Start s start_fault.EpochEnd) = subst (λ (q : RunFault). Failed q) is failed in one_of s (named 1 first_here).0)
+
   -- ---- on a bay that tells
 
   module _ (told : IsTrue tells) (others : AreOthersSame (servers_said lines) before after) where

@@ -13,6 +13,7 @@ pub mod KeptCourse
 pub mod KeptLemmas
 pub mod LeaveLemmas
 pub mod LookLemmas
+pub mod EndedLemmas
 pub mod FilledLemmas
 pub mod CountedFits
 pub mod CountedLemmas

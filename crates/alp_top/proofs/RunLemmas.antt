@@ -28,6 +28,7 @@ use Rattle.alp_cluster.proofs.GatherLemmas.{played_none}
 use Rattle.alp_cluster.proofs.GoneLemmas.{gone_memory}
 use Rattle.alp_top.specs.Anywhere.{IsPlayedThrough}
 use Rattle.alp_top.specs.Disks.{IsBegunAt, AreBegun, IsOfServer, HaveBegun, HaveBegunSome, AreHeld, AreLeftBy, IsAtRest, AreAtRest, AreClosed}
+use Rattle.alp_top.specs.Ended.{IsEndedFor, IsEndTold}
 use Rattle.alp_top.specs.Endings.{AreRestsOf, IsReportOf, shown_text}
 use Rattle.alp_top.specs.Faults.{of_bay, played}
 use Rattle.alp_top.specs.Headline.{IsRunOf}
@@ -36,9 +37,10 @@ use Rattle.alp_top.specs.Volumes.{HasRunCause, IsBayFault, IsBayTold, IsOfServer
 use Rattle.alp_top.specs.declared.fault.NoReport.{NoReport}
 use Rattle.alp_top.specs.declared.fault.NoReport.TheVariants as fault
 use Rattle.alp_top.specs.declared.finish.Rests.{Rests}
+use Rattle.alp_top.proofs.EndedLemmas.{ended_for, ended_told}
 use Rattle.alp_top.proofs.FilledLemmas.{filled, over}
 use Rattle.alp_top.proofs.GivenLemmas.{station_at, stations_many}
-use Rattle.alp_top.proofs.GoneAtLemmas.{IsGoneAt, IsLeftSo, IsDoneAt, others_same, left_at, done_at, play_counted, play_ended}
+use Rattle.alp_top.proofs.GoneAtLemmas.{IsGoneAt, IsLeftSo, IsDoneAt, others_same, left_at, done_at, play_counted, play_epoch, play_ended}
 use Rattle.alp_top.proofs.PairLemmas.{HasPair, paired_at, same_there}
 use Rattle.alp_top.proofs.PlayedOutLemmas.{run_over}
 use Rattle.alp_top.proofs.SeatedLemmas.{there_less, seat_on, many}
@@ -52,6 +54,10 @@ end_full f P h is = subst P (sym is) (subst (λ (q : RunFault). OnEndBy q P) is 
 
 pub end_over : (f : RunFault) (s : ℕ) (P : RunFault → Type 0) → OnEndBy f P → f ≡ run_fault.Start s start_fault.EpochEnd → P f
 end_over f s P h is = subst P (sym is) (subst (λ (q : RunFault). OnEndBy q P) is h)
+
+-- what ends the closing of servers comes to no limit
+pub close_unended : (lines : List NumberedLine) (f : RunFault) → OnEndBy f (λ e. ⊥) → IsEndTold lines (played f)
+close_unended lines f room = ended_told lines f (λ is. absurd (end_full f (λ e. ⊥) room is)) (λ s is. absurd (end_over f s (λ e. ⊥) room is))
 
 -- none of the bay
 pub play_still : (f : RunFault) (before now : ℕ) → now ≡ before → IsBayFault (played f) before now
@@ -174,6 +180,11 @@ module _ {V D : Type 0} (G : VaultGhosts V) (g : Ghosts D) (tells : Bool) (lines
 
       pub fell_counted : IsOfServers g (servers_said lines) (played f)
       fell_counted = play_counted G g tells lines before after first now (Unit {0}) f some (λ n here. (fell_at n here).at)
+
+      pub fell_told : OnEndBy f (λ e. HasEndedEarly G (servers_said lines) lines e now) → IsEndTold lines (played f)
+      fell_told ended =
+          ended_told lines f (λ is. subst (IsEndedFor lines) is (ended_for G lines f now (end_full f (λ e. HasEndedEarly G (servers_said lines) lines e now) ended is)))
+          (λ s is. play_epoch G g tells lines before after first now (Unit {0}) f some (λ n here. (fell_at n here).at) s is)
 
       pub fell_ended : IsTrue tells → (bay_before bay_after : ℕ) → OnEndBy f (λ e. HasEndedEarly G (servers_said lines) lines e now) → OnEndBy f (λ e. openings_of now ≡ openings_of first) → OnEndBy f (λ e. AreCalmSince G first now)
           → HasRunCause g lines before after bay_before bay_after (played f)

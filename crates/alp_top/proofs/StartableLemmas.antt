@@ -1,5 +1,4 @@
 -- a disk that holds a volume of its server, with no note but the clock's, is one to start on
-use Rattle.std.specs.Prelude.{sum_by}
 use Rattle.std.proofs.Common.{inl, inr, ◌≡◌, ℕ, ◌+◌, ◌≤◌, List, [], sym, subst, arith}
 use Rattle.alp_base.specs.Notes.{Notes}
 use Rattle.alp_base.specs.declared.faults.Sizes.{Sizes}
@@ -9,7 +8,7 @@ use Rattle.alp_anchor.specs.declared.anchor.Anchor.{Anchor}
 use Rattle.alp_disk.specs.Disk.{Image}
 use Rattle.alp_fields.specs.ClockNote.{AreClockNotes}
 use Rattle.alp_files.specs.Cells.{Cells}
-use Rattle.alp_files.specs.Counts.{used_of}
+use Rattle.alp_files.specs.Counts.{used_of, file_count_of, owner_count_of}
 use Rattle.alp_journal.specs.Opening.{ReadyNote, ready_kept}
 use Rattle.alp_journal.proofs.NoteLemmas.{none_ready}
 use Rattle.alp_node.specs.Starts.{epoch_after}
@@ -21,6 +20,7 @@ use Rattle.alp_store.proofs.RecoverLaws.{is_opened}
 use Rattle.alp_store.proofs.Standing.{standing_volume}
 use Rattle.alp_vault.specs.Contents.{Contents}
 use Rattle.alp_vault.specs.Volumes.{IsVolumeOf}
+use Rattle.alp_vault.specs.declared.limits.TheConstants.{FILES_PER_SERVER, OWNERS_PER_SERVER, HEAD_PAGES}
 use Rattle.alp_top.specs.Volumes.{HasNoEpoch, IsStartable}
 use Rattle.alp_top.proofs.BeginLemmas.{together_so_far}
 use Rattle.alp_top.proofs.TogetherLemmas.{one_content}
@@ -29,7 +29,10 @@ use Rattle.alp_top.proofs.TogetherLemmas.{one_content}
 bare_together : (server servers epoch : ℕ) (s : Sizes) (m : Cells) (notes : Notes) → 64 ≤ s.area → IsVolumeOf s m → AreClockNotes notes → AreTogether server servers epoch s m notes
 bare_together server servers epoch s m notes least volume clock =
     let none : ready_kept notes ≡ [] = none_ready notes clock in
-    let room : HaveRoomTogether s m [] = record { places = volume.fits.places; files = volume.fits.files; owners = volume.fits.owners } in
+    let places : used_of m + 0 + HEAD_PAGES ≤ s.home = omega (arith, volume.fits.places) in
+    let files : file_count_of m + 0 ≤ FILES_PER_SERVER = omega (arith, volume.fits.files) in
+    let owners : owner_count_of m + 0 ≤ OWNERS_PER_SERVER = omega (arith, volume.fits.owners) in
+    let room : HaveRoomTogether s m [] = record { places = places; files = files; owners = owners } in
     let sound : AreSoundTogether m [] = record { each = tt; all = volume.sound } in
     record {
       notes_alone = together_so_far server servers epoch s.area notes (omega (arith, least)) clock;

@@ -136,6 +136,11 @@ module _ {D : Type 0} {g : Ghosts D} where
   OnDiskFault (status.DiskFault server) P = (server ≡ 0) ⊎ P server
   OnDiskFault _ P = Unit {0}
 
+  -- where the bay failed
+  abbrev pub OnBayFault : Status D g → Type 0 → Type 0
+  OnBayFault (status.DiskFault server) P = server ≡ 0 → P
+  OnBayFault _ P = Unit {0}
+
   -- where something is too long, of its limit
   abbrev pub OnTooLong : Status D g → (ℕ → Type 0) → Type 0
   OnTooLong (status.TooLong limit) P = P limit
@@ -174,10 +179,6 @@ module _ {D : Type 0} {g : Ghosts D} where
   IsPlayedOrMemory status.OutOfMemory = Unit {0}
   IsPlayedOrMemory (status.TooLong limit) = (limit ≡ entries_limit) ⊎ (limit ≡ 4294967295)
   IsPlayedOrMemory _ = ⊥
-
--- the limit of the lines of a script, that of the entries of a journal, or the last epoch
-abbrev pub IsLimit : ℕ → Type 0
-IsLimit limit = (limit ≡ SCRIPT_LINES_MOST) ⊎ (limit ≡ entries_limit) ⊎ (limit ≡ 4294967295)
 
 -- the folder of a command
 abbrev pub folder_in : Command → Option (List ℕ)

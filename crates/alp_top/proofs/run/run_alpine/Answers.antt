@@ -3,11 +3,12 @@ use Rattle.std.proofs.Common.{◌≡◌, ℕ, List, refl, sym, ◌∙◌, subst}
 use Rattle.alp_script.specs.Accepted.{IsAccepted}
 use Rattle.alp_script.specs.declared.numbered.NumberedLine.{NumberedLine}
 use Rattle.alp_words.specs.Words.{folder_named}
+use Rattle.alp_top.specs.Anywhere.{HasPlay}
 use Rattle.alp_top.specs.Commands.{AreToPlay}
 use Rattle.alp_top.specs.Headline.{HasCause}
 use Rattle.alp_top.specs.Volumes.{IsFolderLeft}
 use Rattle.alp_top.proofs.CommandLemmas.{few_rounds}
-use Rattle.alp_top.proofs.PlayedLemmas.{run_shown, through_shown, is_played, is_cut_off, done_then, cut_then, caused, folder_left, handed_folder, disk_counted, handed_counted, has_reported, has_reported_part, handed_limits, handed_disk, not_done, not_cut, limited, of_declared, bay_told, read_well, wrote_well, named_folder, folder_told, plays_on, not_flawed, not_untaken}
+use Rattle.alp_top.proofs.PlayedLemmas.{run_shown, through_shown, is_played, is_cut_off, done_then, cut_then, caused, folder_left, handed_folder, disk_counted, handed_counted, has_reported, has_reported_part, handed_limits, handed_bay, bay_asked, handed_disk, not_done, not_cut, limited, of_declared, bay_told, read_well, wrote_well, named_folder, folder_told, plays_on, not_flawed, not_untaken}
 use Rattle.alp_top.proofs.run.run_alpine.Goals as goal
 
 pub lines_of-requires : goal.lines_of-requires
@@ -45,6 +46,7 @@ returns-in-Ok-run_bay-clause-any_bay g c =
       limits = handed_limits c.hand_over.result _ c.hand_over.ensures.played;
       server = handed_disk c.hand_over.result _ c.hand_over.ensures.played;
       counted = handed_counted c.hand_over.result _ c.hand_over.ensures.played;
+      bay = handed_bay c.hand_over.result _ c.hand_over.ensures.played;
     }
 
 pub returns-in-Ok-run_bay-clause-folder : goal.returns-in-Ok-run_bay-clause-folder
@@ -57,9 +59,10 @@ returns-clause-any_bay g c =
     record {
       played = not_done c.ended_by.result c.in-Err.fault _ c.ended_by.ensures;
       cut_off = not_cut c.ended_by.result c.in-Err.fault _ c.ended_by.ensures;
-      limits = limited c.ended_by.result c.in-Err.fault c.ended_by.ensures;
+      limits = limited c.ended_by.result c.in-Err.fault _ _ _ c.in-Ok.command c.in-Ok.ensures.named lines script c.ended_by.ensures c.in-Err.ensures.ended;
       server = of_declared c.ended_by.result c.in-Err.fault _ _ _ c.in-Ok.command c.in-Ok.ensures.named lines script c.ended_by.ensures c.in-Err.ensures.counted;
       counted = disk_counted c.ended_by.result c.in-Err.fault _ _ _ c.in-Ok.command c.in-Ok.ensures.named lines script c.ended_by.ensures c.in-Err.ensures.counted;
+      bay = bay_asked c.ended_by.result c.in-Err.fault (HasPlay _ _ _) c.ended_by.ensures (record { command = c.in-Ok.command; named = c.in-Ok.ensures.named; lines = lines; script = script });
     }
 
 pub returns-clause-faults : goal.returns-clause-faults
