@@ -1,5 +1,5 @@
 -- a file that another server gave, or a later epoch, is in no journal of a server
-use Rattle.std.specs.Prelude.{cond, ◌==◌, ◌&&◌, nat_le, Bool, true, false, filter, flat_map, Option, None, Some, is_some}
+use Rattle.std.specs.Prelude.{cond, ◌==◌, ◌&&◌, nat_le, Bool, true, false, filter, Option, None, Some, is_some}
 use Rattle.std.specs.List.{AllByRecursion, list_all}
 use Rattle.std.specs.FinMap as map
 use Rattle.std.specs.Ordering.{eq_by_cmp}
@@ -14,8 +14,7 @@ use Rattle.alp_base.specs.declared.ids.FileId.{FileId}
 use Rattle.alp_base.specs.declared.ids.JoinNo.{JoinNo}
 use Rattle.alp_base.specs.declared.ids.Stamp.{Stamp}
 use Rattle.alp_base.specs.declared.ids.TransId.{TransId}
-use Rattle.alp_base.specs.declared.key.Key.{Key}
-use Rattle.alp_base.specs.declared.key.Key.TheVariants.{Leader, PageOf, OwnerOf}
+use Rattle.alp_base.specs.declared.key.Key.TheVariants.{Leader}
 use Rattle.alp_files.specs.Act.{Answer, id_in}
 use Rattle.alp_files.specs.Cells.{View}
 use Rattle.alp_files.specs.Edits.{Edit, Drop, Cut, Put, is_in_file, is_past, edit_at, edits_at, edits_map}
@@ -36,7 +35,7 @@ use Rattle.alp_journal.specs.declared.act.Act.TheVariants as act
 use Rattle.alp_journal.specs.declared.entry.Entry.{Entry}
 use Rattle.alp_journal.specs.declared.event.Event.{Event}
 use Rattle.alp_journal.specs.declared.event.Event.TheVariants as event
-use Rattle.alp_regain.specs.Named.{is_own, is_own_key, is_own_edit}
+use Rattle.alp_regain.specs.Named.{is_own_key, is_own_edit}
 use Rattle.alp_regain.specs.Together.{IsPartNote}
 use Rattle.alp_top.proofs.AwayEdits.{away_kept}
 

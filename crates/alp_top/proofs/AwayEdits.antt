@@ -23,8 +23,8 @@ use Rattle.alp_files.specs.declared.open.Open.{Open}
 use Rattle.alp_files.specs.declared.refusal.Refusal.TheVariants as refusal
 use Rattle.alp_files.specs.declared.refusal.ListName.TheVariants as lists
 use Rattle.alp_files.specs.Cells.{View, same_file, same_name, props_in, owner_in, page_in}
-use Rattle.alp_files.specs.Edits.{Edit, Drop, Cut, Put, after}
-use Rattle.alp_files.specs.Act.{Own, Answer, Look, Ask, Say, run, unless, refused, replied, no_answer, is_admin, is_over, quota_exceeded, charge_put, on_props, on_open, on_change, if_change, ask_pages, page_past, page_puts, mark_put, read_pages, write_pages, lock_pages, is_changing, close_file, delete_file, put_props, cut_file, grow_file, set_size, move_tests, move_file, write_props, read_owner, make_owner, set_quota, create_file, create_tests, created_file, is_new, owner_of, props_of, access_tests, opened, answer, id_in, open_at}
+use Rattle.alp_files.specs.Edits.{Edit, Drop, Put, after}
+use Rattle.alp_files.specs.Act.{Own, Answer, Look, Ask, Say, run, unless, refused, replied, no_answer, is_admin, is_over, quota_exceeded, charge_put, on_props, on_open, on_change, if_change, ask_pages, page_past, page_puts, mark_put, read_pages, write_pages, lock_pages, is_changing, close_file, delete_file, put_props, cut_file, grow_file, set_size, move_tests, move_file, write_props, make_owner, set_quota, create_file, create_tests, created_file, is_new, owner_of, props_of, access_tests, opened, answer, id_in, open_at}
 use Rattle.alp_files.proofs.BornLemmas.{props_leader}
 use Rattle.alp_files.proofs.EditLemmas.{after-append}
 

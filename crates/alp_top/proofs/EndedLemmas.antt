@@ -1,10 +1,8 @@
 -- how a run came to a limit, whatever its bay tells
-use Rattle.std.specs.Prelude.{Result, Err}
-use Rattle.std.proofs.Common.{inl, inr, ◌≡◌, ℕ, ◌+◌, ◌<◌, ◌≤◌, List, refl, sym, ◌∙◌, subst, arith}
+use Rattle.std.proofs.Common.{◌≡◌, ℕ, ◌+◌, ◌<◌, List, refl, ◌∙◌, arith}
 use Rattle.alp_base.specs.declared.faults.VaultFault.TheVariants as vault_fault
 use Rattle.alp_bay.specs.declared.bay.BayFault.{BayFault}
 use Rattle.alp_bay.specs.declared.bay.BayFault.TheVariants as bay_fault
-use Rattle.alp_cluster.specs.Fills.{OnEndBy}
 use Rattle.alp_cluster.specs.Runs.{HasEndedEarly}
 use Rattle.alp_cluster.specs.Stations.{course_of}
 use Rattle.alp_cluster.specs.declared.fault.RunFault.{RunFault}

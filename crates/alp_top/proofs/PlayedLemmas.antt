@@ -19,7 +19,7 @@ use Rattle.alp_vault.specs.declared.vault.Vault.{Ghosts as VaultGhosts}
 use Rattle.alp_words.specs.Words.{folder_named, IsNamedBy}
 use Rattle.alp_words.specs.declared.command.Command.{Command}
 use Rattle.alp_words.specs.declared.command.Command.TheVariants as command
-use Rattle.alp_top.specs.Anywhere.{IsPlayedThrough, HasReported, IsDeclared, HasPlay, IsLimitOf}
+use Rattle.alp_top.specs.Anywhere.{IsPlayedThrough, HasReported, IsDeclared, IsLimitOf}
 use Rattle.alp_top.specs.Commands.{AreToPlay, shows_lines}
 use Rattle.alp_top.specs.Ended.{IsEndTold}
 use Rattle.alp_top.specs.Headline.{IsRunOf, IsPromised, IsPlayed, IsCutOff}

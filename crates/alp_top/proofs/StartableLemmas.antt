@@ -3,8 +3,6 @@ use Rattle.std.proofs.Common.{inl, inr, ◌≡◌, ℕ, ◌+◌, ◌≤◌, List
 use Rattle.alp_base.specs.Notes.{Notes}
 use Rattle.alp_base.specs.declared.faults.Sizes.{Sizes}
 use Rattle.alp_base.specs.declared.faults.VaultFault.TheVariants as vault_fault
-use Rattle.alp_anchor.specs.Anchor.{Counts}
-use Rattle.alp_anchor.specs.declared.anchor.Anchor.{Anchor}
 use Rattle.alp_disk.specs.Disk.{Image}
 use Rattle.alp_fields.specs.ClockNote.{AreClockNotes}
 use Rattle.alp_files.specs.Cells.{Cells}

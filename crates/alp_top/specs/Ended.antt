@@ -1,5 +1,5 @@
 -- How a run came to a limit, whatever its bay tells.
-use Rattle.std.specs.Prelude.{◌≡◌, ◌⊎◌, ℕ, List, length}
+use Rattle.std.specs.Prelude.{◌≡◌, ◌⊎◌, List, length}
 use Rattle.alp_cluster.specs.Fills.{IsEndFor}
 use Rattle.alp_cluster.specs.Runs.{StopsInLine, StopsBehindLines}
 use Rattle.alp_cluster.specs.declared.fault.RunFault.{RunFault}
