@@ -89,6 +89,7 @@ module _ {V : Type 0} (G : Ghosts V) (lines : List NumberedLine) (f : RunFault) 
     sent = h.sent;
     stopped = h.next_was;
     ends = h.ends;
+    tells = told;
     right = seat_right;
     history = cut_history;
     alone = alone;

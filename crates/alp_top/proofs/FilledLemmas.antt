@@ -27,7 +27,7 @@ use Rattle.alp_vault.specs.Contents.{Contents}
 use Rattle.alp_vault.specs.Vault.{IsSameVault}
 use Rattle.alp_vault.specs.declared.vault.Vault.{Ghosts as VaultGhosts}
 use Rattle.alp_cluster.specs.Fills.{IsEndFor, IsFullFor, server_due}
-use Rattle.alp_cluster.specs.Runs.{HasEndedEarly}
+use Rattle.alp_cluster.specs.Runs.{StopNone, HasEndedEarly}
 use Rattle.alp_cluster.specs.Servers.{AreCalm, IsOn, StaysDown, AreCountedIn, state_of}
 use Rattle.alp_cluster.specs.Station.{standing, HasVault, seat_for, seat_of}
 use Rattle.alp_cluster.specs.Stations.{AreCalmSince, IsManned, IsUnchanged, EndsFor, EndsAt, course_of, opening_in, openings_of, servers_of}
@@ -97,6 +97,12 @@ module _ {V D T : Type 0} (G : VaultGhosts V) (g : Ghosts D) (tells : Bool) (tol
   pub one_seat : (n : ℕ) → IsSeat r n → IsOneOf (servers_said lines) n
   one_seat n here = record { first = here.first; last = (let high : n ≤ length r.seats = here.last in let count : length last.all.items ≡ servers_said lines = early.count in let all : length r.seats ≡ length last.all.items = many G last early.on in omega (arith, high, count, all)) }
 
+  -- how often the disk of each failed
+  counted_at : StopNone lines → (n : ℕ) (here : IsOneOf (servers_said lines) n) → AreCountedIn {T = T} n (Err f) (G.faults (at n here).at.node.kept.vault) (G.faults (at n here).at.vault)
+  counted_at none n here =
+      let x = (at n here).at in
+      subst (λ (m : ℕ). AreCountedIn {T = T} m (Err f) (G.faults x.node.kept.vault) (G.faults x.vault)) (x.begun.started.on.kept.number ∙ x.begun.started.number) (x.gone.counted none x.begun.started.idle.free)
+
   -- a server that stands as it stood
   module _ (n : ℕ) (here : IsOneOf (servers_said lines) n) (s : Station V) (there : slice_get last.all.items (n - 1) ≡ Some s) (m : IsManned G (length last.all.items) n s) (sits : seat_at r n ≡ seat_for G s.is_fused s.ranks.items (standing m.node)) where
     abbrev x : IsGoneAt {T = T} G g tells lines before after first left (Err f) n
@@ -119,8 +125,13 @@ module _ {V D T : Type 0} (G : VaultGhosts V) (g : Ghosts D) (tells : Bool) (tol
           (bare_as G g (sizes_said lines n) n (servers_said lines) x.node m.node x.vault x.taken x.given x.begun.started (x.begun.told told) m.keeps.on m.number_is opening still_tells one)
 
       -- what is left of it
-      pub still_left : IsLeftBy g lines r n x.taken x.given
-      still_left =
+      pub still_left : (StopNone lines → G.faults x.vault ≡ G.faults x.node.kept.vault) → IsLeftBy g lines r n x.taken x.given
+      still_left same_so =
+          let journal_is : (seat_at r n).journal ≡ m.node.journal = ap (λ (z : Seat). z.journal) sits in
+          let left_counted : IsUnstopped lines (seat_at r n).journal → G.faults x.vault ≡ G.faults x.node.kept.vault = λ h. elim h [
+            | inl none ↦ same_so none
+            | inr stopped_none ↦ ap G.faults vault_is ∙ (calm_at G first left calm n x.station x.left x.node (standing m.node) x.stood x.was x.stands still (subst AreCalm journal_is stopped_none)).1
+          ] in
           let same : IsSameVault G.tells G.volume G.server G.servers x.node.kept.vault x.vault = x.gone.same in
           let server_of : G.server x.vault ≡ n = same.number ∙ x.begun.started.on.kept.number ∙ x.begun.started.number in
           let servers_are : G.servers x.vault ≡ servers_said lines = same.of_all ∙ x.begun.started.on.kept.all ∙ x.begun.started.count in
@@ -143,6 +154,7 @@ module _ {V D T : Type 0} (G : VaultGhosts V) (g : Ghosts D) (tells : Bool) (tol
                       ((m.keeps.on.kept.durable still_tells).down c (subst (λ (v : V). G.may_leave v c) vault_is may_be)),
                 );
             read = x.back.read (vault_tells n here);
+            unfailed = λ h. x.back.faults ∙ left_counted h ∙ x.begun.started.faults;
           }
 
       -- its journal was full
@@ -195,6 +207,9 @@ module _ {V D T : Type 0} (G : VaultGhosts V) (g : Ghosts D) (tells : Bool) (tol
         let (y, now, m, sits) = seat_on G last early.on k seat in
         still_bare k here y now m sits (all_still (k - 1) y (at k here).at.left m.node now m.keeps.stands (at k here).at.stands) alone
 
+    same_full : StopNone lines → (n : ℕ) (here : IsOneOf (servers_said lines) n) → G.faults (at n here).at.vault ≡ G.faults (at n here).at.node.kept.vault
+    same_full none n here = subst (λ (q : RunFault). AreCountedIn {T = T} n (Err q) (G.faults (at n here).at.node.kept.vault) (G.faults (at n here).at.vault)) is (counted_at none n here)
+
     pub filled : IsFilledRun g lines (λ n here. (at n here).at.taken) (λ n here. (at n here).at.given)
     filled =
         let due : ℕ = server_due early.due in
@@ -211,7 +226,7 @@ module _ {V D T : Type 0} (G : VaultGhosts V) (g : Ghosts D) (tells : Bool) (tol
         record {
           last = r;
           short = subst (λ (q : RunFault). IsCutShort lines q r) is (cut_short G lines f left early all_told all_bare);
-          each = λ n here. (let (y, now, m, sits) = seat_on G last early.on n (seat_here n here) in still_left n here y now m sits (all_still (n - 1) y (at n here).at.left m.node now m.keeps.stands (at n here).at.stands));
+          each = λ n here. (let (y, now, m, sits) = seat_on G last early.on n (seat_here n here) in still_left n here y now m sits (all_still (n - 1) y (at n here).at.left m.node now m.keeps.stands (at n here).at.stands) (λ none. same_full none n here));
           server = i + 1;
           among = record { first = omega arith; last = omega (arith, less, many_is, count) };
           full = λ here.
@@ -366,6 +381,10 @@ module _ {V D T : Type 0} (G : VaultGhosts V) (g : Ghosts D) (tells : Bool) (tol
         let node_is : m.node ≡ e.node = one_node y.server m.node e.node m.keeps.stands (ap (λ (z : Station V). z.server) one ∙ e.stood) in
         e.ends.2 ∙ ap (λ (n : NodeState V). n.kept.server) (sym node_is) ∙ m.number_is
 
+    same_other : StopNone lines → (n : ℕ) (here : IsOneOf (servers_said lines) n) → (n ≡ server → ⊥) → G.faults (at n here).at.vault ≡ G.faults (at n here).at.node.kept.vault
+    same_other none n here other =
+        (subst (λ (q : RunFault). AreCountedIn {T = T} n (Err q) (G.faults (at n here).at.node.kept.vault) (G.faults (at n here).at.vault)) is (counted_at none n here)).1 (λ same. other (sym same))
+
     -- what is left of another one
     other_left : (n : ℕ) (here : IsOneOf (servers_said lines) n) → (n ≡ server → ⊥) → IsLeftBy g lines r n (at n here).at.taken (at n here).at.given
     other_left n here other =
@@ -373,7 +392,7 @@ module _ {V D T : Type 0} (G : VaultGhosts V) (g : Ghosts D) (tells : Bool) (tol
         let (y, now, m, sits) = seat_on G last early.on n (seat_here n here) in
         let x = (at n here).at in
         let left_is : x.left ≡ y = same_there (slice_get left.all.items (n - 1)) x.left y x.stands (elsewhere_now (n - 1) away ∙ now) in
-        still_left n here y now m sits (ap (λ (z : Station V). z.server) left_is ∙ m.keeps.stands)
+        still_left n here y now m sits (ap (λ (z : Station V). z.server) left_is ∙ m.keeps.stands) (λ none. same_other none n here other)
 
     pub over : IsUsedUpRun g lines server (λ n here. (at n here).at.taken) (λ n here. (at n here).at.given)
     over = record {

@@ -42,6 +42,7 @@ use Rattle.alp_top.specs.declared.fault.NoReport.{NoReport}
 use Rattle.alp_top.specs.declared.fault.NoReport.TheVariants as fault
 use Rattle.alp_top.proofs.BeginLemmas.{holds_by}
 use Rattle.alp_top.proofs.PairLemmas.{HasPair, paired_at, paired_many, same_there}
+use Rattle.alp_top.proofs.StoredLemmas.{started_as}
 
 -- ---- which server
 
@@ -127,6 +128,8 @@ module _ {V D : Type 0} (G : VaultGhosts V) (g : Ghosts D) (tells : Bool) (told 
       record {
         opening = start_in G m;
         notes = notes_in G m;
+        started = started_as G g (sizes_said lines n) n (servers_said lines) m m v d e b.started (b.told told) b.started.on b.started.number refl here;
+        sound = (b.started.on.kept.right here).opening;
         new = b.started.new (b.told told);
         found = b.started.found (b.told told);
         left = λ image may.
@@ -202,7 +205,7 @@ module _ {V D : Type 0} (G : VaultGhosts V) (g : Ghosts D) (tells : Bool) (told 
 
   -- where nothing was played it is whole
   whole_of : (n : ℕ) (d e : D) → IsUnplayed g lines n d e → IsLeftWhole g lines n d e
-  whole_of n d e u = record { opening = u.opening; notes = u.notes; new = u.new; found = u.found; left = λ image may. (let (c, holds, said) = u.left image may in (c, holds)); read = u.read }
+  whole_of n d e u = record { opening = u.opening; notes = u.notes; started = u.started; sound = u.sound; new = u.new; found = u.found; left = λ image may. (let (c, holds, said) = u.left image may in (c, holds)); read = u.read }
 
   below : (n s : ℕ) → IsOneOf k n → s ≡ k + 1 → n ≡ s → ⊥
   below n s here is same = (let high : n ≤ k = here.last in omega (arith, high, is, same))

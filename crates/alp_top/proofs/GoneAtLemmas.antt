@@ -37,6 +37,7 @@ use Rattle.alp_top.specs.declared.fault.NoReport.TheVariants as fault
 use Rattle.alp_top.proofs.BeginLemmas.{holds_by}
 use Rattle.alp_top.proofs.GivenLemmas.{one_vault, up_vault, station_at, stations_many}
 use Rattle.alp_top.proofs.PairLemmas.{HasPair, paired_at, same_there}
+use Rattle.alp_top.proofs.StoredLemmas.{started_as}
 
 -- ---- one server
 
@@ -258,9 +259,12 @@ module _ {V D : Type 0} (G : VaultGhosts V) (g : Ghosts D) (tells : Bool) (lines
         let number : G.server x.vault ≡ n = same.number ∙ x.begun.started.on.kept.number ∙ x.begun.started.number in
         let all : G.servers x.vault ≡ servers_said lines = same.of_all ∙ x.begun.started.on.kept.all ∙ x.begun.started.count in
         let volume : G.volume x.vault ≡ (start_in G x.node).sizes = same.sizes ∙ ap G.volume (sym x.begun.started.idle.opening) in
+        let tells_node : IsTrue (G.tells x.node.kept.vault) = subst IsTrue (sym x.begun.started.telling) (x.begun.told told) in
         record {
           opening = start_in G x.node;
           notes = notes_in G x.node;
+          started = started_as G g (sizes_said lines n) n (servers_said lines) x.node x.node x.vault x.taken x.given x.begun.started (x.begun.told told) x.begun.started.on x.begun.started.number refl tells_node;
+          sound = (x.begun.started.on.kept.right tells_node).opening;
           new = x.begun.started.new (x.begun.told told);
           found = x.begun.started.found (x.begun.told told);
           left = λ image may. (let (c, holds, may_be) = x.back.whole tells_v image may in (c, holds_by _ _ _ _ _ _ _ _ image c number all refl (ap (λ (z : Sizes). z.home) volume) holds));

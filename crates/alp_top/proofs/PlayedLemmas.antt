@@ -24,7 +24,7 @@ use Rattle.alp_top.specs.Commands.{AreToPlay, shows_lines}
 use Rattle.alp_top.specs.Ended.{IsEndTold}
 use Rattle.alp_top.specs.Headline.{IsRunOf, IsPromised, IsPlayed, IsCutOff}
 use Rattle.alp_top.specs.Logs.{Log}
-use Rattle.alp_top.specs.Statuses.{OnBayFault, OnTooLong, OnBadDisk, OnUntaken, OnFlaw, Kept, OnDone, OnWriteFault, OnCutShort, ended_by, folder_in, IsFolderTold, IsBayFaultTold, OnDiskFault, IsHandedOver, IsPlayedOrMemory, IsReadFaultTold, IsWriteFaultTold}
+use Rattle.alp_top.specs.Statuses.{OnBayFault, OnTooLong, OnBadDisk, OnUntaken, OnNoLines, Kept, OnDone, OnWriteFault, OnCutShort, ended_by, folder_in, IsFolderTold, IsBayFaultTold, OnDiskFault, IsHandedOver, IsPlayedOrMemory, IsReadFaultTold, IsWriteFaultTold}
 use Rattle.alp_top.specs.Volumes.{pages_of, HasRunCause, IsBayFault, IsFolderLeft, IsOfServers, IsStartable, StartsOn}
 use Rattle.alp_top.specs.declared.fault.NoReport.{NoReport}
 use Rattle.alp_top.specs.declared.fault.NoReport.TheVariants as fault
@@ -113,11 +113,11 @@ module _ {D : Type 0} {g : Ghosts D} where
       go (fault.NotAVolume server found) p = p
       go (fault.Damaged server place) p = p
 
-  -- nothing is wrong with the script then, and no limit is that of its lines
-  pub not_flawed : (s : Status D g) (f : NoReport) (P : ScriptFault → Type 0) → s ≡ ended_by f → OnFlaw s P
-  not_flawed s f P is = subst (λ (q : Status D g). OnFlaw q P) (sym is) (go f)
+  -- there were lines then, and no limit is that of a script
+  pub had_lines : (s : Status D g) (f : NoReport) (P : ScriptFault → Type 0) → s ≡ ended_by f → OnNoLines s P
+  had_lines s f P is = subst (λ (q : Status D g). OnNoLines q P) (sym is) (go f)
     where
-      go : (f : NoReport) → OnFlaw (ended_by {D = D} {g = g} f) P
+      go : (f : NoReport) → OnNoLines (ended_by {D = D} {g = g} f) P
       go fault.JournalFull = λ e. absurd (omega (arith, e))
       go (fault.EpochEnd server) = λ e. absurd (omega (arith, e))
       go f = tt

@@ -12,6 +12,7 @@ use Rattle.alp_disk.specs.declared.disk.Disk.{Ghosts}
 use Rattle.alp_history.specs.Log as logs
 use Rattle.alp_history.specs.RunLogs as runs
 use Rattle.alp_history.proofs.Promises.{promises}
+use Rattle.alp_history.proofs.Shared.{sharing}
 use Rattle.alp_journal.specs.Along.{state_after}
 use Rattle.alp_journal.specs.Moves.{next}
 use Rattle.alp_journal.specs.Opening.{Start}
@@ -248,6 +249,7 @@ module _ {V D U : Type 0} (G : VaultGhosts V) (g : Ghosts D) (tells : Bool) (tol
           serial = h.serial;
           charged = h.charged;
           whole = h.whole;
+          shared = sharing (log_of G log) (proper_log G lines last vs text printed log rests rises out kept shows is all_told sound);
           kept = promises (log_of G log) (proper_log G lines last vs text printed log rests rises out kept shows is all_told sound) (told_clients G lines last vs text printed log rests rises out kept shows is all_told);
           counted = counted_for G lines log (faithful G lines last vs text printed log rests rises out kept shows is all_told) sound (shown_as shows);
         };

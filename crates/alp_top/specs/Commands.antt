@@ -5,6 +5,7 @@ use Rattle.alp_script.specs.Reading.{GaveScript, GaveFlaw, GaveGoodLines, SaysSc
 use Rattle.alp_script.specs.declared.fault.ScriptFault.{ScriptFault}
 use Rattle.alp_script.specs.declared.fault.ScriptFault.TheVariants as flaw
 use Rattle.alp_script.specs.declared.numbered.NumberedLine.{NumberedLine}
+use Rattle.alp_words.specs.Words.{IsNamedBy}
 use Rattle.alp_words.specs.declared.command.Command.{Command}
 use Rattle.alp_words.specs.declared.command.Command.TheVariants as command
 use Rattle.alp_top.specs.Reports.{Shown, Played, Drilled}
@@ -19,12 +20,29 @@ abbrev pub HasLines : Command → Option (List ℕ) → Type 0
 HasLines (command.Play folder) has = SaysScript has
 HasLines (command.Drill seed size folder) has = Unit {0}
 
--- Why there are none: what the source gave has that flaw, or the source failed. A flaw is told only where there are no lines.
+-- its lines come from the source
+abbrev pub HasSource : Command → Type 0
+HasSource (command.Play folder) = Unit {0}
+HasSource (command.Drill seed size folder) = ⊥
+
+-- this holds where it is a drill
+abbrev pub OnDrill : Command → Type 0 → Type 0
+OnDrill (command.Play folder) P = Unit {0}
+OnDrill (command.Drill seed size folder) P = P
+
+-- Why there are none: what the source gave has that flaw, or the source failed. A flaw is told only where there are no lines. A drill has lines,
+-- and no source, so none of this comes of it: it may only want memory.
 abbrev pub HasNoLines : Command → (old new : Option (List ℕ)) → ScriptFault → Type 0
 HasNoLines c old new (flaw.Bad n) = GaveFlaw old new (flaw.Bad n) × (HasLines c old → ⊥)
 HasNoLines c old new flaw.TooLong = GaveFlaw old new flaw.TooLong × (HasLines c old → ⊥)
-HasNoLines c old new flaw.ReadFault = GaveGoodLines old new
+HasNoLines c old new flaw.ReadFault = GaveGoodLines old new × HasSource c
 HasNoLines c old new flaw.OutOfMemory = Unit {0}
+
+-- the words name a command that has no lines, for that reason
+pub record IsWithoutLines (words : List (List ℕ)) (old new : Option (List ℕ)) (f : ScriptFault) : Type 0 where
+  pub command : Command
+  pub named : IsNamedBy words command
+  pub none : HasNoLines command old new f
 
 -- whether a line for each line of a client stands before the summary: of `play` it does
 abbrev pub shows_lines : Command → Bool

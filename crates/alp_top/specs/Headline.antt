@@ -11,7 +11,7 @@ use Rattle.alp_journal.specs.Moves.{next}
 use Rattle.alp_journal.specs.State.{opened}
 use Rattle.alp_history.specs.Handed.{ArePromisesKept}
 use Rattle.alp_history.specs.Log as logs
-use Rattle.alp_history.specs.Theorems.{AreWhole, AreListed, DoAgreeOnEnds, IsSettled, EndsInCells}
+use Rattle.alp_history.specs.Theorems.{AreWhole, AreListed, AreShared, DoAgreeOnEnds, IsSettled, EndsInCells}
 use Rattle.alp_script.specs.Accepted.{servers_said}
 use Rattle.alp_script.specs.Volumes.{sizes_said}
 use Rattle.alp_script.specs.declared.numbered.NumberedLine.{NumberedLine}
@@ -103,6 +103,8 @@ pub record IsHistory {V : Type 0} (G : Ghosts V) (shown : Shown) (lines : List N
   pub serial : IsSerial (log_of G log)
   pub charged : IsCharged (log_of G log)
   pub whole : AreDecidedWhole (log_of G log)
+  -- each has one share at each of its servers, whose calls are just those that the server's entries performed for it
+  pub shared : AreShared (log_of G log)
   -- Each stamp that a client was told is of a decided transaction, but in replies that were kept for a number which a raw line sent first, and a
   -- decided transaction has a stamp above all that its client was told before it began.
   pub kept : ArePromisesKept (log_of G log)

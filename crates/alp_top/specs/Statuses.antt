@@ -80,15 +80,12 @@ module _ {D : Type 0} {g : Ghosts D} where
   OnBadWords status.BadWords P = P
   OnBadWords _ P = Unit {0}
 
-  -- what is wrong with the script, where that ended the run: a line, or that there are too many
-  abbrev pub OnFlaw : Status D g → (ScriptFault → Type 0) → Type 0
-  OnFlaw (status.BadScript line) P = P (flaw.Bad line)
-  OnFlaw (status.TooLong limit) P = limit ≡ SCRIPT_LINES_MOST → P flaw.TooLong
-  OnFlaw _ P = Unit {0}
-
-  abbrev pub OnReadFault : Status D g → Type 0 → Type 0
-  OnReadFault status.ReadFault P = P
-  OnReadFault _ P = Unit {0}
+  -- why there were no lines to play, where that ended the run: a line is bad, there are too many, or the source failed
+  abbrev pub OnNoLines : Status D g → (ScriptFault → Type 0) → Type 0
+  OnNoLines (status.BadScript line) P = P (flaw.Bad line)
+  OnNoLines (status.TooLong limit) P = limit ≡ SCRIPT_LINES_MOST → P flaw.TooLong
+  OnNoLines status.ReadFault P = P flaw.ReadFault
+  OnNoLines _ P = Unit {0}
 
   -- where no report was begun
   abbrev pub OnUnwritten : Status D g → Type 0 → Type 0

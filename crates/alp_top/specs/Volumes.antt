@@ -159,9 +159,9 @@ pub record IsRightAt (last : Course) (n : ℕ) : Type 0 where
   pub caused : Along next IsDone (opened (seat_at last n).opening) (seat_at last n).journal
 
 -- The run of these lines ended for that fault where its servers stood so: a line had more to send or to bring about, or the settling behind
--- the lines had (`stopped`). The journals are those of what occurred by then, each reply is the one that was handed, and they are lawful. Where
--- what the servers opened on is sound the decided transactions are one thread's history, each with all of its parts, and what the clients are
--- promised is kept. Of a server that runs alone it is.
+-- the lines had (`stopped`). The journals are those of what occurred by then, each reply is the one that was handed, and they are lawful. The
+-- vaults tell what they hold, so each settling found what was left. Where what the servers opened on is sound the decided transactions are one
+-- thread's history, each with all of its parts, and what the clients are promised is kept. Of a server that runs alone it is.
 pub record IsCutShort (lines : List NumberedLine) (f : RunFault) (last : Course) : Type 0 where
   pub first : Course
   pub begins : IsFirst first
@@ -173,13 +173,15 @@ pub record IsCutShort (lines : List NumberedLine) (f : RunFault) (last : Course)
   pub sent : sent_of happened ≡ sent_in turns
   pub stopped : StopsInLine (servers_said lines) lines turns happened due ⊎ StopsBehindLines (servers_said lines) lines turns happened due
   pub ends : IsEndFor f last due
+  pub tells : TellAll last
   pub right : (n : ℕ) → IsSeat last n → IsRightAt last n
   pub history : logs.AreSoundOpenings (log_of last (handed_of (λ k. own_in k turns)))
       → IsOneThread (log_of last (handed_of (λ k. own_in k turns))) × AreWhole (log_of last (handed_of (λ k. own_in k turns))) × ArePromisesKept (log_of last (handed_of (λ k. own_in k turns)))
   pub alone : servers_said lines ≡ 1 → logs.AreSoundOpenings (log_of last (handed_of (λ k. own_in k turns)))
 
 -- Where the servers stand so, this one was started on the disk, and what a crash leaves of the disk that is given back is what its journal
--- says; of a server that is down, it is that or what its last write makes of that.
+-- says; of a server that is down, it is that or what its last write makes of that. Where no line stops a disk, or no entry of the journal stopped the
+-- server, this one did not fail.
 pub record IsLeftBy {D : Type 0} (g : Ghosts D) (lines : List NumberedLine) (last : Course) (server : ℕ) (taken given : D) : Type 0 where
   pub notes : Notes
   pub started : (seat_at last server).opening ≡ start_at server (servers_said lines) (seat_at last server).opening.sizes (seat_at last server).opening.cells notes
@@ -190,6 +192,7 @@ pub record IsLeftBy {D : Type 0} (g : Ghosts D) (lines : List NumberedLine) (las
       → (c : Contents) × Holds server (servers_said lines) (g.size given) (seat_at last server).opening.sizes.home image c
       × (IsSaid (state_after next (opened (seat_at last server).opening) (seat_at last server).journal) c ⊎ IsSaidThen (state_after next (opened (seat_at last server).opening) (seat_at last server).journal) c)
   pub read : g.may_leave given (g.seen given)
+  pub unfailed : IsUnstopped lines (seat_at last server).journal → g.faults given ≡ g.faults taken
 
 -- The journal of the server that was started on the disk was full where another event was to come. The disk holds what the journal
 -- says.
@@ -242,11 +245,13 @@ WhyNotBegun g sizes server servers fault.OutOfMemory taken given = g.faults give
 WhyNotBegun g sizes server servers fault.JournalFull taken given = ⊥
 WhyNotBegun g sizes server servers fault.Bay taken given = ⊥
 
--- A server was started on this disk, and then nothing was played. The disk that is given back holds what it holds then, after a crash too,
--- and did not fail.
+-- A server was started on this disk, and then nothing was played. The disk that is given back holds what it holds then, after a crash too:
+-- the files and the notes that the server opened on. It did not fail.
 pub record IsUnplayed {D : Type 0} (g : Ghosts D) (lines : List NumberedLine) (server : ℕ) (taken given : D) : Type 0 where
   pub opening : Start
   pub notes : Notes
+  pub started : opening ≡ start_at server (servers_said lines) opening.sizes opening.cells notes
+  pub sound : IsSoundStart opening
   pub new : IsNew (sizes_said lines server) (g.size taken) (g.seen taken) → IsOpenedNew (sizes_said lines server) opening notes
   pub found : (IsNew (sizes_said lines server) (g.size taken) (g.seen taken) → ⊥) → IsOpenedOn server (servers_said lines) (g.size taken) (g.seen taken) opening notes
   pub left : (image : Image) → g.may_leave given image → (c : Contents) × Holds server (servers_said lines) (g.size given) opening.sizes.home image c × IsSaid (opened opening) c
@@ -262,6 +267,8 @@ pub record StopsAt {D : Type 0} (g : Ghosts D) (lines : List NumberedLine) (serv
 pub record IsLeftWhole {D : Type 0} (g : Ghosts D) (lines : List NumberedLine) (server : ℕ) (taken given : D) : Type 0 where
   pub opening : Start
   pub notes : Notes
+  pub started : opening ≡ start_at server (servers_said lines) opening.sizes opening.cells notes
+  pub sound : IsSoundStart opening
   pub new : IsNew (sizes_said lines server) (g.size taken) (g.seen taken) → IsOpenedNew (sizes_said lines server) opening notes
   pub found : (IsNew (sizes_said lines server) (g.size taken) (g.seen taken) → ⊥) → IsOpenedOn server (servers_said lines) (g.size taken) (g.seen taken) opening notes
   pub left : (image : Image) → g.may_leave given image → (c : Contents) × Holds server (servers_said lines) (g.size given) opening.sizes.home image c

@@ -1,15 +1,15 @@
 //! A whole run, from the words of the program to the bytes of the report and the disks that are given back.
-ghost use Rattle.std.specs.Prelude.{◌≡◌, ℕ, false, take, map, string_bytes, IfOk, IfErr};
+ghost use Rattle.std.specs.Prelude.{◌≡◌, ℕ, false, take, map, string_bytes, codes, Some, IfOk, IfErr};
 ghost use Rattle.std.specs.Io.KnownBytes.{Appends};
 ghost use Rattle.std.specs.Option.{option_map};
 ghost use Rattle.alp_base.specs.Causes.{Rose};
 ghost use Rattle.alp_script.specs.Accepted.{IsAccepted};
-ghost use Rattle.alp_script.specs.Reading.{GaveFlaw, GaveGoodLines, HasReadCause};
+ghost use Rattle.alp_script.specs.Reading.{HasReadCause};
 ghost use Rattle.alp_top.specs.Anywhere.{IsToldAnywhere};
-ghost use Rattle.alp_top.specs.Commands.{AreToPlay, HasNoLines, HasFewRounds, shows_lines};
+ghost use Rattle.alp_top.specs.Commands.{AreToPlay, HasNoLines, IsWithoutLines, HasFewRounds, OnDrill, shows_lines};
 ghost use Rattle.alp_top.specs.Headline.{IsPlayed, IsCutOff, HasCause, StartsHere, HasLinesFor};
-ghost use Rattle.alp_top.specs.Statuses.{AreWordsTold, IsTold, OnDone, OnBadWords, OnFlaw, OnReadFault, OnWriteFault, OnCutShort, OnUntaken, folder_in, IsReadFaultTold, IsWriteFaultTold, IsBayFaultTold, IsFolderTold, OnUnwritten, IsPlayedOrMemory, IsHandedOver};
-ghost use Rattle.alp_words.specs.Words.{are_bad, folder_named};
+ghost use Rattle.alp_top.specs.Statuses.{AreWordsTold, IsTold, OnDone, OnBadWords, OnNoLines, OnWriteFault, OnCutShort, OnUntaken, folder_in, IsReadFaultTold, IsWriteFaultTold, IsBayFaultTold, IsFolderTold, OnUnwritten, IsPlayedOrMemory, IsHandedOver};
+ghost use Rattle.alp_words.specs.Words.{are_bad, folder_named, name_named};
 
 use crate::bay::run_bay;
 use crate::finish::Ended;
@@ -65,6 +65,7 @@ fn lines_of<S: Source>(
     ensures accepted { IfOk result (λ lines. IsAccepted lines.items) }
     ensures none { IfErr result (HasNoLines command.now (S.left script.old) (S.left script.new)) }
     ensures cause { HasReadCause (S.faults script.old) (S.faults script.new) result }
+    ensures unread { OnDrill command.now (script.new ≡ script.old) }
 {
     accepted_lines();
     match command {
@@ -114,10 +115,11 @@ pub fn run_alpine<S: Source, K: Sink, B: Bay>(
     ensures cut_off { IsTold (map string_bytes words.now) (B.tells bay.new) → OnWriteFault result (IsCutOff ⟦<Store<Fuse<B::Device>> as Vault>⟧ B.Device.Disk (map string_bytes words.now) (S.left script.old) (S.left script.new) (K.written out.old) (K.written out.new) (B.at bay.old) (B.at bay.new)) }
     // The words are told bad just where the program's command line has no such words, and then nothing is read.
     ensures words { AreWordsTold (are_bad (map string_bytes words.now)) result × OnBadWords result (script.new ≡ script.old) }
-    // That line of what the source gave is the first outside the language, or the lines are too many.
-    ensures flaw { OnFlaw result (GaveFlaw (S.left script.old) (S.left script.new)) }
-    // A source that fails behind a line outside the language is not asked that far.
-    ensures good_lines { OnReadFault result (GaveGoodLines (S.left script.old) (S.left script.new)) }
+    // Of a script that line of what the source gave is the first outside the language, or the lines are too many, or the source failed, which is
+    // not asked so far behind a line outside the language. Of a drill none of this is told.
+    ensures no_lines { OnNoLines result (IsWithoutLines (map string_bytes words.now) (S.left script.old) (S.left script.new)) }
+    // A drill reads nothing.
+    ensures unread { name_named (map string_bytes words.now) ≡ Some (codes "drill") → script.new ≡ script.old }
     // A fault of a stream or of the bay is told just where it came in this call.
     ensures faults { IsReadFaultTold result (S.faults script.old) (S.faults script.new) × IsWriteFaultTold result (K.faults out.old) (K.faults out.new) × IsBayFaultTold result (B.faults bay.old) (B.faults bay.new) }
     // The bay or a disk ended the run: it failed in this call, or the disk is not one of its server's. Or memory was wanting.

@@ -8,7 +8,7 @@ use Rattle.alp_top.specs.Commands.{AreToPlay}
 use Rattle.alp_top.specs.Headline.{HasCause}
 use Rattle.alp_top.specs.Volumes.{IsFolderLeft}
 use Rattle.alp_top.proofs.CommandLemmas.{few_rounds}
-use Rattle.alp_top.proofs.PlayedLemmas.{run_shown, through_shown, is_played, is_cut_off, done_then, cut_then, caused, folder_left, handed_folder, disk_counted, handed_counted, has_reported, has_reported_part, handed_limits, handed_bay, bay_asked, handed_disk, not_done, not_cut, limited, of_declared, bay_told, read_well, wrote_well, named_folder, folder_told, plays_on, not_flawed, not_untaken}
+use Rattle.alp_top.proofs.PlayedLemmas.{run_shown, through_shown, is_played, is_cut_off, done_then, cut_then, caused, folder_left, handed_folder, disk_counted, handed_counted, has_reported, has_reported_part, handed_limits, handed_bay, bay_asked, handed_disk, not_done, not_cut, limited, of_declared, bay_told, read_well, wrote_well, named_folder, folder_told, plays_on, had_lines, not_untaken}
 use Rattle.alp_top.proofs.run.run_alpine.Goals as goal
 
 pub lines_of-requires : goal.lines_of-requires
@@ -87,8 +87,8 @@ returns-clause-complete g c good says source sink bay told starts =
     let asked = folder_told (λ name. name.now) c.folder_of.result _ _ (c.folder_of.ensures ∙ named_folder _ c.in-Ok.command c.in-Ok.ensures.named) told in
     plays_on lines _ _ (starts c.in-Ok.command c.in-Ok.ensures.named lines script) c.ended_by.result c.in-Err.fault _ _ c.ended_by.ensures (c.in-Err.ensures.cause asked) bay
 
-pub returns-clause-flaw : goal.returns-clause-flaw
-returns-clause-flaw g c = not_flawed c.ended_by.result c.in-Err.fault _ c.ended_by.ensures
+pub returns-clause-no_lines : goal.returns-clause-no_lines
+returns-clause-no_lines g c = had_lines c.ended_by.result c.in-Err.fault _ c.ended_by.ensures
 
 pub returns-clause-untaken : goal.returns-clause-untaken
 returns-clause-untaken g c = not_untaken c.ended_by.result c.in-Err.fault _ c.ended_by.ensures
