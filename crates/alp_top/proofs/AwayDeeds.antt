@@ -79,7 +79,7 @@ did_up s event.Force r acts deeds starts = deeds_up event.Force s (tried s (reco
 entry_up : (s : State) (e : Entry) → IsLawfulEntry s e → s.ids.epoch ≤ (next s e).ids.epoch
 entry_up s e h = elim (stops e) as (λ b. s.ids.epoch ≤ (cond b (halted s e) (told s e)).ids.epoch) [ true ↦ omega arith | false ↦ did_up s e.event e.reply e.acts h.deeds h.restart ]
 
-pub epoch_up : (s : State) (es : List Entry) → Along next IsLawfulEntry s es → s.ids.epoch ≤ (state_after next s es).ids.epoch
+epoch_up : (s : State) (es : List Entry) → Along next IsLawfulEntry s es → s.ids.epoch ≤ (state_after next s es).ids.epoch
 epoch_up s [] h = omega arith
 epoch_up s (e ∷ es) h = (let one : s.ids.epoch ≤ (next s e).ids.epoch = entry_up s e h.0 in let more : (next s e).ids.epoch ≤ (state_after next (next s e) es).ids.epoch = epoch_up (next s e) es h.1 in omega (arith, one, more))
 
@@ -226,7 +226,7 @@ module _ (away : FileId) (server last : ℕ) (other : away.server ≡ server →
       go true low = n
       go false low = did_away s e.event e.reply e.acts law.deeds law.restart low n
 
-  pub journal_away : (s : State) (es : List Entry) → Along next IsLawfulEntry s es → (state_after next s es).ids.epoch ≤ last → IsNowhere s.holder → IsNowhere (state_after next s es).holder
+  journal_away : (s : State) (es : List Entry) → Along next IsLawfulEntry s es → (state_after next s es).ids.epoch ≤ last → IsNowhere s.holder → IsNowhere (state_after next s es).holder
   journal_away s [] law low n = n
   journal_away s (e ∷ es) law low n =
       let up : (next s e).ids.epoch ≤ (state_after next (next s e) es).ids.epoch = epoch_up (next s e) es law.1 in
@@ -263,7 +263,7 @@ module _ (away : FileId) (server last : ℕ) (other : away.server ≡ server →
         go true is h rest = ap (edits_at es (Leader away)) (none_at e is) ∙ rest h
         go false is h rest = (let wrong : false ≡ true = h in cc)
 
-    pub noted_away : (ns : List ReadyNote) → AllByRecursion (IsPartNote server before) ns → (t : TransId) → IsAwayPart (lives_noted ns t)
+    noted_away : (ns : List ReadyNote) → AllByRecursion (IsPartNote server before) ns → (t : TransId) → IsAwayPart (lives_noted ns t)
     noted_away [] h t = tt
     noted_away (x ∷ xs) h t = elim (same_trans x.trans t) as (λ b. IsAwayPart (cond {A = Option Life} b (Some (early_life x)) (lives_noted xs t))) [ true ↦ none_put x.edits h.0.edited | false ↦ noted_away xs h.1 t ]
 
