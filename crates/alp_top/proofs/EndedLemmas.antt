@@ -15,7 +15,7 @@ use Rattle.alp_script.specs.Accepted.{servers_said}
 use Rattle.alp_script.specs.declared.numbered.NumberedLine.{NumberedLine}
 use Rattle.alp_vault.specs.declared.vault.Vault.{Ghosts as VaultGhosts}
 use Rattle.alp_top.specs.Disks.{IsOfServer}
-use Rattle.alp_top.specs.Ended.{IsEndedFor, IsEndTold}
+use Rattle.alp_top.specs.Limits.{IsEndedFor, IsEndTold}
 use Rattle.alp_top.specs.Faults.{of_bay, played}
 use Rattle.alp_top.specs.declared.fault.NoReport.{NoReport}
 use Rattle.alp_top.specs.declared.fault.NoReport.TheVariants as fault

@@ -21,7 +21,7 @@ use Rattle.alp_words.specs.declared.command.Command.{Command}
 use Rattle.alp_words.specs.declared.command.Command.TheVariants as command
 use Rattle.alp_top.specs.Anywhere.{IsPlayedThrough, HasReported, IsDeclared, IsLimitOf}
 use Rattle.alp_top.specs.Commands.{AreToPlay, shows_lines}
-use Rattle.alp_top.specs.Ended.{IsEndTold}
+use Rattle.alp_top.specs.Limits.{IsEndTold}
 use Rattle.alp_top.specs.Headline.{IsRunOf, IsPromised, IsPlayed, IsCutOff}
 use Rattle.alp_top.specs.Logs.{Log}
 use Rattle.alp_top.specs.Statuses.{OnBayFault, OnTooLong, OnBadDisk, OnUntaken, OnNoLines, Kept, OnDone, OnWriteFault, OnCutShort, ended_by, folder_in, IsFolderTold, IsBayFaultTold, OnDiskFault, IsHandedOver, IsPlayedOrMemory, IsReadFaultTold, IsWriteFaultTold}

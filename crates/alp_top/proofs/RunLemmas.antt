@@ -28,7 +28,7 @@ use Rattle.alp_cluster.proofs.GatherLemmas.{played_none}
 use Rattle.alp_cluster.proofs.GoneLemmas.{gone_memory}
 use Rattle.alp_top.specs.Anywhere.{IsPlayedThrough}
 use Rattle.alp_top.specs.Disks.{IsBegunAt, AreBegun, IsOfServer, HaveBegun, HaveBegunSome, AreHeld, AreLeftBy, IsAtRest, AreAtRest, AreClosed}
-use Rattle.alp_top.specs.Ended.{IsEndedFor, IsEndTold}
+use Rattle.alp_top.specs.Limits.{IsEndedFor, IsEndTold}
 use Rattle.alp_top.specs.Endings.{AreRestsOf, IsReportOf, shown_text}
 use Rattle.alp_top.specs.Faults.{of_bay, played}
 use Rattle.alp_top.specs.Headline.{IsRunOf}

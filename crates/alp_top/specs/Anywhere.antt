@@ -17,7 +17,7 @@ use Rattle.alp_vault.specs.declared.vault.Vault.{Ghosts}
 use Rattle.alp_words.specs.Words.{IsNamedBy}
 use Rattle.alp_words.specs.declared.command.Command.{Command}
 use Rattle.alp_top.specs.Commands.{AreToPlay, shows_lines, shown_as}
-use Rattle.alp_top.specs.Ended.{IsEndedFor}
+use Rattle.alp_top.specs.Limits.{IsEndedFor}
 use Rattle.alp_top.specs.Headline.{IsOfScript}
 use Rattle.alp_top.specs.Logs.{Log}
 use Rattle.alp_top.specs.Pairs.{AreMatched}

@@ -6,7 +6,7 @@ ghost use Rattle.alp_cluster.specs.Gathered.{AreGathered};
 ghost use Rattle.alp_script.specs.Accepted.{IsAccepted, servers_said};
 ghost use Rattle.alp_top.specs.Anywhere.{IsPlayedThrough};
 ghost use Rattle.alp_top.specs.Disks.{IsLong, IsToldOf, IsVaultTold, IsGivenAs, IsGivenAt, IsBegunHere, IsRefusedHere, HasAdded, HaveBegun, HaveBegunSome, AreHeld, AreLeftBy, IsAtRest, AreAtRest, IsElsewhere, IsClosedHere, GoesOn, IsStationPut, AreClosed};
-ghost use Rattle.alp_top.specs.Ended.{IsEndTold};
+ghost use Rattle.alp_top.specs.Limits.{IsEndTold};
 ghost use Rattle.alp_top.specs.Endings.{AreRestsOf};
 ghost use Rattle.alp_top.specs.Headline.{IsRunOf};
 ghost use Rattle.alp_top.specs.Volumes.{HasRunCause, IsBayTold, IsFolderChosen, IsOfServers, pages_of as pages_of_said};

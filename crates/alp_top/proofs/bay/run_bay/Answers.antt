@@ -7,7 +7,7 @@ use Rattle.alp_store.specs.contracts.store.StoreVault.TheImpl as store_vault
 use Rattle.alp_script.specs.Accepted.{servers_said}
 use Rattle.alp_top.specs.Disks.{HaveBegun, HaveBegunSome, AreClosed}
 use Rattle.alp_top.specs.Faults.{played}
-use Rattle.alp_top.specs.Ended.{IsEndTold}
+use Rattle.alp_top.specs.Limits.{IsEndTold}
 use Rattle.alp_top.specs.Endings.{shown_text}
 use Rattle.alp_top.specs.Headline.{IsRunOf}
 use Rattle.alp_top.specs.Volumes.{HasRunCause, IsOfServers, IsBayFault}
