@@ -1,7 +1,7 @@
 -- the lines of a command
 use Rattle.std.specs.Prelude.{IfOk, IfErr, Option, None, Some, Result, Ok, Err, Vec}
 use Rattle.std.specs.Global.{Global}
-use Rattle.std.proofs.Common.{inl, inr, ◌⊎◌, ◌≡◌, ℕ, List, [], ◌++◌, refl, sym, ◌∙◌, ap, append-nil}
+use Rattle.std.proofs.Common.{inl, inr, ◌⊎◌, ◌≡◌, ℕ, List, [], ◌++◌, refl, sym, ◌∙◌, ap, subst, append-nil}
 use Rattle.alp_script.specs.Accepted.{IsAccepted}
 use Rattle.alp_script.specs.Reading.{GaveScript, GaveFlaw, SaysScript, ReadsScript}
 use Rattle.alp_script.specs.Script.{script}
@@ -49,6 +49,13 @@ script_none folder old new (Err (flaw.Bad n)) h = (h, no_script old new (flaw.Ba
 script_none folder old new (Err flaw.TooLong) h = (h, no_script old new flaw.TooLong h)
 script_none folder old new (Err flaw.ReadFault) h = h
 script_none folder old new (Err flaw.OutOfMemory) h = tt
+
+-- the same of a command, where it is that of a script
+pub play_lines : (c : Command) (folder : _) (old new : Option (List ℕ)) (r : Result (Vec NumberedLine Global) ScriptFault) → c ≡ command.Play folder → ReadsScript old new r → IfOk r (λ v. AreToPlay c old new v.items)
+play_lines c folder old new r is h = subst (λ (d : Command). IfOk r (λ v. AreToPlay d old new v.items)) (sym is) (script_lines folder old new r h)
+
+pub play_none : (c : Command) (folder : _) (old new : Option (List ℕ)) (r : Result (Vec NumberedLine Global) ScriptFault) → c ≡ command.Play folder → ReadsScript old new r → IfErr r (HasNoLines c old new)
+play_none c folder old new r is h = subst (λ (d : Command). IfErr r (HasNoLines d old new)) (sym is) (script_none folder old new r h)
 
 -- a drill that words name has few rounds
 pub few_rounds : (words : List (List ℕ)) (c : Command) → IsNamedBy words c → HasFewRounds c
