@@ -216,4 +216,4 @@ module _ (Q : Held → Type 0) where
 
 pub released_here : (server epoch count : ℕ) (t : Table) (u : TransId) → ((v : TransId) → IsHeldHere server epoch count (holding t.held v)) → AllByRecursion (λ (w : Waiter). IsHeldHere server epoch count (map.get w.after)) t.waiting
     → (v : TransId) → IsHeldHere server epoch count (holding (released t u).held v)
-released_here server epoch count t u all new = released_each (λ (h : Held). IsHeldHere server epoch count (map.get h)) t u (none_here server epoch count (map.get map.empty) (λ r. get-empty {X = Mode} resource_cmp r)) all new
+released_here server epoch count t u all new = released_each (λ (h : Held). IsHeldHere server epoch count (map.get h)) t u (none_here server epoch count (map.get (map.empty {X = Mode} {R = resource_cmp})) (λ r. get-empty {X = Mode} resource_cmp r)) all new
