@@ -41,7 +41,7 @@ come_to old new w long is = subst (λ (s : Sessions). HasComeTo w.last (session_
 
 -- each call of the client's session is served
 pub call_served : (here number : ℕ) (c : Call) → IsTurnCall c → IsServed (event.Call 1 here number c)
-call_served here number c own = (omega arith, turn_askable c own)
+call_served here number c own = (omega arith, omega arith, turn_askable c own)
 
 -- and in its turn it is the next one there
 pub next_asked : {V : Type 0} (n : NodeState V) (here last seen : ℕ) (c : Call) → KnowsSession here last seen n → IsTurnCall c → order_in n.kept (event.Call 1 here (last + 1) c) ≡ Some order.Next

@@ -19,7 +19,7 @@ use Rattle.alp_course.proofs.WordLemmas.{brings_append}
 use Rattle.alp_cluster.specs.Come.{Come}
 use Rattle.alp_cluster.specs.Messages.{IfOr, taking_at, AreApart, HasArrived, HasNoRoomFor, DidSay}
 use Rattle.alp_cluster.specs.Station.{seat_of}
-use Rattle.alp_cluster.specs.Stations.{AreOn, IsOneOf, AreLater, IsReachedBy, IsUnchanged, Go, Did, DidSome, course_of, openings_of, opening_in, state_for, servers_of}
+use Rattle.alp_cluster.specs.Stations.{AreOn, IsOneOf, AreLater, IsReachedBy, IsUnchanged, Go, Did, DidSome, IsCalmSince, course_of, openings_of, opening_in, server_in, state_for, servers_of}
 use Rattle.alp_cluster.specs.declared.fault.RunFault.{RunFault}
 use Rattle.alp_cluster.specs.declared.fault.RunFault.TheVariants as fault
 use Rattle.alp_cluster.specs.declared.station.Station.{Station}
@@ -37,6 +37,7 @@ module _ {V : Type 0} (G : Ghosts V) where
     on = on;
     openings = ap (λ (v : Vec (Station V) Global). list_map (λ (x : Station V). opening_in x.server) v.items) all;
     reached = λ n k x h. subst (λ (v : Vec (Station V) Global). IsReachedBy (state_for (slice_get v.items (n - 1))) k x) (sym all) h;
+    calm = λ n. subst (λ (v : Vec (Station V) Global). IsCalmSince G (server_in (slice_get a.all.items (n - 1))) (server_in (slice_get v.items (n - 1)))) (sym all) (λ calm. (calm, refl));
   }
 
   pub count_later : (a b : Stations V) → AreLater G a b → length b.all.items ≡ length a.all.items

@@ -80,7 +80,7 @@ module _ {V : Type 0} (old new : ServerState V) (client epoch number : ℕ) (c :
 
 -- by an event that is served
 pub change : {V : Type 0} (old new : ServerState V) (e : Event) (r : Option Reply) → IsServed e → new.clock ≤ 2 ^ 62 → HasTurned (order_in old e) old new e r → Change old new r
-change old new (event.Call client epoch number c) r served low turned = change_by old new client epoch number c r served.0 low (order_of old.epoch epoch number c (session_at old.sessions client)) refl turned
+change old new (event.Call client epoch number c) r served low turned = change_by old new client epoch number c r served.1 low (order_of old.epoch epoch number c (session_at old.sessions client)) refl turned
 change old new (event.Timeout t) r served low turned = still turned.sessions
 change old new event.Tick r served low turned = still turned.sessions
 change old new event.Force r served low turned = still turned.sessions

@@ -12,7 +12,7 @@ use Rattle.alp_cluster.specs.Come.{Come}
 use Rattle.alp_cluster.specs.Messages.{DidSay}
 use Rattle.alp_cluster.specs.Servers.{HasGoneBy}
 use Rattle.alp_cluster.specs.Station.{standing, HasVault}
-use Rattle.alp_cluster.specs.Stations.{AreOn, AreLater, Passes, Crashes, Go, Did, DidSome, EndsFor, IsManned, IsOfRun, LeavesOf, HaveGone, course_of, openings_of, state_at, IsReachedBy}
+use Rattle.alp_cluster.specs.Stations.{AreOn, AreLater, Passes, Crashes, Go, Did, DidSome, EndsFor, IsManned, IsOfRun, LeavesOf, HaveGone, AreCalmSince, course_of, openings_of, state_at, IsReachedBy}
 use Rattle.alp_cluster.specs.declared.fault.RunFault.{RunFault}
 use Rattle.alp_cluster.specs.declared.fault.RunFault.TheVariants as fault
 use Rattle.alp_cluster.specs.declared.server.Server.{Server}
@@ -23,11 +23,17 @@ use Rattle.alp_cluster.proofs.GoneLemmas.{gone_nothing, gone_then, gone_ok, gone
 module _ {V : Type 0} (G : Ghosts V) where
   -- ---- how the servers go on
 
+  pub calm_none : (s : Stations V) → AreCalmSince G s s
+  calm_none s n calm = (calm, refl)
+
+  pub calm_both : (a b c : Stations V) → AreCalmSince G a b → AreCalmSince G b c → AreCalmSince G a c
+  calm_both a b c h k n calm = (let late = k n calm in let early = h n late.0 in (early.0, late.1 ∙ early.1))
+
   pub later_none : (s : Stations V) → AreOn G s → AreLater G s s
-  later_none s on = record { on = on; openings = refl; reached = λ n k a h. h }
+  later_none s on = record { on = on; openings = refl; reached = λ n k a h. h; calm = calm_none s }
 
   pub later_then : (a b c : Stations V) → AreLater G a b → AreLater G b c → AreLater G a c
-  later_then a b c h k = record { on = k.on; openings = k.openings ∙ h.openings; reached = λ n j x old. k.reached n j x (h.reached n j x old) }
+  later_then a b c h k = record { on = k.on; openings = k.openings ∙ h.openings; reached = λ n j x old. k.reached n j x (h.reached n j x old); calm = calm_both a b c h.calm k.calm }
 
   pub passes_append : (hs js : List Occurrence) (a b c : Stations V) → Passes G a hs b → Passes G b js c → Passes G a (hs ++ js) c
   passes_append [] js a b c h k = subst (λ (z : Stations V). Passes G z js c) h k

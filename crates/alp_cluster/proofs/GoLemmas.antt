@@ -14,15 +14,21 @@ use Rattle.alp_node.specs.Served.{IsServed}
 use Rattle.alp_vault.specs.declared.vault.Vault.{Ghosts}
 use Rattle.alp_cluster.specs.Goes.{IsLater, GoesBy}
 use Rattle.alp_course.specs.Happens.{stand_after, IsEntryOf, IsNone, ComesTo}
-use Rattle.alp_cluster.specs.Servers.{IsOn, IsFree, stand_of, Steps, HasComeTo}
+use Rattle.alp_cluster.specs.Servers.{IsOn, IsFree, AreCalm, stand_of, Steps, HasComeTo}
 use Rattle.alp_cluster.proofs.DeskLemmas.{change, reached_on}
 use Rattle.alp_cluster.proofs.StepLemmas.{state_more}
+
+-- ---- entries that stop nothing
+
+pub calm_parts : (xs ys : List Entry) → AreCalm (xs ++ ys) → AreCalm xs × AreCalm ys
+calm_parts [] ys h = (tt, h)
+calm_parts (x ∷ xs) ys h = (let (front, back) = calm_parts xs ys h.1 in ((h.0, front), back))
 
 -- ---- a server that is later
 
 module _ {V : Type 0} (G : Ghosts V) where
   pub later_same : (n : NodeState V) → IsOn G n → IsLater G n n
-  later_same n on = record { on = on; number = refl; count = refl; opening = refl; start = refl; telling = refl; reached = λ k a h. h }
+  later_same n on = record { on = on; number = refl; count = refl; opening = refl; start = refl; telling = refl; reached = λ k a h. h; calm = λ calm. (calm, refl) }
 
   pub later_then : (n m z : NodeState V) → IsLater G n m → IsLater G m z → IsLater G n z
   later_then n m z h k = record {
@@ -33,6 +39,7 @@ module _ {V : Type 0} (G : Ghosts V) where
     start = k.start ∙ h.start;
     telling = k.telling ∙ h.telling;
     reached = λ j a old. k.reached j a (h.reached j a old);
+    calm = λ calm. (let late = k.calm calm in let early = h.calm late.0 in (early.0, late.1 ∙ early.1));
   }
 
   -- ---- one step
@@ -87,6 +94,7 @@ module _ {V : Type 0} (G : Ghosts V) where
               start = h.start;
               telling = h.telling;
               reached = reached_on n.kept m.kept r on.kept.ready.places h.epoch up (λ goes. change n.kept m.kept x r served h.on.kept.ready.clock (h.turned goes));
+              calm = λ calm. (let parts = calm_parts n.journal (e ∷ []) (subst AreCalm h.journal calm) in (parts.0, h.counted (h.down ∙ parts.1.0)));
             };
             free = λ f free is. h.free (free is);
             entries = e ∷ [];

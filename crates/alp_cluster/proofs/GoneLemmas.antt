@@ -65,15 +65,15 @@ failure_among N M here a b (Err fault.OutOfMemory) make h = tt
 failure_among N M here a b (Err fault.JournalFull) make h = tt
 failure_among N M here a b (Err (fault.Start server f)) make h = (make server h.0, h.1)
 
-told_of : (T U : Type 0) (servers here : ℕ) (f : RunFault) → IsToldFault {T = T} servers here (Err f) → IsToldFault {T = U} servers here (Err f)
-told_of T U servers here (fault.DiskFault server) h = tt
-told_of T U servers here fault.OutOfMemory h = tt
-told_of T U servers here fault.JournalFull h = tt
-told_of T U servers here (fault.Start server f) h = h
+told_of : (T U : Type 0) (here : ℕ) (f : RunFault) → IsToldFault {T = T} here (Err f) → IsToldFault {T = U} here (Err f)
+told_of T U here (fault.DiskFault server) h = tt
+told_of T U here fault.OutOfMemory h = tt
+told_of T U here fault.JournalFull h = tt
+told_of T U here (fault.Start server f) h = h
 
 module _ {V : Type 0} (G : Ghosts V) (N : ℕ → Type 0) where
   -- nothing was done
-  pub gone_nothing : {T : Type 0} (P : Type 0) (v : V) (r : Result T RunFault) → IsFailure N (G.server v) r (G.faults v) (G.faults v) → IsToldFault (G.servers v) (G.server v) r → AreCountedIn (G.server v) r (G.faults v) (G.faults v) → HasGoneBy G N P v v r
+  pub gone_nothing : {T : Type 0} (P : Type 0) (v : V) (r : Result T RunFault) → IsFailure N (G.server v) r (G.faults v) (G.faults v) → IsToldFault (G.server v) r → AreCountedIn (G.server v) r (G.faults v) (G.faults v) → HasGoneBy G N P v v r
   gone_nothing P v r failed told counted = record { same = record { telling = refl; sizes = refl; number = refl; of_all = refl }; later = omega arith; failed = failed; told = λ e. told; free = λ p e. e; counted = λ p e. counted }
 
   -- one call went well, and then the next came to this
@@ -82,7 +82,7 @@ module _ {V : Type 0} (G : Ghosts V) (N : ℕ → Type 0) where
     same = record { telling = k.same.telling ∙ h.same.telling; sizes = k.same.sizes ∙ h.same.sizes; number = k.same.number ∙ h.same.number; of_all = k.same.of_all ∙ h.same.of_all };
     later = omega (arith, h.later, k.later);
     failed = failure_since N (G.server u) (G.faults u) (G.faults v) (G.faults w) r h.later (subst (λ (n : ℕ). IsFailure N n r (G.faults v) (G.faults w)) h.same.number k.failed);
-    told = λ e. subst (λ (n : ℕ). IsToldFault (G.servers u) n r) h.same.number (subst (λ (n : ℕ). IsToldFault n (G.server v) r) h.same.of_all (k.told (subst IsTrue (sym h.same.telling) e)));
+    told = λ e. subst (λ (n : ℕ). IsToldFault n r) h.same.number (k.told (subst IsTrue (sym h.same.telling) e));
     free = λ p e. k.free (second p) (h.free (first p) e);
     counted = λ p e. subst (λ (n : ℕ). AreCountedIn (G.server u) r n (G.faults w)) (h.counted (first p) e) (subst (λ (n : ℕ). AreCountedIn n r (G.faults v) (G.faults w)) h.same.number (k.counted (second p) (h.free (first p) e)));
   }
@@ -92,7 +92,7 @@ module _ {V : Type 0} (G : Ghosts V) (N : ℕ → Type 0) where
 
   -- a call came to this, and what is made of it is no other fault
   pub gone_err : {T U : Type 0} (P : Type 0) (u v : V) (f : RunFault) → HasGoneBy {T = T} G N P u v (Err f) → HasGoneBy {T = U} G N P u v (Err f)
-  gone_err {T = T} {U = U} P u v f h = record { same = h.same; later = h.later; failed = failure_of T U N (G.server u) (G.faults u) (G.faults v) f h.failed; told = λ e. told_of T U (G.servers u) (G.server u) f (h.told e); free = h.free; counted = h.counted }
+  gone_err {T = T} {U = U} P u v f h = record { same = h.same; later = h.later; failed = failure_of T U N (G.server u) (G.faults u) (G.faults v) f h.failed; told = λ e. told_of T U (G.server u) f (h.told e); free = h.free; counted = h.counted }
 
   pub gone_ok : {T U : Type 0} (P : Type 0) (u v : V) (x : T) (y : U) → HasGoneBy {T = T} G N P u v (Ok x) → HasGoneBy {T = U} G N P u v (Ok y)
   gone_ok P u v x y h = record { same = h.same; later = h.later; failed = tt; told = λ e. tt; free = h.free; counted = h.counted }
@@ -119,7 +119,7 @@ gone_among G N M P u v r make h = record { same = h.same; later = h.later; faile
 -- ---- of one server alone
 
 module _ {V : Type 0} (G : Ghosts V) where
-  pub one_nothing : {T : Type 0} (P : Type 0) (v : V) (r : Result T RunFault) → IsFailure (λ m. m ≡ G.server v) (G.server v) r (G.faults v) (G.faults v) → IsToldFault (G.servers v) (G.server v) r → AreCountedIn (G.server v) r (G.faults v) (G.faults v) → HasGone G P v v r
+  pub one_nothing : {T : Type 0} (P : Type 0) (v : V) (r : Result T RunFault) → IsFailure (λ m. m ≡ G.server v) (G.server v) r (G.faults v) (G.faults v) → IsToldFault (G.server v) r → AreCountedIn (G.server v) r (G.faults v) (G.faults v) → HasGone G P v v r
   one_nothing P v r failed told counted = gone_nothing G (λ m. m ≡ G.server v) P v r failed told counted
 
   pub one_ok : {T U : Type 0} (P : Type 0) (u v : V) (x : T) (y : U) → HasGone {T = T} G P u v (Ok x) → HasGone {T = U} G P u v (Ok y)

@@ -70,7 +70,7 @@ hears_of {V = V} G n m q r on served = go n.kept.is_down refl
           times = down_times r h.reply;
           epoch = ap (λ (k : ServerState V). k.epoch) same;
           places = on.kept.ready.places;
-          small = served.0;
+          small = served.1;
           raised = on.kept.ready.raised;
           kept = on.replies;
           turned = λ up goes. (let wrong : true ≡ false = sym down ∙ up in cc);
@@ -82,7 +82,7 @@ hears_of {V = V} G n m q r on served = go n.kept.is_down refl
       times = by_down m.kept.is_down refl;
       epoch = h.epoch;
       places = on.kept.ready.places;
-      small = served.0;
+      small = served.1;
       raised = on.kept.ready.raised;
       kept = on.replies;
       turned = λ _ goes. h.turned goes;

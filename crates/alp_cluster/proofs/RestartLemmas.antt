@@ -27,10 +27,10 @@ use Rattle.alp_node.proofs.StartLemmas.{no_session}
 use Rattle.alp_cluster.specs.Come.{Come, IsReached}
 use Rattle.alp_cluster.specs.Goes.{IsLater, GoesBy}
 use Rattle.alp_course.specs.Happens.{Happening, restarted, stop_set, lifts, Happens}
-use Rattle.alp_cluster.specs.Servers.{IsOn, IsFree, IsDone, AreKept, stand_of, state_of, HasGone, AreCounted, HasStopSet, IsLifted, StartsAgain, StaysDown, IsFailureAt, IsOfVolumeAt, AreCountedFor}
+use Rattle.alp_cluster.specs.Servers.{IsOn, IsFree, IsDone, AreCalm, AreKept, stand_of, state_of, HasGone, AreCounted, HasStopSet, IsLifted, StartsAgain, StaysDown, IsFailureAt, IsOfVolumeAt, AreCountedFor}
 use Rattle.alp_cluster.specs.declared.fault.RunFault.TheVariants as fault
 use Rattle.alp_cluster.proofs.CalmLemmas.{calm_restart}
-use Rattle.alp_cluster.proofs.GoLemmas.{later_same}
+use Rattle.alp_cluster.proofs.GoLemmas.{later_same, calm_parts}
 use Rattle.alp_cluster.proofs.StepLemmas.{state_more, law_more, along_more}
 
 -- ---- it starts again
@@ -90,14 +90,23 @@ module _ {V : Type 0} (G : Ghosts V) (pick : ℕ) (n m : NodeState V) (again : S
   still_reached k a (inl before) = inl (omega (arith, before, next_epoch))
   still_reached k a (inr now) = (let same : a.epoch ≡ n.kept.epoch = now.0 in inl (omega (arith, same, next_epoch)))
 
-  pub again_later : IsLater G n m
-  again_later = record { on = again.on; number = again.starts.server ∙ again.falls.server; count = again.starts.servers ∙ again.falls.servers; opening = again.opening; start = again.start; telling = again.starts.same.telling ∙ again.falls.same.telling; reached = still_reached }
-
   abbrev entry_then : Entry
   entry_then = entry_again (record { epoch = m.kept.epoch; clock = m.kept.clock }) again.starts.joins again.starts.stamps
 
   journal_then : m.journal ≡ n.journal ++ entry_then ∷ []
   journal_then = again.starts.journal ∙ ap (λ (es : List Entry). es ++ entry_then ∷ []) again.falls.journal
+
+  pub again_later : IsLater G n m
+  again_later = record {
+    on = again.on;
+    number = again.starts.server ∙ again.falls.server;
+    count = again.starts.servers ∙ again.falls.servers;
+    opening = again.opening;
+    start = again.start;
+    telling = again.starts.same.telling ∙ again.falls.same.telling;
+    reached = still_reached;
+    calm = λ calm. ((calm_parts n.journal (entry_then ∷ []) (subst AreCalm journal_then calm)).0, again.starts.faults ∙ again.falls.faults);
+  }
 
   pub again_goes : (f tells : Bool) → GoesBy G f false (λ w es v. Happens tells w (restarted pick) es v) n m
   again_goes f tells = record {
@@ -161,12 +170,12 @@ module _ {V : Type 0} (G : Ghosts V) (pick : ℕ) (n : NodeState V) (on : IsOn G
   failed_for (vault_fault.Damaged place) h = tt
 
   -- it tells what it holds
-  of_volume : (servers : ℕ) (f : VaultFault) → IsOfVolume f → IsOfVolumeAt servers (start_fault.Vault f)
-  of_volume servers vault_fault.Failed h = tt
-  of_volume servers vault_fault.Stopped h = tt
-  of_volume servers vault_fault.OutOfMemory h = tt
-  of_volume servers (vault_fault.NotAVolume found) h = absurd h
-  of_volume servers (vault_fault.Damaged place) h = absurd h
+  of_volume : (f : VaultFault) → IsOfVolume f → IsOfVolumeAt (start_fault.Vault f)
+  of_volume vault_fault.Failed h = tt
+  of_volume vault_fault.Stopped h = tt
+  of_volume vault_fault.OutOfMemory h = tt
+  of_volume (vault_fault.NotAVolume found) h = absurd h
+  of_volume (vault_fault.Damaged place) h = absurd h
 
   fallen_told : (f : StartFault) → (h : StaysDown G pick n e f) → IsTrue (G.tells n.kept.vault) → IsTrue (G.tells h.fallen.vault)
   fallen_told f h told = subst IsTrue (sym h.falls.same.telling) told
@@ -183,7 +192,7 @@ module _ {V : Type 0} (G : Ghosts V) (pick : ℕ) (n : NodeState V) (on : IsOn G
         same = all_same (start_fault.Vault f) h;
         later = omega (arith, still, up);
         failed = (sym on.kept.number, λ here. failed_for f h);
-        told = λ tells here. of_volume (G.servers n.kept.vault) f (h.stays.cause.1 (fallen_told (start_fault.Vault f) h tells));
+        told = λ tells here. of_volume f (h.stays.cause.1 (fallen_told (start_fault.Vault f) h tells));
         free = λ p k. h.free;
         counted = λ p k. ((λ here. counted_for f h.fallen h.falls.faults h.stays.cause), (λ away. absurd (away (sym on.kept.number))));
       }
@@ -193,7 +202,7 @@ module _ {V : Type 0} (G : Ghosts V) (pick : ℕ) (n : NodeState V) (on : IsOn G
         same = all_same start_fault.BadNote h;
         later = omega (arith, counted);
         failed = (sym on.kept.number, λ here. tt);
-        told = λ tells here one. h.stays.sound (h.stays.servers ∙ h.falls.servers ∙ sym on.kept.all ∙ one) (fallen_told start_fault.BadNote h tells) refl;
+        told = λ tells here. h.stays.sound (fallen_told start_fault.BadNote h tells) refl;
         free = λ p k. h.free;
         counted = λ p k. ((λ here. counted), (λ away. counted));
       }
@@ -210,7 +219,7 @@ module _ {V : Type 0} (G : Ghosts V) (pick : ℕ) (n : NodeState V) (on : IsOn G
 
 -- ---- another vault, and all else as it was
 
-module _ {V : Type 0} (G : Ghosts V) (n m : NodeState V) (on : IsOn G n) (kept : IsConsistent G m) (same : IsSameVault G.tells G.volume G.server G.servers n.kept.vault m.kept.vault) (rest : m ≡ record n { kept = record n.kept { vault = m.kept.vault } }) where
+module _ {V : Type 0} (G : Ghosts V) (n m : NodeState V) (on : IsOn G n) (kept : IsConsistent G m) (same : IsSameVault G.tells G.volume G.server G.servers n.kept.vault m.kept.vault) (rest : m ≡ record n { kept = record n.kept { vault = m.kept.vault } }) (faults : G.faults m.kept.vault ≡ G.faults n.kept.vault) where
   same_start : start_in G m ≡ start_in G n
   same_start = ap (start_in G) rest
 
@@ -237,6 +246,7 @@ module _ {V : Type 0} (G : Ghosts V) (n m : NodeState V) (on : IsOn G n) (kept :
     start = same_start;
     telling = same.telling;
     reached = λ k a h. subst (λ (z : NodeState V). IsReached z.kept k a) (sym rest) h;
+    calm = λ calm. (subst AreCalm same_journal calm, faults);
   }
 
   put_journal : m.journal ≡ n.journal ++ []
@@ -260,10 +270,10 @@ module _ {V : Type 0} (G : Ghosts V) (n m : NodeState V) (on : IsOn G n) (kept :
 
 module _ {V : Type 0} (G : Ghosts V) (n m : NodeState V) (on : IsOn G n) (lifted : IsLifted G n m) where
   pub lifted_on : IsOn G m
-  lifted_on = put_on G n m on lifted.kept lifted.same lifted.rest
+  lifted_on = put_on G n m on lifted.kept lifted.same lifted.rest lifted.faults
 
   pub lifted_goes : (f tells : Bool) → GoesBy G f false (λ w es v. Happens tells w (lifts n.kept.is_down) es v) n m
-  lifted_goes f tells = put_goes G n m on lifted.kept lifted.same lifted.rest f false tells (lifts n.kept.is_down) (λ e. lifted.free) (refl, refl, put_stand G n m on lifted.kept lifted.same lifted.rest f false)
+  lifted_goes f tells = put_goes G n m on lifted.kept lifted.same lifted.rest lifted.faults f false tells (lifts n.kept.is_down) (λ e. lifted.free) (refl, refl, put_stand G n m on lifted.kept lifted.same lifted.rest lifted.faults f false)
 
   pub lifted_down : m.kept.is_down ≡ n.kept.is_down
   lifted_down = ap (λ (z : NodeState V). z.kept.is_down) lifted.rest
@@ -280,7 +290,7 @@ module _ {V : Type 0} (G : Ghosts V) (calls : ℕ) (n m : NodeState V) (on : IsO
   free_then f false up free = λ is. cc
 
   pub stop_goes : (f tells : Bool) → IsFree G f n → GoesBy G f (cond n.kept.is_down f true) (λ w es v. Happens tells w (stop_set calls) es v) n m
-  stop_goes f tells free = put_goes G n m on set.kept set.same set.rest f (cond n.kept.is_down f true) tells (stop_set calls) (free_then f n.kept.is_down refl free) (refl, put_stand G n m on set.kept set.same set.rest f (cond n.kept.is_down f true))
+  stop_goes f tells free = put_goes G n m on set.kept set.same set.rest set.faults f (cond n.kept.is_down f true) tells (stop_set calls) (free_then f n.kept.is_down refl free) (refl, put_stand G n m on set.kept set.same set.rest set.faults f (cond n.kept.is_down f true))
 
   -- of the count of faults nothing is said then, where it may be stopped
   pub stop_gone : {T : Type 0} (P : Type 0) (x : T) → (P → ⊥) → HasGone {T = T} G P n.kept.vault m.kept.vault (Ok x)

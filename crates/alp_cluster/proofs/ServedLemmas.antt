@@ -1,6 +1,9 @@
 -- what a frame spells is served
 use Rattle.std.specs.Prelude.{IsTrue, true}
-use Rattle.std.proofs.Common.{◌^◌, ◌≡◌, length, refl, sym}
+use Rattle.std.proofs.Common.{◌^◌, ◌≡◌, ℕ, length, refl, sym}
+use Rattle.alp_base.specs.declared.choices.Choice.{Choice}
+use Rattle.alp_base.specs.declared.ids.Run.{Run}
+use Rattle.alp_base.specs.declared.ids.TransId.{TransId}
 use Rattle.std.proofs.lemmas.Bool.{eqb-true, leb-true}
 use Rattle.alp_files.specs.declared.call.Call.{Call}
 use Rattle.alp_files.specs.declared.call.Call.TheVariants as call
@@ -15,6 +18,7 @@ use Rattle.alp_rpc.specs.Calls.{run_mode, filled_run, is_run_mode}
 use Rattle.alp_rpc.specs.Calls as calls
 use Rattle.alp_rpc.specs.Frames.{request, IsSendable}
 use Rattle.alp_rpc.specs.declared.frame.Request.{Request}
+use Rattle.alp_node.specs.Shapes.{ReadsSome}
 use Rattle.alp_node.specs.Served.{IsServed, IsAskable}
 use Rattle.alp_cluster.specs.Exchanges.{event_of}
 
@@ -28,6 +32,15 @@ reads mode.Update is = refl
 reads mode.ReadIntendWrite is = cc
 reads mode.Write is = refl
 
+-- and none of them is an intention
+of_leaf : (t : TransId) (n : ℕ) (r : Run) (m : Mode) (wish : Choice) → is_run_mode m ≡ true → ReadsSome (call.LockPages t n r m wish)
+of_leaf t n r mode.IntendRead wish is = is
+of_leaf t n r mode.IntendWrite wish is = is
+of_leaf t n r mode.Read wish is = refl
+of_leaf t n r mode.Update wish is = refl
+of_leaf t n r mode.ReadIntendWrite wish is = is
+of_leaf t n r mode.Write wish is = refl
+
 -- each call of the grammar may be asked
 askable : (c : Call) → calls.call.Fits c → IsAskable c
 unfolding calls.call run_mode filled_run stamp run some_count props numbers u32 page_limit
@@ -38,9 +51,9 @@ askable (call.CreateFile t start wish) fits = (refl, (tt, fits.1.0.1.1.0.1.1.1.0
 askable (call.OpenFile t f access m wish) fits = (refl, (tt, tt, tt), tt)
 askable (call.CloseFile t n) fits = (refl, (tt, tt, tt), tt)
 askable (call.DeleteFile t n wish) fits = (refl, (tt, tt, tt), tt)
-askable (call.ReadPages t n r m wish) fits = (refl, (tt, tt, reads m fits.1.1.0.1), leb-true 1 r.count fits.1.0.1.1)
+askable (call.ReadPages t n r m wish) fits = (refl, (tt, tt, reads m fits.1.1.0.1), (leb-true 1 r.count fits.1.0.1.1, of_leaf t n r m wish fits.1.1.0.1))
 askable (call.WritePages t n r pages wish) fits = (refl, (sym (eqb-true r.count (length pages) fits.1.0.1), tt, tt), tt)
-askable (call.LockPages t n r m wish) fits = (refl, (tt, tt, tt), tt)
+askable (call.LockPages t n r m wish) fits = (refl, (tt, tt, tt), of_leaf t n r m wish fits.1.1.0.1)
 askable (call.SetSize t n size wish) fits = (refl, (tt, fits.1.0, tt), tt)
 askable (call.ReadProps t n) fits = (refl, (tt, tt, tt), tt)
 askable (call.WriteProps t n change wish) fits = (refl, (tt, tt, tt), tt)
@@ -57,4 +70,4 @@ call_fits r fits = fits.1
 
 -- and so each request
 pub request_served : (r : Request) → request.Fits r → IsSendable r → IsServed (event_of r)
-request_served r fits sendable = (sendable.0.to_last, askable r.call (call_fits r fits))
+request_served r fits sendable = (sendable.0.from_one, sendable.0.to_last, askable r.call (call_fits r fits))

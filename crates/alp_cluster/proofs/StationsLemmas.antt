@@ -22,7 +22,7 @@ use Rattle.alp_cluster.specs.Come.{Come}
 use Rattle.alp_cluster.specs.Goes.{IsLater, GoesBy}
 use Rattle.alp_cluster.specs.Servers.{IsOn, IsFree, HasGone, HasGoneBy, IsFailure, IsToldFault, AreCountedIn, stand_of}
 use Rattle.alp_cluster.specs.Station.{standing, HasVault, seat_for, seat_of, Keeps, WentBy, LeavesVault}
-use Rattle.alp_cluster.specs.Stations.{AreOn, AreLater, IsManned, IsOneOf, IsOfRun, LeavesOf, HaveGone, course_of, journals_in, openings_of, opening_in, state_in, state_for, state_at, IsReachedBy}
+use Rattle.alp_cluster.specs.Stations.{AreOn, AreLater, IsManned, IsOneOf, IsOfRun, LeavesOf, HaveGone, IsCalmSince, AreCalmSince, course_of, journals_in, openings_of, opening_in, server_in, server_at, state_in, state_for, state_at, IsReachedBy}
 use Rattle.alp_cluster.specs.declared.fault.RunFault.{RunFault}
 use Rattle.alp_cluster.specs.declared.fault.RunFault.TheVariants as fault
 use Rattle.alp_cluster.specs.declared.server.Server.{Server}
@@ -108,12 +108,12 @@ module _ {V : Type 0} (G : Ghosts V) (s after : Stations V) (on : AreOn G s) (se
   still_failed n count at faults other (Err fault.JournalFull) of away h a = tt
   still_failed n count at faults other (Err (fault.Start m f)) of away h a = (subst (IsOfRun count) (sym h.0) of, λ same. absurd (away (sym same ∙ h.0)))
 
-  still_told : {T : Type 0} (servers n at : ℕ) (faults other : ℕ) (r : Result T RunFault) → at ≢ n → IsFailure (λ m. m ≡ n) n r faults other → IsToldFault servers at r
-  still_told servers n at faults other (Ok z) away h = tt
-  still_told servers n at faults other (Err (fault.DiskFault m)) away h = tt
-  still_told servers n at faults other (Err fault.OutOfMemory) away h = tt
-  still_told servers n at faults other (Err fault.JournalFull) away h = tt
-  still_told servers n at faults other (Err (fault.Start m f)) away h = λ same. absurd (away (sym same ∙ h.0))
+  still_told : {T : Type 0} (n at : ℕ) (faults other : ℕ) (r : Result T RunFault) → at ≢ n → IsFailure (λ m. m ≡ n) n r faults other → IsToldFault at r
+  still_told n at faults other (Ok z) away h = tt
+  still_told n at faults other (Err (fault.DiskFault m)) away h = tt
+  still_told n at faults other (Err fault.OutOfMemory) away h = tt
+  still_told n at faults other (Err fault.JournalFull) away h = tt
+  still_told n at faults other (Err (fault.Start m f)) away h = λ same. absurd (away (sym same ∙ h.0))
 
   still_counted : {T : Type 0} (n at : ℕ) (faults other : ℕ) (r : Result T RunFault) → at ≢ n → IsFailure (λ m. m ≡ n) n r faults other → (a : ℕ) → AreCountedIn at r a a
   still_counted n at faults other (Ok z) away h a = refl
@@ -168,7 +168,7 @@ module _ {V : Type 0} (G : Ghosts V) (s after : Stations V) (on : AreOn G s) (se
             vault = n.kept.vault;
             its = subst (λ (o : Option (Server V)). HasVault o n.kept.vault) (sym stood) refl;
             gone = gone_nothing G (IsOfRun (length s.all.items)) P n.kept.vault r (still_failed server (length s.all.items) (G.server n.kept.vault) (G.faults mine.node.kept.vault) (G.faults own.0) r of_run apart failed (G.faults n.kept.vault))
-                (still_told (G.servers n.kept.vault) server (G.server n.kept.vault) (G.faults mine.node.kept.vault) (G.faults own.0) r apart failed) (still_counted server (G.server n.kept.vault) (G.faults mine.node.kept.vault) (G.faults own.0) r apart failed (G.faults n.kept.vault));
+                (still_told server (G.server n.kept.vault) (G.faults mine.node.kept.vault) (G.faults own.0) r apart failed) (still_counted server (G.server n.kept.vault) (G.faults mine.node.kept.vault) (G.faults own.0) r apart failed (G.faults n.kept.vault));
           }
 
       each : (i : ℕ) (z : Station V) (n : NodeState V) → slice_get s.all.items i ≡ Some z → z.server ≡ standing n → LeavesOf G (length s.all.items) P n (slice_get after.all.items i) r
@@ -267,8 +267,17 @@ module _ {V : Type 0} (G : Ghosts V) (s after : Stations V) (on : AreOn G s) (se
       | inr away ↦ subst (λ (o : Option (ServerState V)). IsReachedBy o k a) (sym (ap state_for (others_there (j - 1) away))) old
     ]
 
+    calm_then : AreCalmSince G s after
+    calm_then j = elim (cases_eq (j - 1) (server - 1)) [
+      | inl same ↦
+          let was : server_at s j ≡ standing n = ap (λ (i : ℕ). server_in (slice_get s.all.items i)) same ∙ ap server_in there ∙ stood in
+          let now : server_at after j ≡ standing w.after = ap (λ (i : ℕ). server_in (slice_get after.all.items i)) same ∙ ap server_in now_there ∙ w.stands in
+          subst (λ (o : Option (Server V)). IsCalmSince G o (server_at after j)) (sym was) (subst (λ (o : Option (Server V)). IsCalmSince G (standing n) o) (sym now) w.goes.later.calm)
+      | inr away ↦ subst (λ (o : Option (Server V)). IsCalmSince G (server_at s j) o) (sym (ap server_in (others_there (j - 1) away))) (λ calm. (calm, refl))
+    ]
+
     pub later_then : AreLater G s after
-    later_then = record { on = on_then; openings = openings_then; reached = reached_then }
+    later_then = record { on = on_then; openings = openings_then; reached = reached_then; calm = calm_then }
 
     -- as the course has it
     pub at_then : (Says : Seat → List Entry → Stand → Type 0) → ((es : List Entry) (v : Stand) → Makes (stand_of G x.is_fused n) es v → Says (seat_for G x.is_fused x.ranks.items (standing n)) es v) → IsAt (course_of G s) server seen Says (course_of G after)

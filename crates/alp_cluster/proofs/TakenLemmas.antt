@@ -70,6 +70,11 @@ module _ {V : Type 0} (G : Ghosts V) (n m : NodeState V) (e : Event) (r : Option
     replies_now : m.kept.is_down ≡ false → AreKept m.kept
     replies_now goes client w is = subst (λ (k : ℕ). IsKeptReply k w) (sym seat.epoch) (kept_now goes client w is)
 
+    -- where it is not stopped its count of faults stays
+    goes_counted : m.kept.is_down ≡ false → G.faults m.kept.vault ≡ G.faults n.kept.vault
+    goes_counted goes =
+        a.still (or_false (is_fault_now (order_in n.kept e) r) m.kept.is_down goes ∙ quiet_now (order_in n.kept e) r quiet)
+
     pub taken : HasStepped G n m e r
     taken = record {
       on = record {
@@ -94,6 +99,7 @@ module _ {V : Type 0} (G : Ghosts V) (n m : NodeState V) (e : Event) (r : Option
       journal = a.entry;
       down = a.down;
       halts = not_stopped;
+      counted = goes_counted;
       closes = a.halts;
       done = done_now;
       turned = turned;
@@ -103,8 +109,7 @@ module _ {V : Type 0} (G : Ghosts V) (n m : NodeState V) (e : Event) (r : Option
     -- nobody stops it, and so its count of faults stays
     still_counted : G.allowance n.kept.vault ≡ Free → (b : Bool) → m.kept.is_down ≡ b → G.faults m.kept.vault ≡ G.faults n.kept.vault
     still_counted free true down = absurd (not_stopped down free)
-    still_counted free false goes =
-        a.still (or_false (is_fault_now (order_in n.kept e) r) m.kept.is_down goes ∙ quiet_now (order_in n.kept e) r quiet)
+    still_counted free false goes = goes_counted goes
 
     pub taken_gone : {T : Type 0} (P : Type 0) (x : T) → HasGone {T = T} G P n.kept.vault m.kept.vault (Ok x)
     taken_gone P x = record {

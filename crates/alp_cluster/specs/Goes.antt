@@ -6,9 +6,10 @@ use Rattle.alp_node.specs.Nodes.{start_in}
 use Rattle.alp_vault.specs.declared.vault.Vault.{Ghosts}
 use Rattle.alp_course.specs.Happens.{Stand}
 use Rattle.alp_cluster.specs.Come.{Come, IsReached}
-use Rattle.alp_cluster.specs.Servers.{IsOn, IsFree, stand_of}
+use Rattle.alp_cluster.specs.Servers.{IsOn, IsFree, AreCalm, stand_of}
 
--- It is the same server, opened on the same, and what calls it had come to it has come to still.
+-- It is the same server, opened on the same, and what calls it had come to it has come to still. Where no entry of its journal stopped it, none
+-- did before, and its count of faults stayed.
 pub record IsLater {V : Type 0} (G : Ghosts V) (before after : NodeState V) : Type 0 where
   pub on : IsOn G after
   pub number : after.kept.server ≡ before.kept.server
@@ -17,6 +18,7 @@ pub record IsLater {V : Type 0} (G : Ghosts V) (before after : NodeState V) : Ty
   pub start : start_in G after ≡ start_in G before
   pub telling : G.tells after.kept.vault ≡ G.tells before.kept.vault
   pub reached : (k : ℕ) (a : Come) → IsReached before.kept k a → IsReached after.kept k a
+  pub calm : AreCalm after.journal → AreCalm before.journal × (G.faults after.kept.vault ≡ G.faults before.kept.vault)
 
 -- These are its further entries, and they are made so. Its disk may be stopped before and after, or not.
 pub record GoesBy {V : Type 0} (G : Ghosts V) (before_fused after_fused : Bool) (Makes : Stand → List Entry → Stand → Type 0) (before after : NodeState V) : Type 0 where

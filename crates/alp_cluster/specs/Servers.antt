@@ -1,6 +1,6 @@
 -- A server of a run, up or down, on a disk that lines may stop.
 use Rattle.std.specs.Prelude.{◌≡◌, ◌≢◌, ℕ, ◌≤◌, ◌||◌, Bool, true, false, IsTrue, List, [], ◌∷◌, ◌++◌, length, Option, None, Some, is_some, Result, Ok, Err}
-use Rattle.std.specs.List.{list_any}
+use Rattle.std.specs.List.{list_any, AllByRecursion}
 use Rattle.alp_base.specs.Allowances.{Sets}
 use Rattle.alp_base.specs.Causes.{Rose}
 use Rattle.alp_base.specs.declared.allowance.Allowance.TheVariants.{Free}
@@ -66,6 +66,10 @@ is_failed_at (Some e) = fails e
 -- an entry that has its cause, where no device failed; it may have been stopped
 abbrev pub IsDone : State → Entry → Type 0
 IsDone s e = (fails e ≡ false) × IsAnsweredEntry false s e
+
+-- no entry of a journal stopped its server
+abbrev pub AreCalm : List Entry → Type 0
+AreCalm es = AllByRecursion (λ (e : Entry). stops e ≡ false) es
 
 -- ---- what it keeps of its clients
 
@@ -136,17 +140,16 @@ IsFailure N here (Err (fault.DiskFault server)) before now = N server × (server
 IsFailure N here (Err (fault.Start server f)) before now = N server × (server ≡ here → IsFailureAt f before now)
 IsFailure N here (Err f) before now = Unit {0}
 
--- A vault that tells what it holds is found to be a volume in its format, as it is started again, and the notes of the only server of a
--- run are not at fault.
-abbrev pub IsOfVolumeAt : (servers : ℕ) → StartFault → Type 0
-IsOfVolumeAt servers (start_fault.Vault (vault_fault.NotAVolume found)) = ⊥
-IsOfVolumeAt servers (start_fault.Vault (vault_fault.Damaged place)) = ⊥
-IsOfVolumeAt servers start_fault.BadNote = servers ≡ 1 → ⊥
-IsOfVolumeAt servers f = Unit {0}
+-- A vault that tells what it holds is found to be a volume in its format, as it is started again, and its notes are not at fault.
+abbrev pub IsOfVolumeAt : StartFault → Type 0
+IsOfVolumeAt (start_fault.Vault (vault_fault.NotAVolume found)) = ⊥
+IsOfVolumeAt (start_fault.Vault (vault_fault.Damaged place)) = ⊥
+IsOfVolumeAt start_fault.BadNote = ⊥
+IsOfVolumeAt f = Unit {0}
 
-abbrev pub IsToldFault : {T : Type 0} → (servers here : ℕ) → Result T RunFault → Type 0
-IsToldFault servers here (Err (fault.Start server f)) = server ≡ here → IsOfVolumeAt servers f
-IsToldFault servers here r = Unit {0}
+abbrev pub IsToldFault : {T : Type 0} → (here : ℕ) → Result T RunFault → Type 0
+IsToldFault here (Err (fault.Start server f)) = server ≡ here → IsOfVolumeAt f
+IsToldFault here r = Unit {0}
 
 -- What a call leaves of the vault of a server, whether it went well or not: it is the vault that it was, and its count of faults
 -- did not fall. It rose where its device failed; a fault names one of the servers that may be named. Where nobody stopped it before,
@@ -156,7 +159,7 @@ pub record HasGoneBy {V T : Type 0} (G : Ghosts V) (N : ℕ → Type 0) (P : Typ
   pub same : IsSameVault G.tells G.volume G.server G.servers old new
   pub later : G.faults old ≤ G.faults new
   pub failed : IsFailure N (G.server old) result (G.faults old) (G.faults new)
-  pub told : IsTrue (G.tells old) → IsToldFault (G.servers old) (G.server old) result
+  pub told : IsTrue (G.tells old) → IsToldFault (G.server old) result
   pub free : P → G.allowance old ≡ Free → G.allowance new ≡ Free
   pub counted : P → G.allowance old ≡ Free → AreCountedIn (G.server old) result (G.faults old) (G.faults new)
 
@@ -183,7 +186,7 @@ pub record IsShut {V : Type 0} (old new : NodeState V) (r : Option Reply) : Type
   pub same : new ≡ old
 
 -- One event was answered so: one entry more, and the device did not fail, which the entry shows where the vault tells. It may have
--- been stopped, if it was let.
+-- been stopped, if it was let; where it was not, its count of faults stays.
 pub record HasStepped {V : Type 0} (G : Ghosts V) (old new : NodeState V) (e : Event) (r : Option Reply) : Type 0 where
   pub on : IsOn G new
   pub up : old.kept.is_down ≡ false
@@ -199,6 +202,7 @@ pub record HasStepped {V : Type 0} (G : Ghosts V) (old new : NodeState V) (e : E
   pub journal : new.journal ≡ old.journal ++ (record { event = e; reply = r; acts = acts }) ∷ []
   pub down : new.kept.is_down ≡ stops (record { event = e; reply = r; acts = acts })
   pub halts : new.kept.is_down ≡ true → G.allowance old.kept.vault ≢ Free
+  pub counted : new.kept.is_down ≡ false → G.faults new.kept.vault ≡ G.faults old.kept.vault
   pub closes : new.kept.is_down ≡ true → r ≡ Some (reply.Refused Down)
   pub done : IsTrue (G.tells old.kept.vault) → IsDone (state_of G old) (record { event = e; reply = r; acts = acts })
   pub turned : new.kept.is_down ≡ false → HasTurned (order_in old.kept e) old.kept new.kept e r

@@ -17,7 +17,7 @@ use Rattle.alp_course.specs.Languages.{Language}
 use Rattle.alp_course.specs.Plays.{Due, IsCut}
 use Rattle.alp_cluster.specs.Come.{Come, IsReached}
 use Rattle.alp_cluster.specs.Fills.{IsEndFor}
-use Rattle.alp_cluster.specs.Servers.{HasGoneBy, HasStopSet, StartsAgain}
+use Rattle.alp_cluster.specs.Servers.{AreCalm, HasGoneBy, HasStopSet, StartsAgain}
 use Rattle.alp_cluster.specs.Station.{standing, HasVault, seat_of, Keeps, EndsHere}
 use Rattle.alp_cluster.specs.declared.fault.RunFault.{RunFault}
 use Rattle.alp_cluster.specs.declared.fault.RunFault.TheVariants as fault
@@ -89,6 +89,33 @@ openings_of s = list_map (λ (x : Station _). opening_in x.server) s.all.items
 abbrev pub servers_of : {V : Type 0} → Stations V → List (Option (Server V))
 servers_of s = list_map (λ (x : Station _). x.server) s.all.items
 
+-- ---- how often their devices failed
+
+abbrev pub server_in : {V : Type 0} → Option (Station V) → Option (Server V)
+server_in None = None
+server_in (Some x) = x.server
+
+abbrev pub server_at : {V : Type 0} → Stations V → ℕ → Option (Server V)
+server_at s n = server_in (slice_get s.all.items (n - 1))
+
+abbrev pub journal_in : {V : Type 0} → Option (Server V) → List Entry
+journal_in (Some (Up n)) = n.journal
+journal_in (Some (Fallen d)) = d.journal
+journal_in None = []
+
+abbrev pub faults_in : {V : Type 0} → Ghosts V → Option (Server V) → ℕ
+faults_in G (Some (Up n)) = G.faults n.kept.vault
+faults_in G (Some (Fallen d)) = G.faults d.vault
+faults_in G None = 0
+
+-- a server that no entry of its journal stopped had none that did before, and its count of faults stayed
+abbrev pub IsCalmSince : {V : Type 0} → Ghosts V → (before after : Option (Server V)) → Type 0
+IsCalmSince G before after = AreCalm (journal_in after) → AreCalm (journal_in before) × (faults_in G after ≡ faults_in G before)
+
+-- so it is with each of them
+abbrev pub AreCalmSince : {V : Type 0} → Ghosts V → (before after : Stations V) → Type 0
+AreCalmSince G before after = (n : ℕ) → IsCalmSince G (server_at before n) (server_at after n)
+
 -- ---- how they go on
 
 -- The server of this number fell, with that pick of what a crash leaves, and started again.
@@ -126,11 +153,13 @@ abbrev pub Passes : {V : Type 0} → Ghosts V → Stations V → List Occurrence
 Passes {V} G s [] after = after ≡ s
 Passes {V} G s (x ∷ xs) after = (mid : Stations V) × Occurs (course_of G s) x (course_of G mid) × Crashes G x s mid × Passes G mid xs after
 
--- They are the servers that they were, and what calls they had come to they have come to still.
+-- They are the servers that they were, and what calls they had come to they have come to still. The device of one that no entry stopped did
+-- not fail.
 pub record AreLater {V : Type 0} (G : Ghosts V) (before after : Stations V) : Type 0 where
   pub on : AreOn G after
   pub openings : openings_of after ≡ openings_of before
   pub reached : (n k : ℕ) (a : Come) → IsReachedBy (state_at before n) k a → IsReachedBy (state_at after n) k a
+  pub calm : AreCalmSince G before after
 
 -- all this occurred at them
 pub record Go {V : Type 0} (G : Ghosts V) (hs : List Occurrence) (before after : Stations V) : Type 0 where

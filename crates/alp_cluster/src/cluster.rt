@@ -12,7 +12,7 @@ ghost use Rattle.alp_cluster.specs.Clients.{InStep};
 ghost use Rattle.alp_cluster.specs.Gathered.{AreGathered};
 ghost use Rattle.alp_cluster.specs.Fills.{OnEnd};
 ghost use Rattle.alp_cluster.specs.Runs.{StopNone, is_stop_line, HasPlayed, HasPlayedOut, HasEndedEarly};
-ghost use Rattle.alp_cluster.specs.Stations.{AreOn, Did, DidSome, HaveGone, openings_of};
+ghost use Rattle.alp_cluster.specs.Stations.{AreOn, AreCalmSince, Did, DidSome, HaveGone, openings_of};
 ghost use Rattle.alp_cluster.specs.Steps.{Adds, AddsSome, PlaysOn, BeginsOn};
 
 use crate::fault::RunFault;
@@ -167,6 +167,8 @@ impl<V: Vault> Cluster<V> {
         ensures ended { OnEnd result (λ f. HasEndedEarly V.Vault (servers_said lines.now) lines.now f self.new.parties.stations) }
         ensures openings { OnOk result (openings_of self.new.parties.stations ≡ openings_of self.old.parties.stations) }
         ensures left { OnEnd result (λ _. openings_of self.new.parties.stations ≡ openings_of self.old.parties.stations) }
+        ensures calm { OnOk result (AreCalmSince V.Vault self.old.parties.stations self.new.parties.stations) }
+        ensures calm_left { OnEnd result (λ _. AreCalmSince V.Vault self.old.parties.stations self.new.parties.stations) }
         ensures played { OnOk result (HasPlayed V.Vault (servers_said lines.now) lines.now self.new.parties.clients self.new.parties.stations self.new.lists.items self.new.text.items) }
     {
         for line in lines {
@@ -184,6 +186,8 @@ impl<V: Vault> Cluster<V> {
         ensures ended { OnEnd result (λ f. HasEndedEarly V.Vault (servers_said lines.now) lines.now f self.new.parties.stations) }
         ensures openings { OnOk result (openings_of self.new.parties.stations ≡ openings_of self.old.parties.stations) }
         ensures left { OnEnd result (λ _. openings_of self.new.parties.stations ≡ openings_of self.old.parties.stations) }
+        ensures calm { OnOk result (AreCalmSince V.Vault self.old.parties.stations self.new.parties.stations) }
+        ensures calm_left { OnEnd result (λ _. AreCalmSince V.Vault self.old.parties.stations self.new.parties.stations) }
         ensures played { OnOk result (HasPlayedOut V.Vault (servers_said lines.now) lines.now self.new.parties.stations self.new.lists.items self.new.text.items) }
     {
         self.play(lines)?;

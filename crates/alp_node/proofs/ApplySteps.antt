@@ -148,7 +148,7 @@ module _ {V : Type 0} (G : Ghosts V) (k : ServerState V) (from : ℕ) (j : JoinN
         let y : IsVoter a j t client ts = life_of a h in
         subst (AreNotesOf (state_deed (state_of a) (Applies j stamp)) a.ids.epoch) (sym (is ∙ notes_are a h))
         (applied_notes (state_of a) j t client ts time y.life y.lives (stands_voted a h.quiet) y.phase a.ids.epoch (G.held k.vault).notes named
-        (subst (λ (n : ℕ). clock_form.Fits (record { epoch = n; clock = max a.holder.clock time })) (sym h.epoch) (subst (λ (n : ℕ). clock_form.Fits (record { epoch = k.epoch; clock = max n time })) (sym h.clock) clock_fits)) (h.notes up))
+        (subst (λ (n : ℕ). clock_form.Fits (record { epoch = n; clock = max a.holder.clock time })) (sym h.epoch) (subst (λ (n : ℕ). clock_form.Fits (record { epoch = k.epoch; clock = max n time })) (sym h.clock) clock_fits)) h.quiet.settled.stands.order (h.notes up))
 
     -- the cells are those of the journal
     written_cells : (a : Account) (h : IsAs a (G.held k.vault) k) → (d : Contents) → IsWritten l.part.intents apply_written (G.held k.vault) d → d.cells ≡ (state_deed (state_of a) (Applies j (record { ts = time; trans = t }))).holder.cells

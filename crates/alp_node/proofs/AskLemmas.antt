@@ -34,7 +34,8 @@ use Rattle.alp_trans.specs.declared.part.Part.{Part}
 use Rattle.alp_calls.specs.Parts.{seen}
 use Rattle.alp_trans.specs.Parts.{own_of}
 use Rattle.alp_node.specs.Asks.{asks_of, looks_at, if_found, found_in, open_needs, on_opened, needs_on, IsOneOf, IsAsked, is_given, is_of_given, IsGivenOn, AreGiven}
-use Rattle.alp_node.specs.Shapes.{shape_of}
+use Rattle.alp_node.specs.Shapes.{shape_of, ReadsSome}
+use Rattle.alp_regain.specs.Named.{is_leaf_mode}
 
 -- ---- what the journal says that a call needs
 
@@ -94,6 +95,69 @@ found_so P (x ∷ os) n h op = go (x.number == n) (found_so P os n h.1 op)
     go true later e = subst P (same_open x op e) h.0
     go false later e = later e
 
+-- ---- modes of leaves
+
+abbrev IsModeOn : Resource → Mode → Type 0
+IsModeOn (Whole f) m = Unit {0}
+IsModeOn (Leaf k) m = is_leaf_mode m ≡ true
+
+abbrev AreModes : List Need → Type 0
+AreModes ns = AllByRecursion (λ (n : Need). IsModeOn n.0 n.1) ns
+
+pages_modes : (f : FileId) (n first : ℕ) (m : Mode) → is_leaf_mode m ≡ true → AreModes (page_needs f first n m)
+pages_modes f zero first m leaf = tt
+pages_modes f (suc n) first m leaf = go (nat_lt first page_limit) (pages_modes f n (first + 1) m leaf)
+  where
+    go : (b : Bool) → AreModes (page_needs f (first + 1) n m) → AreModes (cond {A = List Need} b ((Leaf (PageOf f first), m) ∷ page_needs f (first + 1) n m) [])
+    go true more = (leaf, more)
+    go false more = tt
+
+module _ (o : Open) (p : Props) where
+  mark_modes : (last : ℕ) → AreModes (mark_needs o.file p last)
+  mark_modes last = go (nat_lt p.high_water last)
+    where
+      go : (b : Bool) → AreModes (cond {A = List Need} b ((Leaf (Leader o.file), Write) ∷ []) [])
+      go true = (refl, tt)
+      go false = tt
+
+  size_modes : (size : ℕ) → AreModes (size_needs size o p)
+  size_modes size = go (size == p.size) (nat_lt size p.size)
+    where
+      go : (same less : Bool) → AreModes (cond {A = List Need} same ((Leaf (Leader o.file), Write) ∷ []) (cond {A = List Need} less ((Whole o.file, Write) ∷ (Leaf (OwnerOf p.owner), Write) ∷ []) ((Leaf (Leader o.file), Write) ∷ (Leaf (OwnerOf p.owner), Write) ∷ [])))
+      go true less = (refl, tt)
+      go false true = (tt, (refl, tt))
+      go false false = (refl, (refl, tt))
+
+  change_modes : (c : PropChange) → AreModes (change_needs c o p)
+  change_modes (prop.Owner n) = (refl, (refl, (refl, tt)))
+  change_modes (prop.Name n) = (refl, tt)
+  change_modes (prop.TypeNo n) = (refl, tt)
+  change_modes (prop.ByteLength n) = (refl, tt)
+  change_modes (prop.Read l) = (refl, tt)
+  change_modes (prop.Modify l) = (refl, tt)
+
+  open_modes : (c : Call) → ReadsSome c → AreModes (open_needs c o p)
+  open_modes (call.DeleteFile t n choice) some = (tt, (refl, tt))
+  open_modes (call.ReadPages t n r mode choice) some = pages_modes o.file r.count r.first mode some.1
+  open_modes (call.WritePages t n r pages choice) some =
+      all-append (λ (x : Need). IsModeOn x.0 x.1) (mark_needs o.file p (r.first + r.count)) (page_needs o.file r.first r.count Write) (mark_modes (r.first + r.count)) (pages_modes o.file r.count r.first Write refl)
+  open_modes (call.LockPages t n r mode choice) some = pages_modes o.file r.count r.first mode some
+  open_modes (call.SetSize t n size choice) some = size_modes size
+  open_modes (call.WriteProps t n change choice) some = change_modes change
+  open_modes c some = tt
+
+opened_modes : (x : Option OpenedFile) (c : Call) → ReadsSome c → AreModes (on_opened x (open_needs c))
+opened_modes None c some = tt
+opened_modes (Some x) c some = open_modes x.opened x.props c some
+
+needs_modes : (x : Option OpenedFile) (c : Call) → ReadsSome c → AreModes (needs_on x c)
+needs_modes x (call.CreateFile t start choice) some = (refl, tt)
+needs_modes x (call.OpenFile t f a mode choice) some = (tt, (refl, tt))
+needs_modes x (call.ReadOwner t name choice) some = (refl, tt)
+needs_modes x (call.MakeOwner t name quota create choice) some = (refl, tt)
+needs_modes x (call.SetQuota t name quota choice) some = (refl, tt)
+needs_modes x c some = opened_modes x c some
+
 module _ (server epoch count : ℕ) where
   -- the file that a resource is or is in was given
   abbrev IsOf : Resource → Type 0
@@ -108,18 +172,18 @@ module _ (server epoch count : ℕ) where
   intention_given None m of = tt
   intention_given (Some f) m of = (of f refl, tt)
 
-  asked_of : (held : Holding) (r : Resource) (m : Mode) → IsOf r → AreGiven server epoch count (asked_on held r m)
-  asked_of held (Whole f) m of = (of, tt)
-  asked_of held (Leaf k) m of = go (covers_held (given_to held k) m)
+  asked_of : (held : Holding) (r : Resource) (m : Mode) → IsOf r → IsModeOn r m → AreGiven server epoch count (asked_on held r m)
+  asked_of held (Whole f) m of mode = (of, tt)
+  asked_of held (Leaf k) m of mode = go (covers_held (given_to held k) m)
     where
       go : (b : Bool) → AreGiven server epoch count (cond {A = List Need} b [] ((Leaf k, m) ∷ intention_on (file_of k) m))
       go true = tt
-      go false = (tt, intention_given (file_of k) m of)
+      go false = (mode, intention_given (file_of k) m of)
 
-  each_of : (held : Holding) (ns : List Need) → AreOf ns → AreGiven server epoch count (asked_each held ns)
-  each_of held [] of = tt
-  each_of held (n ∷ ns) of =
-      all-append (λ (x : Need). IsGivenOn server epoch count x.0) (asked_on held n.0 n.1) (asked_each held ns) (asked_of held n.0 n.1 of.0) (each_of held ns of.1)
+  each_of : (held : Holding) (ns : List Need) → AreOf ns → AreModes ns → AreGiven server epoch count (asked_each held ns)
+  each_of held [] of modes = tt
+  each_of held (n ∷ ns) of modes =
+      all-append (λ (x : Need). IsGivenOn server epoch count x.0 x.1) (asked_on held n.0 n.1) (asked_each held ns) (asked_of held n.0 n.1 of.0 modes.0) (each_of held ns of.1 modes.1)
 
   -- what a call needs
   not_in : (name : List ℕ) → IsOf (Leaf (OwnerOf name))
@@ -191,10 +255,10 @@ module _ (server epoch count : ℕ) where
 
   -- the files that are asked for were given, where those of the opens were
   pub asked_given : (tells : Bool) (cells : Cells) (held : Holding) (p : Part) (c : Call) (ns : List Need) → IsAsked tells cells held p c ns → list_all (λ (o : Open). is_given server epoch count o.file) p.opens.items ≡ true
-      → is_of_given server epoch count c ≡ true → AreGiven server epoch count ns
-  asked_given tells cells held p c ns asked opens named =
+      → is_of_given server epoch count c ≡ true → ReadsSome c → AreGiven server epoch count ns
+  asked_given tells cells held p c ns asked opens named some =
       let needs : List Need = needs_on asked.found c in
-      subst (AreGiven server epoch count) (sym asked.is) (each_of (joined held (wholes_of needs)) needs (needs_of_given asked.found c (go asked.found asked.stands) named))
+      subst (AreGiven server epoch count) (sym asked.is) (each_of (joined held (wholes_of needs)) needs (needs_of_given asked.found c (go asked.found asked.stands) named) (needs_modes asked.found c some))
     where
       go : (x : Option OpenedFile) → IfSome x (IsOneOf p.opens.items) → IfSome x (λ y. is_given server epoch count y.opened.file ≡ true)
       go None at = tt

@@ -9,7 +9,7 @@ use Rattle.alp_base.specs.declared.choices.Choice.TheVariants as choice
 use Rattle.alp_base.specs.declared.ids.JoinNo.{JoinNo}
 use Rattle.alp_base.specs.declared.ids.TransId.{TransId}
 use Rattle.alp_base.specs.declared.key.Resource.{Resource}
-use Rattle.alp_files.specs.Holdings.{join_held}
+use Rattle.alp_files.specs.Holdings.{held_by, join_held}
 use Rattle.alp_files.specs.declared.call.Call.{Call}
 use Rattle.alp_files.specs.declared.call.Call.TheVariants as call
 use Rattle.alp_files.specs.declared.reply.Reply.TheVariants as reply
@@ -43,7 +43,7 @@ use Rattle.alp_turns.specs.Queues.{AreHeldAlike, request_if, request_for, reques
 use Rattle.alp_turns.proofs.RequestLemmas.{request, free_there}
 use Rattle.alp_turns.proofs.MoveLemmas.{queue_with}
 use Rattle.alp_coord.specs.Coordinators.{count_of}
-use Rattle.alp_node.specs.Asks.{AreGiven, asks_of, plan_of}
+use Rattle.alp_node.specs.Asks.{AreGiven, IsHeldHere, asks_of, plan_of}
 use Rattle.alp_node.specs.Calls.{IsServedCall}
 use Rattle.alp_node.specs.ServerState.{IsAs, IsReady, IsAlike, IsCaller, IsLife, IsAskedAs, IsWaitingAs}
 use Rattle.alp_node.specs.Shapes.{shape_of, counts_then, too_locked, may_wait, ReadsSome}
@@ -62,6 +62,7 @@ use Rattle.alp_journal.proofs.WaitLemmas.{turned}
 use Rattle.alp_node.proofs.ConflictLemmas.{held_elsewhere}
 use Rattle.alp_node.proofs.FinishLemmas.{turn_session, counts_as}
 use Rattle.alp_node.proofs.GrantLemmas.{asked_below}
+use Rattle.alp_node.proofs.HeldHere.{tidy_same, tidy_joined, tidy_needs, tidy_given}
 use Rattle.alp_node.proofs.KeptLemmas.{session_of, IsLive, live_there, same_live, stepped_so}
 use Rattle.alp_node.proofs.NoteCalls.{call_notes}
 use Rattle.alp_node.proofs.NotedLemmas.{HasNoVoter}
@@ -155,9 +156,12 @@ module _ {V : Type 0} (k : ServerState V) (turn : Turn) (t : TransId) (l : Live)
       });
     }
 
-    none_beyond : IsReady n serves k → (m : ℕ) → k.given < m → map.get plan.after (numbered k m) ≡ None
-    none_beyond h m high =
-        joined-holds ns (held_of k.locks.held t) (numbered k m) ∙ (λ i. join_held (h.unheld t m high i) (asked_below k.server k.epoch k.given m ns files high i))
+    none_beyond : IsReady n serves k → IsHeldHere k.server k.epoch k.given (map.get plan.after)
+    none_beyond h = record {
+      unmade = λ m high. joined-holds ns (held_of k.locks.held t) (numbered k m) ∙ (λ i. join_held ((h.unheld t).unmade m high i) (asked_below k.server k.epoch k.given m ns files high i));
+      tidy = tidy_same k.server k.epoch (λ r. join_held (holding k.locks.held t r) (held_by ns r)) (map.get plan.after) (λ r. joined-holds ns (held_of k.locks.held t) r)
+          (tidy_joined k.server k.epoch (holding k.locks.held t) (held_by ns) (h.unheld t).tidy (tidy_needs k.server k.epoch ns (tidy_given k.server k.epoch k.given ns files)));
+    }
 
     waiting_ready : IsReady n serves k → IsReady n serves waiting_kept
     waiting_ready h = record {

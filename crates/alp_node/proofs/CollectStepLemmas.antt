@@ -58,6 +58,7 @@ use Rattle.alp_node.proofs.ShapeLemmas.{shape_given}
 use Rattle.alp_node.proofs.TurnLemmas.{counts_on, counts_refused, run_told}
 use Rattle.alp_node.proofs.WaitLemmas.{IsLikePart, idle_in}
 use Rattle.alp_node.proofs.WithinLemmas.{MayLock, within_then}
+use Rattle.alp_node.proofs.HeldHere.{tidy_asks}
 
 -- ---- it is answered
 
@@ -105,7 +106,7 @@ module _ {V : Type 0} (G : Ghosts V) (k : ServerState V) (turn : Turn) (n : ℕ)
         (let was : k.given ≤ m = h.given in let one : count_after k.given r ≤ k.given + 1 = count_same k.given r in omega (arith, was, one)) refl
         (free_given m (G.serves k.vault) k w.trans w.call [] r h (none_blocks k turn w z l p v))
         (idle_in k.server k.epoch k.given k.lives k.waits w.trans k.locks.waiting (none_asks k turn.client n w m (G.serves k.vault) h found some granted) h.waits.queued)
-        (λ id high. given_below k.server k.epoch k.given id w.call [] r tt high) first_ready
+        (λ id high. given_below k.server k.epoch k.given id w.call [] r tt high) (tidy_asks k.server k.epoch k.given w.call [] r tt) first_ready
 
     -- and its part is another
     like : AllByRecursion (λ (u : WaitingCall). is_file_on w.trans u ≡ true → IsLikePart l (record l { part = p; locks = locks_given l.locks z (Ok (given_of r [])) })) (without_calls_of turn.client w.trans k.waits)

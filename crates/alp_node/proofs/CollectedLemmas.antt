@@ -345,7 +345,7 @@ module _ {V : Type 0} (a : Account) (before now : ℕ) (held : Contents) (k : Se
 
       -- nobody held the new file
       new_free : (f : FileId) → id_in g ≡ Some f → life.held (Whole f) ≡ None
-      new_free f e = ap (λ (x : FileId). life.held (Whole x)) (id_given (next_file k) f g e given.ids) ∙ mine.held (Whole (next_file k)) ∙ ready.unheld w.trans (k.given + 1) (omega arith)
+      new_free f e = ap (λ (x : FileId). life.held (Whole x)) (id_given (next_file k) f g e given.ids) ∙ mine.held (Whole (next_file k)) ∙ (ready.unheld w.trans).unmade (k.given + 1) (omega arith)
 
       creates : (b : Bool) → makes_file w.call ≡ b → (f : FileId) → id_in g ≡ Some f → b ≡ true
       creates true e f at = refl

@@ -170,7 +170,7 @@ module _ {V : Type 0} (a : Account) (held : Contents) (k : ServerState V) (turn 
 
       written_notes : AreNotesOf (state_after state_deed (state_of a) (Finishes t ∷ Decides write_stamp [] ∷ ds)) a.ids.epoch (noted clock_name (Some (clock_form.spell (record { epoch = a.ids.epoch; clock = max a.holder.clock (a.holder.clock + 1) }))) held.notes)
       written_notes =
-          commit_notes finish_event (state_of a) t (a.holder.clock + 1) its.life ds (stands_voted a h.quiet) (eq-eqb t.server a.holder.server (here ∙ sym h.server)) its.is free law a.ids.epoch held.notes fits (h.notes up)
+          commit_notes finish_event (state_of a) t (a.holder.clock + 1) its.life ds (stands_voted a h.quiet) (eq-eqb t.server a.holder.server (here ∙ sym h.server)) its.is free law a.ids.epoch held.notes fits h.quiet.settled.stands.order (h.notes up)
 
       -- so the notes are those of the journal
       pub write_notes : stops (finish_entry acts) ≡ false → (c : Contents) → c.notes ≡ notes_after (decision_changes k.epoch (record { ts = k.clock + 1; trans = t }) []) held.notes → AreNotesOf (state_of m) a.ids.epoch c.notes

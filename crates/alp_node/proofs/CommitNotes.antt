@@ -87,9 +87,9 @@ module _ (s : State) (stamp : Stamp) (l : Life) (voted : AreVoted s) (here : (st
       let v : IsVoted s j t ts = voted j t client ts is in
       record { life = v.life; live = stays j t client ts is ∙ v.live; vote = v.vote; join = v.join; away = ap (λ (n : ℕ). t.server == n) (same_server (s.holder.lives stamp.trans)) ∙ v.away }
 
-  pub decided_notes : (epoch : ℕ) (notes : Notes) → clock_form.Fits (record { epoch = epoch; clock = clock_then }) → AreNotesOf s epoch notes
+  pub decided_notes : (epoch : ℕ) (notes : Notes) → clock_form.Fits (record { epoch = epoch; clock = clock_then }) → s.holder.kept ≤ s.holder.clock → AreNotesOf s epoch notes
       → AreNotesOf decided_state epoch (noted clock_name (Some (clock_form.spell (record { epoch = epoch; clock = clock_then }))) notes)
-  decided_notes epoch notes fits h =
+  decided_notes epoch notes fits order h =
       let before : Keeps s.holder.server s.servers (record { epoch = epoch; clock = s.holder.kept }) (λ j. IsReadyNote s.holder.lives (s.phases j)) (λ t. decision_kept (s.fates t)) notes =
       record { clock = h.clock; ready = h.ready; decided = h.decided; format = h.format } in
       let now : ClockNote = record { epoch = epoch; clock = clock_then } in
@@ -102,6 +102,7 @@ module _ (s : State) (stamp : Stamp) (l : Life) (voted : AreVoted s) (here : (st
         decided = λ t named. k.decided t named ∙ sym (alone_kept stamp (same_trans stamp.trans t) (s.fates t));
         fit = h.fit;
         fit_decided = λ t is. h.fit_decided t (ap (λ (o : Option DecisionKept). is_some o) (sym (alone_kept stamp (same_trans stamp.trans t) (s.fates t))) ∙ is);
+        timely = λ t d is. subst (λ (o : Option Life). d.ts ≤ (commits s.holder stamp o).kept) (sym live) (let low : d.ts ≤ s.holder.kept = h.timely t d (sym (alone_kept stamp (same_trans stamp.trans t) (s.fates t)) ∙ is) in omega (arith, low, order));
         format = subst (λ (n : ℕ). AreServerNotes n s.servers then) (sym (same_server (s.holder.lives stamp.trans))) k.format;
       }
 
@@ -115,21 +116,21 @@ module _ (x : Event) (s : State) (t : TransId) (time : ℕ) (l : Life) (rest : L
   abbrev pub noted_then : (epoch : ℕ) → Notes → Notes
   noted_then epoch notes = noted clock_name (Some (clock_form.spell (record { epoch = epoch; clock = max s.holder.clock time }))) notes
 
-  pub commit_notes : (epoch : ℕ) (notes : Notes) → clock_form.Fits (record { epoch = epoch; clock = max s.holder.clock time }) → AreNotesOf s epoch notes
+  pub commit_notes : (epoch : ℕ) (notes : Notes) → clock_form.Fits (record { epoch = epoch; clock = max s.holder.clock time }) → s.holder.kept ≤ s.holder.clock → AreNotesOf s epoch notes
       → AreNotesOf (state_after state_deed s (Finishes t ∷ Decides stamp_of [] ∷ rest)) epoch (noted_then epoch notes)
-  commit_notes epoch notes fits h =
+  commit_notes epoch notes fits order h =
       let first : State = state_deed s (Finishes t) in
       let second : State = state_deed first (Decides stamp_of []) in
       let first_voted : AreVoted first = deed_voted x s (Finishes t) tt law.0 voted in
       let first_notes : AreNotesOf first epoch notes = notes_along s first epoch notes (deed_says x s (Finishes t) tt law.0 voted) h in
       notes_along second (state_after state_deed second rest) epoch (noted_then epoch notes)
       (deeds_say x rest second (behind rest free second) law.1.1 (decided_voted first stamp_of l first_voted here live))
-      (decided_notes first stamp_of l first_voted here live epoch notes fits first_notes)
+      (decided_notes first stamp_of l first_voted here live epoch notes fits order first_notes)
 
 -- what was told says of notes what was done
 pub notes_told : (s m : State) (e : Entry) (epoch : ℕ) (notes : Notes) → stops e ≡ false → next s e ≡ m → AreNotesOf (did s e) epoch notes → AreNotesOf m epoch notes
 notes_told s m e epoch notes on leads h =
-    let so : AreNotesOf (told s e) epoch notes = record { clock = h.clock; ready = h.ready; decided = h.decided; fit = h.fit; fit_decided = h.fit_decided; format = h.format } in
+    let so : AreNotesOf (told s e) epoch notes = record { clock = h.clock; ready = h.ready; decided = h.decided; fit = h.fit; fit_decided = h.fit_decided; timely = h.timely; format = h.format } in
     subst (λ (z : State). AreNotesOf z epoch notes) (sym (ap (λ (b : Bool). cond {A = State} b (halted s e) (told s e)) on) ∙ leads) so
 
 -- grants leave the cells

@@ -25,7 +25,7 @@ use Rattle.alp_node.proofs.KeptLemmas.{IsLive, live_there}
 abbrev Locks : Type 0
 Locks = map.FinMap resource_cmp Mode
 
-one_each : (es : List (Resource × Mode)) → sum_by (λ (e : Resource × Mode). 1) es ≡ length es
+pub one_each : (es : List (Resource × Mode)) → sum_by (λ (e : Resource × Mode). 1) es ≡ length es
 one_each [] = refl
 one_each (e ∷ es) =
     let rest : sum_by (λ (x : Resource × Mode). 1) es ≡ length es = one_each es in

@@ -5,7 +5,7 @@ use Rattle.std.specs.FinMap as map
 use Rattle.std.specs.FinMap.{get-insert}
 use Rattle.std.specs.Cmp.{eq_by_cmp_equiv}
 use Rattle.std.specs.Cmp.Lexicographic.{nat_list_cmp_total}
-use Rattle.std.proofs.Common.{◌≡◌, ℕ, ◌≤◌, List, [], ◌∷◌, refl, sym, ap, subst, ◌∙◌, arith}
+use Rattle.std.proofs.Common.{◌≡◌, ◌⊎◌, inl, inr, ℕ, ◌≤◌, List, [], ◌∷◌, refl, sym, ap, subst, ◌∙◌, arith}
 use Rattle.alp_base.specs.Notes.{Notes, noted}
 use Rattle.alp_base.specs.declared.bytes.NoteChange.{NoteChange}
 use Rattle.alp_base.specs.declared.ids.JoinNo.{JoinNo}
@@ -20,7 +20,7 @@ use Rattle.alp_fields.specs.declared.decision_note.Decision.{Decision}
 use Rattle.alp_fields.specs.declared.ready_note.ReadyPart.{ReadyPart}
 use Rattle.alp_fields.proofs.FormLaws.{whole_spelled}
 use Rattle.alp_fields.proofs.DecisionNoteLaw.{decision_name_law, decision_name_length}
-use Rattle.alp_journal.specs.Coordinator.{Fate, decided}
+use Rattle.alp_journal.specs.Coordinator.{Fate, Undrawn, Running, Finishing, Committed, Forgotten, Ended, decided}
 use Rattle.alp_journal.specs.Deeds.{Decides}
 use Rattle.alp_journal.specs.Holder.{Life, commits}
 use Rattle.alp_journal.specs.Ids.{same_trans}
@@ -41,6 +41,7 @@ use Rattle.alp_node.specs.Totals.{LiveMap}
 use Rattle.alp_node.specs.Writes.{FitDecision, clock_put}
 use Rattle.alp_node.proofs.CommitNotes.{decided_notes, decided_voted}
 use Rattle.alp_node.proofs.NoteLaw.{AreVoted, IsVoted}
+use Rattle.alp_files.proofs.FilesLemmas.{same-some}
 
 -- what is read back has a name that is spelled so
 pub named_from : (t : TransId) (d : Decision) (name value : List ℕ) → decision_in name value ≡ Some (t, d) → decision_name.Fits t
@@ -110,11 +111,11 @@ module _ (s : State) (t : TransId) (time : ℕ) (js : List JoinNo) (l : Life) (v
 
   -- the clock stands, and the decision has its note
   pub put_notes : (d : Decision) (epoch : ℕ) (notes : Notes) → decision_name.Fits t → decision_form.Fits d → list_all (λ (j : JoinNo). is_another s.holder.server s.servers j.server) d.joins ≡ true → t.server ≡ s.holder.server
-      → decision_kept (decided (record { ts = time; trans = t }) js (s.fates t)) ≡ Some d → clock_form.Fits (record { epoch = epoch; clock = max s.holder.clock time }) → AreNotesOf s epoch notes
+      → decision_kept (decided (record { ts = time; trans = t }) js (s.fates t)) ≡ Some d → clock_form.Fits (record { epoch = epoch; clock = max s.holder.clock time }) → s.holder.kept ≤ s.holder.clock → AreNotesOf s epoch notes
       → AreNotesOf (state_deed s (Decides (record { ts = time; trans = t }) js)) epoch (noted (decision_name.spell t) (Some (decision_form.spell d)) (noted clock_name (Some (clock_form.spell (record { epoch = epoch; clock = max s.holder.clock time }))) notes))
-  put_notes d epoch notes named fits far own kept clocked h =
+  put_notes d epoch notes named fits far own kept clocked order h =
       let mid : Notes = noted clock_name (Some (clock_form.spell (record { epoch = epoch; clock = max s.holder.clock time }))) notes in
-      let first : AreNotesOf alone epoch mid = decided_notes s stamp l voted here live epoch notes clocked h in
+      let first : AreNotesOf alone epoch mid = decided_notes s stamp l voted here live epoch notes clocked order h in
       let part : JoinNo → Option ReadyPart → Type 0 = λ j. IsReadyNote alone.holder.lives (alone.phases j) in
       let before : Keeps alone.holder.server s.servers (record { epoch = epoch; clock = alone.holder.kept }) part (λ u. decision_kept (alone.fates u)) mid =
       record { clock = first.clock; ready = first.ready; decided = first.decided; format = first.format } in
@@ -122,8 +123,34 @@ module _ (s : State) (t : TransId) (time : ℕ) (js : List JoinNo) (l : Life) (v
       put_decision alone.holder.server s.servers (record { epoch = epoch; clock = alone.holder.kept }) part (λ u. decision_kept (alone.fates u)) mid before (λ u. decision_kept (then.fates u)) t named other_same d fits (own ∙ sym (same_server (s.holder.lives t)))
       (subst (λ (n : ℕ). list_all (λ (j : JoinNo). is_another n s.servers j.server) d.joins ≡ true) (sym (same_server (s.holder.lives t))) far)
       (ap (λ (b : Bool). decision_kept (cond {A = Fate} b (decided stamp js (s.fates t)) (s.fates t))) (same_trans-itself t) ∙ kept) in
-      record { clock = k.clock; ready = k.ready; decided = k.decided; fit = first.fit; fit_decided = fit_now first; format = k.format }
+      record { clock = k.clock; ready = k.ready; decided = k.decided; fit = first.fit; fit_decided = fit_now first; timely = λ u x is. timely_now order h u x (same_trans t u) is; format = k.format }
     where
+      -- a decision that is made has its own time
+      time_of : (f : Fate) (x : Decision) → decision_kept (decided stamp js f) ≡ Some x → (x.ts ≡ time) ⊎ (decision_kept f ≡ Some x)
+      time_of Undrawn x is = inr is
+      time_of (Running client ks) x is = inr is
+      time_of (Finishing client ks vs) x is = made js is
+        where
+          made : (zs : List JoinNo) → decision_kept (Committed stamp zs []) ≡ Some x → (x.ts ≡ time) ⊎ (decision_kept (Finishing client ks vs) ≡ Some x)
+          made [] e = let wrong : None ≡ Some x = e in cc
+          made (z ∷ zs) e = inl (ap (λ (y : Decision). y.ts) (sym (same-some (record { ts = time; joins = z ∷ zs }) x e)))
+      time_of (Committed s ks ds) x is = inr is
+      time_of (Forgotten s ks) x is = inr is
+      time_of (Ended c) x is = inr is
+
+      timely_now : s.holder.kept ≤ s.holder.clock → AreNotesOf s epoch notes → (u : TransId) (x : Decision) (b : Bool) → decision_kept (cond {A = Fate} b (decided stamp js (s.fates u)) (s.fates u)) ≡ Some x → x.ts ≤ (commits s.holder stamp (s.holder.lives t)).kept
+      timely_now low was u x b is = subst (λ (o : Option Life). x.ts ≤ (commits s.holder stamp o).kept) (sym live) (go b is)
+        where
+          old : decision_kept (s.fates u) ≡ Some x → x.ts ≤ max s.holder.clock time
+          old e = (let early : x.ts ≤ s.holder.kept = was.timely u x e in omega (arith, early, low))
+
+          go : (b : Bool) → decision_kept (cond {A = Fate} b (decided stamp js (s.fates u)) (s.fates u)) ≡ Some x → x.ts ≤ max s.holder.clock time
+          go true e = elim (time_of (s.fates u) x e) [
+            | inl same ↦ omega (arith, same)
+            | inr before ↦ old before
+          ]
+          go false e = old e
+
       fit_now : AreNotesOf alone epoch (noted clock_name (Some (clock_form.spell (record { epoch = epoch; clock = max s.holder.clock time }))) notes) → (u : TransId) → is_some (decision_kept (then.fates u)) ≡ true → decision_name.Fits u
       fit_now first u is = go (same_trans t u) refl
         where

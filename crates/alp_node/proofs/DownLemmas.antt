@@ -8,8 +8,8 @@ use Rattle.alp_base.specs.declared.faults.Sizes.{Sizes}
 use Rattle.alp_fields.specs.ClockNote.{clock_form, clock_kept}
 use Rattle.alp_fields.specs.declared.clock_note.ClockNote.{ClockNote}
 use Rattle.alp_vault.specs.Contents.{Contents}
-use Rattle.alp_vault.specs.Vault.{IsServer, IsOneOf, IsSameVault}
-use Rattle.alp_vault.specs.Volumes.{AreServerNotes, IsVolumeOf}
+use Rattle.alp_vault.specs.Vault.{IsOneOf, IsSameVault}
+use Rattle.alp_vault.specs.Volumes.{IsVolumeOf}
 use Rattle.alp_vault.specs.declared.vault.Vault.{Ghosts}
 use Rattle.alp_journal.specs.declared.entry.Entry.{Entry}
 use Rattle.alp_journal.specs.declared.event.Event.TheVariants as event
@@ -20,7 +20,7 @@ use Rattle.alp_journal.specs.Laws.{IsLawful, IsLawfulEntry}
 use Rattle.alp_journal.specs.Answered.{IsAnswered, IsAnsweredSo, IsAnsweredEntry, FitsJournal}
 use Rattle.alp_journal.specs.Account.{Account, state_of as account_state, Leads}
 use Rattle.alp_journal.specs.Restarts.{restart_entry, restarted_at}
-use Rattle.alp_regain.specs.Together.{clock_before, AreNotesTogether}
+use Rattle.alp_regain.specs.Together.{clock_before, AreNotesTogether, AreTogether}
 use Rattle.alp_node.specs.DownStates.{DownState}
 use Rattle.alp_node.specs.NodeStates.{NodeState}
 use Rattle.alp_node.specs.Durable.{IsStoredBy}
@@ -38,11 +38,14 @@ use Rattle.alp_node.proofs.ClockLaws.{time_fits}
 use Rattle.alp_node.proofs.FoundAs.{IsTold, found_as}
 use Rattle.alp_node.proofs.FoundReady.{found_kept, found_ready, raised_noted}
 use Rattle.alp_node.proofs.NodeLemmas.{state_after-push, Along-push, sent_pushed, up_durable}
-use Rattle.alp_node.proofs.NoteLemmas.{raised_stored, alone_apart}
+use Rattle.alp_node.proofs.NoteLemmas.{raised_stored}
 use Rattle.alp_node.proofs.PastLemmas.{IsFoundAs, past_of, found_before, found_then}
 use Rattle.alp_node.proofs.RestartTold.{clock_found, found_leads, found_told}
 use Rattle.alp_node.proofs.StartLemmas.{before_less}
 use Rattle.alp_node.proofs.StartMade.{put_back}
+use Rattle.alp_node.specs.SoundLives.{HasSoundLives}
+use Rattle.alp_node.proofs.SoundLives.{journal_sound}
+use Rattle.alp_node.proofs.TriedVotes.{TriesInRoom, room_tried}
 
 -- ---- a server falls
 
@@ -62,7 +65,9 @@ module _ {V : Type 0} (G : Ghosts V) (n : NodeState V) (v : V) (h : IsConsistent
         caused = r.caused;
         state = r.state;
         says = r.says;
-        past = past_of r.state (G.held n.kept.vault) n.kept (G.volume v) r.kept (h.sizes ∙ sym same.sizes);
+        past = past_of r.state (G.held n.kept.vault) n.kept (G.volume v) r.kept (h.sizes ∙ sym same.sizes) (length n.journal) (G.serves n.kept.vault) h.ready
+            (subst (λ (s : State). HasSoundLives s.holder) r.says (journal_sound (opened (start_in G n)) n.journal r.lawful r.opening.parts))
+            (subst TriesInRoom r.says (room_tried (start_in G n) n.journal r.lawful r.caused));
       }
 
   here_last : IsRight (start_in G n) (G.held n.kept.vault) n → (state_of (start_in G n) n.journal).ids.epoch < 2 ^ 32
@@ -137,12 +142,6 @@ known_as : (a : Account) (server servers epoch : ℕ) (sizes : Sizes) → IsPast
 known_as a server servers epoch sizes past c l = ⊎_elim
     (λ e. record { state = account_state a; it = found_before a server servers epoch sizes past; near = l.epoch; stored = e })
     (λ e. record { state = state_then (account_state a); it = found_then a server servers epoch sizes past; near = l.epoch; stored = e }) l.either
-
--- its notes are in the format of the server
-known_format : (a : Account) (server servers epoch : ℕ) (sizes : Sizes) → IsPast a server servers epoch sizes → (c : Contents) → IsKnownAs a c → AreServerNotes server servers c.notes
-known_format a server servers epoch sizes past c k =
-    subst (λ (n : ℕ). AreServerNotes n servers c.notes) (k.it.last.number ∙ k.it.so.number ∙ past.number)
-    (subst (λ (n : ℕ). AreServerNotes k.state.holder.server n c.notes) (k.it.last.among ∙ k.it.so.among ∙ past.among) k.stored.notes.format)
 
 module _ {V : Type 0} (G : Ghosts V) (d : DownState V) (n : NodeState V) (clock : ClockNote) (f : Found) (h : IsFallen G d) (b : HasBegunEpoch G d.server d.servers d.epoch d.vault n.kept.vault clock f) (s : HasBegun (G.volume n.kept.vault) d.server d.servers clock f n.kept.vault n.kept)
     (opening : n.opening ≡ d.opening) (journal : n.journal ≡ d.journal ++ entry_again clock f.ready f.decided ∷ []) where
@@ -220,7 +219,7 @@ module _ {V : Type 0} (G : Ghosts V) (d : DownState V) (n : NodeState V) (clock 
       let told_of : IsTold (G.tells d.vault) d.server d.servers area (G.volume d.vault) clock.epoch clock.clock b.found.cells notes b.alone later f.lives f.locks f.joins f.coordinator b.finds.found m =
       found_told a d.server d.servers d.epoch (G.volume d.vault) r.past h.raised k.state k.it k.near b.found k.stored clock.epoch area epoch_next b.alone later (G.tells d.vault) f.lives f.locks f.joins f.coordinator b.finds.found sound clock.clock time_is in
       let kept : IsAs m (G.held v) n.kept = subst (IsAs m (G.held v)) (sym kept_is)
-      (found_as (G.tells d.vault) d.server d.servers area (G.volume d.vault) clock.epoch clock.clock b.found.cells notes b.alone later f.lives f.locks f.joins f.coordinator b.finds.found m told_of n.kept (G.held v) told fits cells_now b.notes g.together.room) in
+      (found_as (G.tells d.vault) d.server d.servers area (G.volume d.vault) clock.epoch clock.clock b.found.cells notes b.alone later f.lives f.locks f.joins f.coordinator b.finds.found m told_of n.kept (G.held v) told fits (omega (arith, time_is)) cells_now b.notes g.together.room) in
       subst (λ (x : Start). IsRight x (G.held v) n) same_start (record {
         opening = r.opening;
         lawful = subst (IsLawful o) (sym journal) (Along-push next IsLawfulEntry (opened o) d.journal e r.lawful (subst (λ (z : State). IsLawfulEntry z e) (sym r.says) leads.lawful));
@@ -275,6 +274,21 @@ module _ {V : Type 0} (G : Ghosts V) (d : DownState V) (n : NodeState V) (clock 
     crash = b.crash;
   }
 
+-- what a crash leaves goes together
+left_together : (a : Account) (server servers last : ℕ) (sizes : Sizes) → IsPast a server servers last sizes → (c : Contents) → IsLeftOf (account_state a) c → (here all : ℕ) → here ≡ server → all ≡ servers → AreTogether here all (last + 1) sizes c.cells c.notes
+left_together a server servers last sizes past c left here all is of_all =
+    subst (λ (n : ℕ). AreTogether n all (last + 1) sizes c.cells c.notes) (past.number ∙ sym is)
+    (subst (λ (n : ℕ). AreTogether a.holder.server n (last + 1) sizes c.cells c.notes) (past.among ∙ sym of_all)
+    (subst (λ (n : ℕ). AreTogether a.holder.server a.servers (n + 1) sizes c.cells c.notes) past.now
+    (subst (λ (z : Sizes). AreTogether a.holder.server a.servers (a.ids.epoch + 1) z c.cells c.notes) past.volume (past.together left.epoch c late left.either))))
+  where
+    late : a.ids.epoch ≤ left.epoch
+    late = go left.near
+      where
+        go : (left.epoch ≡ a.ids.epoch) ⊎ (left.epoch ≡ a.ids.epoch + 1) → a.ids.epoch ≤ left.epoch
+        go (inl same) = omega (arith, same)
+        go (inr next) = omega (arith, next)
+
 -- a vault that is handed back may be left with no more
 handed_no_more : {V : Type 0} (G : Ghosts V) (old new : V) (P : Contents → Type 0) → IsHandedBack G old new P → IsTrue (G.tells old) → NoMore P (G.may_leave new)
 handed_no_more G old new P h told c here = (h.crash told).crash c (before h.back)
@@ -311,8 +325,8 @@ module _ {V : Type 0} (G : Ghosts V) (d : DownState V) (new : V) (journal : List
     left = λ told. (let before : IsTrue (G.tells d.vault) = subst IsTrue b.same.telling told in still_left G d new h before (handed_no_more G d.vault new (IsLeftOrRaised G d.server d.servers d.epoch d.vault) b.back before));
   })
 
-  pub still_down : (d.epoch ≡ 4294967295 → f ≡ start_fault.EpochEnd) → IsServer (G.server d.vault) (G.servers d.vault) → 64 ≤ (G.volume d.vault).area → IsStillDown G d then_down f
-  still_down end seat least = record {
+  pub still_down : (d.epoch ≡ 4294967295 → f ≡ start_fault.EpochEnd) → IsStillDown G d then_down f
+  still_down end = record {
     opening = refl;
     journal = is;
     server = refl;
@@ -321,13 +335,11 @@ module _ {V : Type 0} (G : Ghosts V) (d : DownState V) (new : V) (journal : List
     same = b.same;
     cause = b.cause;
     end = end;
-    sound = λ one told e. (
+    sound = λ told e. (
         let r : IsPastRight (start_of G d) (G.volume d.vault) d = h.right told in
         let bad = (subst (HasRaiseCause G d.epoch d.vault new) e b.cause).1 told in
         let left : IsLeftOf (account_state r.state) bad.0 = subst (λ (z : State). IsLeftOf z bad.0) r.says (h.left told bad.0 bad.1) in
-        let format : AreServerNotes d.server d.servers bad.0.notes = known_format r.state d.server d.servers d.epoch (G.volume d.vault) r.past bad.0 (known_as r.state d.server d.servers d.epoch (G.volume d.vault) r.past bad.0 left) in
-        alone_apart (G.tells d.vault) (G.server d.vault) (G.servers d.vault) (d.epoch + 1) (G.volume d.vault) bad.0 seat (h.all ∙ one) least
-        (subst (λ (n : ℕ). AreServerNotes n (G.servers d.vault) bad.0.notes) (sym h.number) (subst (λ (n : ℕ). AreServerNotes d.server n bad.0.notes) (sym h.all) format)) bad.2
+        bad.2.told told (left_together r.state d.server d.servers d.epoch (G.volume d.vault) r.past bad.0 left (G.server d.vault) (G.servers d.vault) h.number h.all)
         );
     back = b.back;
   }

@@ -2,7 +2,7 @@
 use Rattle.std.specs.Prelude.{cond, Bool, true, false, ◌==◌, IsTrue, Option, None, Some, is_some}
 use Rattle.std.specs.List.{AllByRecursion}
 use Rattle.std.specs.FinMap as map
-use Rattle.std.proofs.Common.{◌≡◌, ◌⊎◌, inl, inr, ℕ, ◌<◌, ◌≤◌, List, [], ◌∷◌, length, refl, sym, ◌∙◌, ap, subst}
+use Rattle.std.proofs.Common.{◌≡◌, ◌⊎◌, inl, inr, ℕ, ◌<◌, ◌≤◌, List, [], ◌∷◌, length, refl, sym, ◌∙◌, ap, subst, arith}
 use Rattle.std.proofs.lemmas.Bool.{eqb-true}
 use Rattle.alp_base.specs.Notes.{Notes, noted}
 use Rattle.alp_base.specs.declared.faults.Sizes.{Sizes}
@@ -63,6 +63,7 @@ use Rattle.alp_node.proofs.FoundNotes.{Has, differ, IsReadyAt, ready_stands, rea
 use Rattle.alp_node.proofs.FoundReady.{found_kept, known_is, none_held, note_held}
 use Rattle.alp_node.proofs.PastIds.{unsaid}
 use Rattle.alp_node.proofs.StartLemmas.{no_session}
+use Rattle.alp_node.proofs.FoundStart.{decided_time}
 
 -- ---- what is left of a part that voted, and of a transaction
 
@@ -288,9 +289,17 @@ module _ (tells : Bool) (server servers area : ℕ) (sizes : Sizes) (epoch clock
     epoch_is : m.ids.epoch ≡ epoch
     epoch_is = ap (λ (i : Ids). i.epoch) q.ids_is
 
+    -- a decision that stands was found, and is no later than the clock
+    decided_early : (clock_kept notes).clock ≤ clock → (u : TransId) (d : Decision) → decision_kept (m.fates u) ≡ Some d → d.ts ≤ m.holder.kept
+    decided_early low u d is =
+        let fits : decision_name.Fits u = q.fit_decided u (ap is_some is) in
+        let has : Has (record { stamp = record { ts = d.ts; trans = u }; joins = d.joins }) (decisions_kept notes) = decision_has notes u d fits (q.decided u fits ∙ is) in
+        let early : d.ts ≤ (clock_kept notes).clock = decided_time server servers area sizes epoch clock cells notes h later (record { stamp = record { ts = d.ts; trans = u }; joins = d.joins }) has in
+        omega (arith, early, low, q.kept_is)
+
     -- the notes with the clock raised
-    raised_told : clock_form.Fits (record { epoch = epoch; clock = clock }) → AreNotesOf (state_of m) m.ids.epoch (noted clock_name (Some (clock_form.spell (record { epoch = epoch; clock = clock }))) notes)
-    raised_told fits =
+    raised_told : clock_form.Fits (record { epoch = epoch; clock = clock }) → (clock_kept notes).clock ≤ clock → AreNotesOf (state_of m) m.ids.epoch (noted clock_name (Some (clock_form.spell (record { epoch = epoch; clock = clock }))) notes)
+    raised_told fits low =
         let now : ClockNote = record { epoch = epoch; clock = clock } in
         let s : Keeps server servers now (λ j. IsReadyNote m.holder.lives (m.phases j)) (λ u. decision_kept (m.fates u)) (noted clock_name (Some (clock_form.spell now)) notes) =
         put_clock server servers (clock_kept notes) (λ j. IsReadyNote m.holder.lives (m.phases j)) (λ u. decision_kept (m.fates u)) notes (record { clock = refl; ready = q.ready; decided = q.decided; format = h.format }) now fits in
@@ -300,14 +309,15 @@ module _ (tells : Bool) (server servers area : ℕ) (sizes : Sizes) (epoch clock
           decided = s.decided;
           fit = q.fit;
           fit_decided = q.fit_decided;
+          timely = λ u d is. decided_early low u d is;
           format = subst (λ (n : ℕ). AreServerNotes n m.servers (noted clock_name (Some (clock_form.spell now)) notes)) (sym q.server_is)
               (subst (λ (n : ℕ). AreServerNotes server n (noted clock_name (Some (clock_form.spell now)) notes)) (sym q.servers_is) s.format);
         }
 
-    pub found_as : {V : Type 0} (old : ServerState V) (held : Contents) → IsTrue tells → clock_form.Fits (record { epoch = epoch; clock = clock }) → held.cells ≡ cells
+    pub found_as : {V : Type 0} (old : ServerState V) (held : Contents) → IsTrue tells → clock_form.Fits (record { epoch = epoch; clock = clock }) → (clock_kept notes).clock ≤ clock → held.cells ≡ cells
         → held.notes ≡ noted clock_name (Some (clock_form.spell (record { epoch = epoch; clock = clock }))) notes → HaveRoomTogether sizes cells (ready_kept notes)
         → IsAs m held (found_kept tells server servers area sizes epoch clock cells notes h later l t k c f old)
-    found_as old held tell fits cells_are notes_are room = record {
+    found_as old held tell fits low cells_are notes_are room = record {
       server = q.server_is;
       servers = q.servers_is;
       sizes = q.sizes_is;
@@ -315,7 +325,7 @@ module _ (tells : Bool) (server servers area : ℕ) (sizes : Sizes) (epoch clock
       clock = q.clock_is;
       cells = λ _. cells_are ∙ sym q.cells_is;
       sized = q.sized;
-      notes = λ _. subst (AreNotesOf (state_of m) m.ids.epoch) (sym notes_are) (raised_told fits);
+      notes = λ _. subst (AreNotesOf (state_of m) m.ids.epoch) (sym notes_are) (raised_told fits low);
       places = refl;
       sessions = λ client. q.sessions client ∙ sym (no_session client);
       dead = q.dead;

@@ -84,12 +84,12 @@ use Rattle.alp_regain.specs.declared.part.RegainedPart.{RegainedPart}
 use Rattle.alp_regain.proofs.OwnerLemmas.{joins_apart}
 use Rattle.alp_regain.proofs.RoomLemmas.{each_fits}
 use Rattle.alp_node.specs.Found.{live_of, lives_of, IsFoundIn}
-use Rattle.alp_node.specs.Asks.{is_given}
+use Rattle.alp_node.specs.Asks.{is_given, IsTidyHeld}
 use Rattle.alp_node.specs.Noted.{AreNoted, IsNotedJoin, IsNoteOf, HasSize, decision_kept, size_in, ready_room, size_of as size_of_live}
 use Rattle.alp_node.specs.Paired.{ArePaired, IsPairedWith, IsItsJoin}
 use Rattle.alp_node.specs.Rooms.{IsWithin}
 use Rattle.alp_node.specs.ServerState.{AreJoinsHere, IsReady}
-use Rattle.alp_node.specs.Sessions.{no_sessions, session_at}
+use Rattle.alp_node.specs.Sessions.{no_sessions, session_at, IsClient}
 use Rattle.alp_node.specs.Totals.{LiveMap}
 use Rattle.alp_node.specs.Transactions.{AreDecidedBy}
 use Rattle.alp_node.specs.Waits.{IsOfCalls}
@@ -105,6 +105,7 @@ use Rattle.alp_node.proofs.LogLemmas.{notes_few, small_room}
 use Rattle.alp_node.proofs.MapLemmas.{tied_same}
 use Rattle.alp_node.proofs.StartLemmas.{no_session}
 use Rattle.alp_node.proofs.TransactionLemmas.{count_told}
+use Rattle.alp_node.proofs.HeldHere.{tidy_same, tidy_none, tidy_needs, tidy_noted}
 
 -- ---- lists
 
@@ -442,6 +443,17 @@ module _ (tells : Bool) (server servers area : ℕ) (sizes : Sizes) (epoch clock
           ∙ note_held q.note q.has (Whole (record { server = server; epoch = epoch; counter = n }))
           ∙ none_locked_on server (clock_before epoch notes).epoch epoch n later q.note.locks (part_of_note server servers area sizes epoch clock cells notes h later q.note q.has).locked
 
+  held_tidy : (u : TransId) → IsTidyHeld server epoch (holding t.held u)
+  held_tidy u = go (map.get l u) refl
+    where
+      go : (x : Option Live) → map.get l u ≡ x → IsTidyHeld server epoch (holding t.held u)
+      go None is = tidy_none server epoch (holding t.held u) (none_held u is)
+      go (Some x) is =
+          let q : IsFoundLive tells cells server (clock_before epoch notes).epoch (ready_kept notes) u x = lives_are u x is in
+          let p : IsPartNote server (clock_before epoch notes).epoch q.note = part_of_note server servers area sizes epoch clock cells notes h later q.note q.has in
+          tidy_same server epoch (held_by q.note.locks) (holding t.held u) (λ r. ap (λ (v : TransId). holding t.held v r) (sym q.trans) ∙ note_held q.note q.has r)
+          (tidy_needs server epoch q.note.locks (tidy_noted server epoch (clock_before epoch notes).epoch (omega (arith, later)) q.note.locks p.modes p.locked))
+
   known_live : (u : TransId) (x : Live) → map.get l u ≡ Some x → is_some (map.get t.held u) ≡ true
   known_live u x is =
       let q : IsFoundLive tells cells server (clock_before epoch notes).epoch (ready_kept notes) u x = lives_are u x is in
@@ -490,6 +502,10 @@ module _ (tells : Bool) (server servers area : ℕ) (sizes : Sizes) (epoch clock
           (λ i. is_drawn (joins_are.server i) (joins_are.current i) (joins_are.count i) j.server j.epoch j.counter) ∙ ap (λ (y : JoinNo). is_drawn server epoch 0 y.server y.epoch y.counter) (sym n.of)
           ∙ join_drawn server servers area sizes epoch clock cells notes h later n.note n.has
           );
+      clients = λ j x is. (
+          let n : IsOfNote j x = join_noted j x is in
+          subst (λ (y : LiveJoin). IsClient y.client) (sym n.is) (part_of_note server servers area sizes epoch clock cells notes h later n.note n.has).client
+          );
       once = joins_are.once;
       single = joins_are.single;
       times = λ j x ts is voted. (
@@ -518,7 +534,7 @@ module _ (tells : Bool) (server servers area : ℕ) (sizes : Sizes) (epoch clock
     clock = within;
     raised = omega (arith, later);
     last = last;
-    unheld = λ u n high. unheld u n;
+    unheld = λ u. (record { unmade = λ n high. unheld u n; tidy = held_tidy u });
   }
     where
       le_zero : {n : ℕ} (m : ℕ) → n ≡ 0 → n ≤ m

@@ -47,6 +47,7 @@ use Rattle.alp_node.specs.Durable.{IsKeptOf, IsKeptIf, IsReadyNote, AreNotesOf}
 use Rattle.alp_node.specs.Noted.{decision_kept}
 use Rattle.alp_node.proofs.FoundNotes.{Has, each_has, all_has, IsReadyAt, ready_stands, ready_has, IsDecisionAt, decision_stands, decision_has, IsPhaseNoted, phase_or, IsLifeNoted, life_or, IsFateNoted, fate_or, phase_of, life_of, fate_of, ready_apart, decided_apart}
 use Rattle.alp_node.proofs.MapLemmas.{tied_same}
+use Rattle.alp_node.proofs.EditsNoted.{change_length}
 
 -- ---- ids
 
@@ -195,7 +196,8 @@ module _ (server servers area : ℕ) (sizes : Sizes) (epoch clock : ℕ) (cells 
   ready_said : (j : JoinNo) → ready_name.Fits j → (x : Option NotedPart) → ready_at notes j ≡ x → IsReadyNote (lives_noted (ready_kept notes)) (phase_noted (ready_kept notes) j) x
   ready_said j fits (Some p) is =
       let has : Has (part_note (j, p)) (ready_kept notes) = ready_has notes j p fits is in
-      let kept : IsKeptOf (early_life (part_note (j, p))) p = record { held = λ r. refl; intents = refl } in
+      let kept : IsKeptOf (early_life (part_note (j, p))) p =
+      (let its : IsPartNote server (clock_before epoch notes).epoch (part_note (j, p)) = part_of_note (part_note (j, p)) has in record { held = λ r. refl; intents = refl; once = its.once.locks; cells = sym (change_length p.change) ∙ its.once.edits }) in
       subst (λ (q : Phase). IsReadyNote (lives_noted (ready_kept notes)) q (Some p)) (sym (phase_of notes (part_note (j, p)) has))
       (refl, refl, refl, subst (λ (y : Option Life). IsKeptIf y p) (sym (life_of (ready_kept notes) h.apart (part_note (j, p)) has)) kept)
   ready_said j fits None is = go (phase_or (ready_kept notes) j)
@@ -249,14 +251,6 @@ module _ (server servers area : ℕ) (sizes : Sizes) (epoch clock : ℕ) (cells 
       go : (fate_noted (decisions_kept notes) t ≡ Undrawn) ⊎ IsFateNoted (decisions_kept notes) t (fate_noted (decisions_kept notes) t) → decision_name.Fits t
       go (inl none) = let wrong : false ≡ true = sym (ap (λ (f : Fate). is_some (decision_kept f)) none) ∙ is in cc
       go (inr x) = subst decision_name.Fits x.of (decision_stands notes x.note x.has).named
-
-  -- with the clock raised they say the opening
-  pub opening_noted : clock_form.Fits (record { epoch = epoch; clock = clock }) → AreNotesOf (state_of (opened_on opening)) epoch (noted clock_name (Some (clock_form.spell (record { epoch = epoch; clock = clock }))) notes)
-  opening_noted fits =
-      let now : ClockNote = record { epoch = epoch; clock = clock } in
-      let k : Keeps server servers now (λ j. IsReadyNote (lives_noted (ready_kept notes)) (phase_noted (ready_kept notes) j)) (λ t. decision_kept (fate_noted (decisions_kept notes) t)) (noted clock_name (Some (clock_form.spell now)) notes) =
-      put_clock server servers (clock_kept notes) (λ j. IsReadyNote (lives_noted (ready_kept notes)) (phase_noted (ready_kept notes) j)) (λ t. decision_kept (fate_noted (decisions_kept notes) t)) notes opening_keeps now fits in
-      record { clock = k.clock; ready = k.ready; decided = k.decided; fit = opening_fits; fit_decided = opening_decided_fits; format = k.format }
 
   -- times of votes
   pub vote_time : (n : ReadyNote) → Has n (ready_kept notes) → n.ts ≤ 2 ^ 62

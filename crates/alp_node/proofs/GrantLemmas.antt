@@ -37,7 +37,7 @@ use Rattle.alp_journal.specs.Moves.{is_of_no_file}
 use Rattle.alp_journal.specs.Moves as journal
 use Rattle.alp_journal.specs.Account.{Account, state_of}
 use Rattle.alp_coord.specs.Coordinators.{count_of}
-use Rattle.alp_node.specs.Asks.{is_of_given, is_given, IsGivenOn, AreGiven, asks_made, asks_given, makes_file, is_made, plan_if, plan_for, count_made, plan_of, with_plan}
+use Rattle.alp_node.specs.Asks.{is_of_given, is_given, IsTidyHeld, IsGivenOn, AreGiven, asks_made, asks_given, makes_file, is_made, plan_if, plan_for, count_made, plan_of, with_plan}
 use Rattle.alp_node.specs.Calls.{next_file}
 use Rattle.alp_node.specs.ServerState.{IsAs, IsReady}
 use Rattle.alp_node.specs.Waits.{AreWaiting}
@@ -48,6 +48,7 @@ use Rattle.alp_node.proofs.LockLemmas.{itself, write_covers}
 use Rattle.alp_node.proofs.OpenLemmas.{opens_later}
 use Rattle.alp_node.proofs.ReadyLemmas.{numbered}
 use Rattle.alp_node.proofs.WaitLemmas.{waiting_later}
+use Rattle.alp_node.proofs.HeldHere.{tidy_same, tidy_if}
 
 -- ---- what is kept
 
@@ -79,7 +80,7 @@ pub free_given : {V : Type 0} (m : ℕ) (serves : Bool) (k : ServerState V) (t :
 free_given m serves k t c ns r h free = go (is_made r && makes_file c)
   where
     go : (b : Bool) → blocker k.locks.held t (plan_of k.locks t (cond {A = List Need} b (asks_made (next_file k) ns) ns)).rises ≡ None
-    go true = made_free k.locks.held t (next_file k) ns h.sound.agreeing (λ u. h.unheld u (k.given + 1) (omega arith)) free
+    go true = made_free k.locks.held t (next_file k) ns h.sound.agreeing (λ u. (h.unheld u).unmade (k.given + 1) (omega arith)) free
     go false = free
 
 -- what is kept is what was asked, with the lock of a new file
@@ -146,7 +147,7 @@ module _ (server epoch count n : ℕ) where
   asked_below (x ∷ ns) given high = go (eq_by_cmp resource_cmp beyond x.0) refl (asked_below ns given.1 high)
     where
       go : (b : Bool) → eq_by_cmp resource_cmp beyond x.0 ≡ b → held_by ns beyond ≡ None → cond {A = Option Mode} b (join_held (Some x.1) (held_by ns beyond)) (held_by ns beyond) ≡ None
-      go true e rest = absurd (none_of_given server epoch count n high (subst (IsGivenOn server epoch count) (sym (same_resource beyond x.0 e)) given.0))
+      go true e rest = absurd (none_of_given server epoch count n high (subst (λ (r : Resource). IsGivenOn server epoch count r x.1) (sym (same_resource beyond x.0 e)) given.0))
       go false e rest = rest
 
   -- no file beyond the count is among what is kept
@@ -177,8 +178,8 @@ joined_none false x y e f = e
 
 -- with a plan taken that nobody stood in the way of, and a count that grew by one at most
 pub granted_ready : {V : Type 0} (m : ℕ) (serves : Bool) (k : ServerState V) (w : Waiter) (count : ℕ) → k.given ≤ count → count ≤ m → IsPrepared k.locks.held w → blocker k.locks.held w.trans w.rises ≡ None → waits k.locks.waiting w.trans ≡ false
-    → ((n : ℕ) → count < n → held_by w.needs (numbered k n) ≡ None) → IsReady m serves k → IsReady m serves (record k { given = count; locks = with_plan k.locks w })
-granted_ready m serves k w count more low prepared free idle others h = record {
+    → ((n : ℕ) → count < n → held_by w.needs (numbered k n) ≡ None) → IsTidyHeld k.server k.epoch (held_by w.needs) → IsReady m serves k → IsReady m serves (record k { given = count; locks = with_plan k.locks w })
+granted_ready m serves k w count more low prepared free idle others tidy h = record {
   serving = h.serving;
   halted = h.halted;
   sound = grant-sound k.locks w prepared h.sound free idle;
@@ -206,6 +207,10 @@ granted_ready m serves k w count more low prepared free idle others h = record {
   last = h.last;
   seat = h.seat;
   times = h.times;
-  unheld = λ u n high. all-of-plan k.locks w u (numbered k n) prepared
-      ∙ joined_none (eq_by_cmp trans_cmp u w.trans) (holding k.locks.held u (numbered k n)) (held_by w.needs (numbered k n)) (h.unheld u n (omega (arith, more, high))) (others n high);
+  unheld = λ u. (record {
+    unmade = λ n high. all-of-plan k.locks w u (numbered k n) prepared
+        ∙ joined_none (eq_by_cmp trans_cmp u w.trans) (holding k.locks.held u (numbered k n)) (held_by w.needs (numbered k n)) ((h.unheld u).unmade n (omega (arith, more, high))) (others n high);
+    tidy = tidy_same k.server k.epoch (λ r. cond {A = Option Mode} (eq_by_cmp trans_cmp u w.trans) (join_held (holding k.locks.held u r) (held_by w.needs r)) (holding k.locks.held u r)) (holding (with_plan k.locks w).held u) (λ r. all-of-plan k.locks w u r prepared)
+        (tidy_if k.server k.epoch (eq_by_cmp trans_cmp u w.trans) (holding k.locks.held u) (held_by w.needs) (h.unheld u).tidy tidy);
+  });
 }

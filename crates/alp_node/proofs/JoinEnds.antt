@@ -81,6 +81,7 @@ module _ {V : Type 0} (n : ℕ) (serves : Bool) (k : ServerState V) (j : JoinNo)
     epoch = h.joins.epoch;
     drawn = h.joins.drawn;
     numbered = λ i x at. h.joins.numbered i x (still i x at);
+    clients = λ i x at. h.joins.clients i x (still i x at);
     once = once_filter (λ l. not (is_at j l && p l)) k.joins.lives h.joins.once;
     single = single_filter (λ l. not (is_at j l && p l)) k.joins.lives h.joins.single;
     times = λ i x ts at voted. h.joins.times i x ts (still i x at) voted;

@@ -57,7 +57,7 @@ use Rattle.alp_calls.proofs.CountLaws.{counts_begin}
 use Rattle.std.specs.Option.{option_map}
 use Rattle.std.proofs.lemmas.Bool.{or_parts}
 use Rattle.alp_node.specs.Arrivals.{join_of}
-use Rattle.alp_node.specs.Asks.{is_given}
+use Rattle.alp_node.specs.Asks.{is_given, IsHeldHere}
 use Rattle.alp_ready.specs.NoteLooks.{ready_at}
 use Rattle.alp_node.specs.Noted.{AreNoted, IsNotedAs, IsNotedJoin, HasReadyRoom, ready_room, size_in}
 use Rattle.alp_node.specs.Paired.{is_in, ArePaired}
@@ -73,6 +73,8 @@ use Rattle.alp_node.specs.declared.server_state.ServerState.{ServerState}
 use Rattle.alp_node.specs.declared.waits.WaitingCall.{WaitingCall}
 use Rattle.alp_node.specs.declared.lock_counts.LockCounts.{LockCounts}
 use Rattle.alp_node.proofs.BesideLemmas.{AreNamed, AreOthers, file_named, others_told, queue_beside, asked_beside}
+use Rattle.alp_node.proofs.HeldHere.{same_here}
+use Rattle.alp_node.specs.Sessions.{IsClient}
 use Rattle.alp_node.proofs.KeptLemmas.{alike_set, each_set, none_held}
 use Rattle.alp_node.proofs.TotalLemmas.{added_room}
 use Rattle.alp_node.proofs.WithinLemmas.{new_within}
@@ -196,6 +198,7 @@ module _ {V : Type 0} (k : ServerState V) (j : JoinNo) (t : TransId) (y : LiveJo
       epoch = h.joins.epoch;
       drawn = h.joins.drawn;
       numbered = λ i x at. (let w = was_staged j (stage_after step.Enter) k.joins.lives i x at in h.joins.numbered i w.was w.there);
+      clients = λ i x at. (let w = was_staged j (stage_after step.Enter) k.joins.lives i x at in subst (λ (n : ℕ). IsClient n) (sym (staged_client j (stage_after step.Enter) w.was) ∙ ap (λ (z : LiveJoin). z.client) (sym w.now)) (h.joins.clients i w.was w.there));
       once = once_staged j (stage_after step.Enter) k.joins.lives h.joins.once;
       single = single_staged j (stage_after step.Enter) k.joins.lives h.joins.single;
       times = λ i x ts at voted. (let w = was_staged j (stage_after step.Enter) k.joins.lives i x at in h.joins.times i w.was ts w.there (staged_voted j w.was ts (ap (λ (z : LiveJoin). z.stage) (sym w.now) ∙ voted)));
@@ -278,7 +281,7 @@ module _ {V : Type 0} (k : ServerState V) (j : JoinNo) (t : TransId) (y : LiveJo
       };
       known = known_then;
       seat = h.seat;
-      joins = record { server = joins_then.server; epoch = joins_then.epoch; drawn = (let low : (with_entered k.joins j).drawn ≤ n = joins_then.drawn in omega arith); numbered = joins_then.numbered; once = joins_then.once; single = joins_then.single; times = joins_then.times };
+      joins = record { server = joins_then.server; epoch = joins_then.epoch; drawn = (let low : (with_entered k.joins j).drawn ≤ n = joins_then.drawn in omega arith); numbered = joins_then.numbered; clients = joins_then.clients; once = joins_then.once; single = joins_then.single; times = joins_then.times };
       paired = paired_then;
       idle = idle_then;
       opens = each_part (λ u x. x.part.last ≤ n + 1) (let zero_opens : p.last ≡ 0 = ap (λ (w : Own). w.last) fresh in omega (arith, zero_opens)) (λ u x there. (let low : x.part.last ≤ n = h.opens u x there in omega arith));
@@ -298,11 +301,11 @@ module _ {V : Type 0} (k : ServerState V) (j : JoinNo) (t : TransId) (y : LiveJo
       raised = h.raised;
       fated = h.fated;
       last = h.last;
-      unheld = λ u m. entered_none u m;
+      unheld = λ u. entered_here u;
     }
       where
-        entered_none : (u : TransId) (m : ℕ) → k.given < m → holding (entered k.locks t).held u (Whole (record { server = k.server; epoch = k.epoch; counter = m })) ≡ None
-        entered_none u m high = ap (λ q. map.get q (Whole (record { server = k.server; epoch = k.epoch; counter = m }))) (entering-keeps-held k.locks t u) ∙ h.unheld u m high
+        entered_here : (u : TransId) → IsHeldHere k.server k.epoch k.given (holding (entered k.locks t).held u)
+        entered_here u = same_here k.server k.epoch k.given (holding k.locks.held u) (holding (entered k.locks t).held u) (λ r i. map.get (entering-keeps-held k.locks t u i) r) (h.unheld u)
 
     -- the notes are those that they were
     pub let_in_noted : (server servers epoch : ℕ) (notes : Notes) → AreNoted server servers epoch k.lives k.joins k.coordinator notes → AreNoted server servers epoch (map.insert k.lives t let_in) (with_entered k.joins j) k.coordinator notes

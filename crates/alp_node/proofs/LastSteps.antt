@@ -256,7 +256,7 @@ module _ {V : Type 0} (G : Ghosts V) (k : ServerState V) (from : ℕ) (t : Trans
         written_notes d is =
             subst (AreNotesOf decided_state a.ids.epoch) (sym (is ∙ notes_are))
             (put_notes hearing t latest (first ∷ rest) life hearing_voted own_told z.is decision a.ids.epoch (G.held k.vault).notes fits.1 fits.0 ((λ i. list_all (λ (x : JoinNo). is_another (h.server i) (h.servers i) x.server) last_joins) ∙ far) (own ∙ sym h.server)
-            (ap (λ (f : Fate). decision_kept (fate.decided stamp (first ∷ rest) f)) heard_is) told_fits
+            (ap (λ (f : Fate). decision_kept (fate.decided stamp (first ∷ rest) f)) heard_is) told_fits h.quiet.settled.stands.order
             (notes_along (state_of a) hearing a.ids.epoch (G.held k.vault).notes (deed_says event_of (state_of a) (Hears t j ts) tt heard_lawful (stands_voted a h.quiet)) (h.notes up)))
 
         -- the cells are those of the journal

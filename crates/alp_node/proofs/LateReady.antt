@@ -79,6 +79,7 @@ module _ {V : Type 0} (k : ServerState V) (t : TransId) (xs : List LiveJoin) (ar
       epoch = h.joins.epoch;
       drawn = h.joins.drawn;
       numbered = λ i x at. h.joins.numbered i x (was i x at).0;
+      clients = λ i x at. h.joins.clients i x (was i x at).0;
       once = once_filter (λ (l : LiveJoin). not (is_open_of t l)) k.joins.lives h.joins.once;
       single = single_filter (λ (l : LiveJoin). not (is_open_of t l)) k.joins.lives h.joins.single;
       times = λ i x ts at voted. h.joins.times i x ts (was i x at).0 voted;

@@ -139,3 +139,11 @@ pub mod FewJoins
 pub mod LastVotes
 pub mod LastSteps
 pub mod AgainstSteps
+pub mod TakeLemmas
+pub mod EditsNoted
+pub mod LocksNoted
+pub mod TogetherLemmas
+pub mod HeldHere
+pub mod NoMoreLemmas
+pub mod TriedVotes
+pub mod TriedTogether

@@ -48,7 +48,7 @@ once_apart : (ts : List TransId) → AreIdsOnce ts → are_trans_apart ts ≡ tr
 once_apart [] once = refl
 once_apart (t ∷ ts) once = ap (λ (b : Bool). not b && are_trans_apart ts) once.0 ∙ once_apart ts once.1
 
-apart_once : (ts : List TransId) → are_trans_apart ts ≡ true → AreIdsOnce ts
+pub apart_once : (ts : List TransId) → are_trans_apart ts ≡ true → AreIdsOnce ts
 apart_once [] e = tt
 apart_once (t ∷ ts) e = (let both = and_parts (not (has_trans t ts)) (are_trans_apart ts) e in (off (has_trans t ts) both.0, apart_once ts both.1))
   where

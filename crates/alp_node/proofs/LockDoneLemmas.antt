@@ -366,7 +366,7 @@ module _ {V : Type 0} (a : Account) (before now : ℕ) (held : Contents) (k : Se
       new_free : (f : FileId) → id_in g ≡ Some f → under (Whole f) ≡ None
       new_free f e =
           ap (λ (x : FileId). under (Whole x)) (id_given (next_file k) f g e given.ids) ∙ under_is (Whole (next_file k))
-          ∙ (λ i. join_held (ready.unheld t (k.given + 1) (omega arith) i) (asked_below k.server k.epoch k.given (k.given + 1) ns files (omega arith) i))
+          ∙ (λ i. join_held ((ready.unheld t).unmade (k.given + 1) (omega arith) i) (asked_below k.server k.epoch k.given (k.given + 1) ns files (omega arith) i))
 
       creates : (b : Bool) → makes_file c ≡ b → (f : FileId) → id_in g ≡ Some f → b ≡ true
       creates true e f is = refl

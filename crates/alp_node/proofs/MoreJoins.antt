@@ -47,6 +47,7 @@ use Rattle.alp_node.specs.declared.sessions.Turn.{Turn}
 use Rattle.alp_node.proofs.DeadLemmas.{dead_buried}
 use Rattle.alp_node.proofs.NotedLemmas.{at_more, once_more}
 use Rattle.alp_node.proofs.ReadyLemmas.{alive_buried, counted_ready, undead_calls_ready, other_waits_ready, buried_ready}
+use Rattle.alp_node.specs.Sessions.{IsClient}
 
 -- ---- numbers
 
@@ -113,7 +114,7 @@ module _ (k : Joins) (t : TransId) (client : ℕ) (who : List ℕ) where
   at_old : (j : JoinNo) (x : LiveJoin) → join_at k.lives j ≡ Some x → join_at more j ≡ Some x
   at_old j x is = at_more j k.lives new_join ∙ ap (λ (y : Option LiveJoin). option_or y (cond {A = Option LiveJoin} (same_join j (next_of k)) (Some new_join) None)) is
 
-  module _ (here epoch steps : ℕ) (h : AreJoinsHere here epoch steps k) (raised : 0 < epoch) (first : part_of client t k.lives ≡ None) where
+  module _ (here epoch steps : ℕ) (h : AreJoinsHere here epoch steps k) (raised : 0 < epoch) (first : part_of client t k.lives ≡ None) (its : IsClient client) where
     none_next : join_at k.lives (next_of k) ≡ None
     none_next = go (join_at k.lives (next_of k)) refl
       where
@@ -128,6 +129,7 @@ module _ (k : Joins) (t : TransId) (client : ℕ) (who : List ℕ) where
       drawn = (let few : k.drawn ≤ steps = h.drawn in omega (arith, few));
       numbered = λ j x is. at_one j x is (is_drawn_in (with_drawn k t client who) j ≡ true) (λ old. drawn_more k.server k.epoch k.drawn j (h.numbered j x old))
           (λ at same none. ap (is_drawn_in (with_drawn k t client who)) at ∙ next_drawn k.server k.epoch k.drawn (subst (λ (n : ℕ). 0 < n) (sym h.epoch) raised));
+      clients = λ j x is. at_one j x is (IsClient x.client) (λ old. h.clients j x old) (λ at same none. subst (λ (y : LiveJoin). IsClient y.client) (sym same) its);
       once = once_more k.lives new_join h.once none_next;
       single = single_pushed k.lives new_join h.single first;
       times = λ j x ts is stands. at_one j x is (ts ≤ 2 ^ 62) (λ old. h.times j x ts old stands)
@@ -210,7 +212,7 @@ module _ {V : Type 0} (n : ℕ) (serves : Bool) (k : ServerState V) (turn : Turn
         waits = r.waits;
         known = r.known;
         seat = r.seat;
-        joins = joins_more k.joins t turn.client turn.who k.server k.epoch n h.joins h.raised first;
+        joins = joins_more k.joins t turn.client turn.who k.server k.epoch n h.joins h.raised first (is.some, is.client);
         paired = paired_more k.joins t turn.client turn.who k.servers k.server k.coordinator k.lives far r.paired;
         idle = idle_more k.joins t turn.client turn.who (λ u. has_file_on u (without_dead turn.client k.dead k.waits ++ join_call turn t ∷ []) ≡ false) r.idle;
         opens = r.opens;

@@ -136,7 +136,7 @@ deeds_beside s is_down pending (d ∷ ds) = deeds_beside (state_deed s d) is_dow
 
 -- nor does what is stored
 stored_beside : (epoch : ℕ) (s : State) (desk : Desk) (is_down : Bool) (pending : List Deed) (c : Contents) → IsStoredBy epoch s c → IsStoredBy epoch (record s { desk = desk; is_down = is_down; pending = pending }) c
-stored_beside epoch s desk is_down pending c h = record { cells = h.cells; notes = record { clock = h.notes.clock; ready = h.notes.ready; decided = h.notes.decided; format = h.notes.format; fit = h.notes.fit; fit_decided = h.notes.fit_decided } }
+stored_beside epoch s desk is_down pending c h = record { cells = h.cells; notes = record { clock = h.notes.clock; ready = h.notes.ready; decided = h.notes.decided; format = h.notes.format; fit = h.notes.fit; fit_decided = h.notes.fit_decided; timely = h.notes.timely } }
 
 -- what an entry tries is what it leaves, or what is pending then
 tried_said : (s : State) (e : Entry) (c : Contents) → (next s e).ids.epoch ≡ s.ids.epoch → IsSaidBy s e c → IsSaidThen (next s e) c

@@ -2,7 +2,7 @@
 -- decisions stay, and so does the clock that a restart finds
 use Rattle.std.specs.Prelude.{Bool, true, false, cond, not, ◌&&◌, ◌||◌, ◌==◌, ◌+◌, nat_lt, flat_map, is_none, is_some, Option, None, Some}
 use Rattle.std.specs.List.{list_any, AllByRecursion}
-use Rattle.std.proofs.Common.{◌≡◌, ℕ, List, [], ◌∷◌, ◌++◌, refl, sym, ap, subst, ◌∙◌, inl, inr, eq-eqb}
+use Rattle.std.proofs.Common.{◌≡◌, ℕ, List, [], ◌∷◌, ◌++◌, refl, sym, ap, subst, ◌∙◌, inl, inr, eq-eqb, ◌≤◌}
 use Rattle.std.proofs.lemmas.Bool.{and_parts}
 use Rattle.alp_base.specs.Notes.{Notes}
 use Rattle.alp_base.specs.declared.ids.JoinNo.{JoinNo}
@@ -74,6 +74,7 @@ notes_along s m epoch notes h k = record {
   decided = λ t fits. k.decided t fits ∙ sym (h.decided t);
   fit = λ j is. k.fit j (ready_before s.holder.lives m.holder.lives (s.phases j) (m.phases j) (h.ready j) is);
   fit_decided = λ t is. k.fit_decided t (ap (λ (o : Option Decision). is_some o) (sym (h.decided t)) ∙ is);
+  timely = λ t d is. subst (λ (n : ℕ). d.ts ≤ n) (sym h.kept) (k.timely t d (sym (h.decided t) ∙ is));
   format = λ name value is. subst (λ (n : ℕ). is_server_note n m.servers name value ≡ true) (sym h.server) (subst (λ (n : ℕ). is_server_note s.holder.server n name value ≡ true) (sym h.servers) (k.format name value is));
 }
 

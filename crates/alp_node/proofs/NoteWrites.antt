@@ -60,6 +60,15 @@ use Rattle.alp_node.proofs.NotedLemmas.{ready_on}
 pub keeps_of : (s : State) (epoch : ℕ) (notes : Notes) → AreNotesOf s epoch notes → Keeps s.holder.server s.servers (record { epoch = epoch; clock = s.holder.kept }) (λ i. IsReadyNote s.holder.lives (s.phases i)) (λ u. decision_kept (s.fates u)) notes
 keeps_of s epoch notes h = record { clock = h.clock; ready = h.ready; decided = h.decided; format = h.format }
 
+-- only that join may be ready now that was not
+fits_one : (s m : State) (j : JoinNo) → ready_name.Fits j → ((i : JoinNo) → same_join j i ≡ false → m.phases i ≡ s.phases i) → ((i : JoinNo) → is_ready (s.phases i) ≡ true → ready_name.Fits i)
+    → (i : JoinNo) → is_ready (m.phases i) ≡ true → ready_name.Fits i
+fits_one s m j named others was i is = go (same_join j i) refl
+  where
+    go : (b : Bool) → same_join j i ≡ b → ready_name.Fits i
+    go true e = subst (λ (x : JoinNo). ready_name.Fits x) (same_join-true j i e) named
+    go false e = was i (ap is_ready (sym (others i e)) ∙ is)
+
 no_note : (lives : TransId → Option Life) (p : Phase) → is_ready p ≡ false → IsReadyNote lives p None
 no_note lives (Ready t c ts) n = let wrong : true ≡ false = n in cc
 no_note lives Unseen n = refl
@@ -115,14 +124,6 @@ module _ (s m : State) (j : JoinNo) (t : TransId) (one : IsOneOn s m j t) where
       subst (λ (p : Phase). IsReadyNote m.holder.lives p x) (sym (one.phases i (number_away i j other)))
       (ready_on s.holder.lives m.holder.lives (s.phases i) x (λ u c n is. one.lives u (one.apart i u c n (number_away i j other) is)) h)
 
-  -- each that is ready has a name that can be spelled
-  pub still_fit : ready_name.Fits j → ((i : JoinNo) → is_ready (s.phases i) ≡ true → ready_name.Fits i) → (i : JoinNo) → is_ready (m.phases i) ≡ true → ready_name.Fits i
-  still_fit named fit i is = go (same_join j i) refl
-    where
-      go : (b : Bool) → same_join j i ≡ b → ready_name.Fits i
-      go true e = subst (λ (x : JoinNo). ready_name.Fits x) (same_join-true j i e) named
-      go false e = fit i (sym (ap is_ready (one.phases i e)) ∙ is)
-
   -- it is over
   pub ended_keeps : is_ready (m.phases j) ≡ false → (clock : ClockNote) (fate : TransId → Option Decision) (notes : Notes) → ready_name.Fits j → Keeps s.holder.server s.servers clock (λ i. IsReadyNote s.holder.lives (s.phases i)) fate notes
       → Keeps s.holder.server s.servers clock (λ i. IsReadyNote m.holder.lives (m.phases i)) fate (noted (ready_name.spell j) None notes)
@@ -153,7 +154,7 @@ module _ (s : State) (j : JoinNo) (t : TransId) (client ts n : ℕ) (c : Cause) 
   abbrev aborted_state : State
   aborted_state = state_deed s (Aborts j t n c)
 
-  aborted_one : IsOneOn s (state_deed s (Aborts j t n c)) j t
+  pub aborted_one : IsOneOn s (state_deed s (Aborts j t n c)) j t
   aborted_one = record {
     phases = λ i away. ap (λ (b : Bool). cond {A = Phase} b (aborted t (s.phases i)) (s.phases i)) away;
     lives = λ u away. ap (λ (b : Bool). cond {A = Option Life} b (lapsed j (s.holder.lives u)) (s.holder.lives u)) away;
@@ -161,7 +162,7 @@ module _ (s : State) (j : JoinNo) (t : TransId) (client ts n : ℕ) (c : Cause) 
     server = refl;
   }
 
-  aborted_over : is_ready ((state_deed s (Aborts j t n c)).phases j) ≡ false
+  pub aborted_over : is_ready ((state_deed s (Aborts j t n c)).phases j) ≡ false
   aborted_over =
       ap (λ (b : Bool). is_ready (cond {A = Phase} b (aborted t (s.phases j)) (s.phases j))) (same_join-itself j) ∙ ap (λ (p : Phase). is_ready (aborted t p)) ready ∙ ap (λ (b : Bool). is_ready (cond {A = Phase} b Over (Ready t client ts))) (same_trans-itself t)
 
@@ -171,7 +172,7 @@ module _ (s : State) (j : JoinNo) (t : TransId) (client ts n : ℕ) (c : Cause) 
   pub aborted_notes : (epoch : ℕ) (notes : Notes) → ready_name.Fits j → AreNotesOf s epoch notes → AreNotesOf (state_deed s (Aborts j t n c)) epoch (noted (ready_name.spell j) None notes)
   aborted_notes epoch notes named h =
       let k = ended_keeps s aborted_state j t aborted_one aborted_over (record { epoch = epoch; clock = s.holder.kept }) (λ u. decision_kept (s.fates u)) notes named (keeps_of s epoch notes h) in
-      record { clock = k.clock; ready = k.ready; decided = k.decided; fit = still_fit s aborted_state j t aborted_one named h.fit; fit_decided = h.fit_decided; format = k.format }
+      record { clock = k.clock; ready = k.ready; decided = k.decided; fit = fits_one s aborted_state j named (λ i away. aborted_one.phases i away) h.fit; fit_decided = h.fit_decided; timely = h.timely; format = k.format }
 
 -- ---- it is applied, and the clock stands
 
@@ -206,9 +207,9 @@ module _ (s : State) (j : JoinNo) (t : TransId) (client ts time : ℕ) (l : Life
   pub applied_voted : AreVoted (state_deed s (Applies j (record { ts = time; trans = t })))
   applied_voted = ended_voted s applied_state j t applied_one applied_over voted
 
-  pub applied_notes : (epoch : ℕ) (notes : Notes) → ready_name.Fits j → clock_form.Fits (record { epoch = epoch; clock = max s.holder.clock time }) → AreNotesOf s epoch notes
+  pub applied_notes : (epoch : ℕ) (notes : Notes) → ready_name.Fits j → clock_form.Fits (record { epoch = epoch; clock = max s.holder.clock time }) → s.holder.kept ≤ s.holder.clock → AreNotesOf s epoch notes
       → AreNotesOf (state_deed s (Applies j (record { ts = time; trans = t }))) epoch (noted (ready_name.spell j) None (noted clock_name (Some (clock_form.spell (record { epoch = epoch; clock = max s.holder.clock time }))) notes))
-  applied_notes epoch notes named fits h =
+  applied_notes epoch notes named fits order h =
       let now : ClockNote = record { epoch = epoch; clock = max s.holder.clock time } in
       let first = put_clock s.holder.server s.servers (record { epoch = epoch; clock = s.holder.kept }) (λ i. IsReadyNote s.holder.lives (s.phases i)) (λ u. decision_kept (s.fates u)) notes (keeps_of s epoch notes h) now fits in
       let k = ended_keeps s applied_state j t applied_one applied_over now (λ u. decision_kept (s.fates u)) (noted clock_name (Some (clock_form.spell now)) notes) named first in
@@ -216,8 +217,9 @@ module _ (s : State) (j : JoinNo) (t : TransId) (client ts time : ℕ) (l : Life
         clock = k.clock ∙ ap (λ (o : Option Life). record { epoch = epoch; clock = (commits s.holder stamp o).kept }) (sym live);
         ready = k.ready;
         decided = k.decided;
-        fit = still_fit s applied_state j t applied_one named h.fit;
+        fit = fits_one s applied_state j named (λ i away. applied_one.phases i away) h.fit;
         fit_decided = h.fit_decided;
+        timely = λ u d is. subst (λ (o : Option Life). d.ts ≤ (commits s.holder stamp o).kept) (sym live) (let low : d.ts ≤ s.holder.kept = h.timely u d is in omega (arith, low, order));
         format = subst (λ (n : ℕ). AreServerNotes n s.servers (noted (ready_name.spell j) None (noted clock_name (Some (clock_form.spell now)) notes))) (sym (same_server (s.holder.lives t))) k.format;
       }
 
@@ -253,7 +255,7 @@ module _ (s : State) (j : JoinNo) (t : TransId) (client ts : ℕ) (who : List �
   readied_life : (p : ReadyPart) → IsKeptOf l p → IsKeptIf ((state_deed s (Readies j t ts)).holder.lives t) p
   readied_life p kept =
       subst (λ (o : Option Life). IsKeptIf ((readies s.holder t ts o).lives t) p) (sym live)
-      (subst (λ (b : Bool). IsKeptIf (cond {A = Option Life} b (Some (record l { vote = Some ts })) (s.holder.lives t)) p) (sym (same_trans-itself t)) (record { held = kept.held; intents = kept.intents }))
+      (subst (λ (b : Bool). IsKeptIf (cond {A = Option Life} b (Some (record l { vote = Some ts })) (s.holder.lives t)) p) (sym (same_trans-itself t)) (record { held = kept.held; intents = kept.intents; once = kept.once; cells = kept.cells }))
 
   pub readied_notes : (p : ReadyPart) (epoch : ℕ) (notes : Notes) → ready_name.Fits j → ready_form.Fits p → j.server ≡ s.holder.server → is_another s.holder.server s.servers t.server ≡ true → p.trans ≡ t → p.client ≡ client → p.ts ≡ ts → IsKeptOf l p
       → AreNotesOf s epoch notes → AreNotesOf (state_deed s (Readies j t ts)) epoch (noted (ready_name.spell j) (Some (ready_form.spell p)) notes)
@@ -264,8 +266,9 @@ module _ (s : State) (j : JoinNo) (t : TransId) (client ts : ℕ) (who : List �
         clock = k.clock ∙ ap (λ (n : ℕ). record { epoch = epoch; clock = n }) (sym (readied_clock (s.holder.lives t)));
         ready = k.ready;
         decided = k.decided;
-        fit = still_fit s readied_state j t readied_one named h.fit;
+        fit = fits_one s readied_state j named (λ i away. readied_one.phases i away) h.fit;
         fit_decided = h.fit_decided;
+        timely = λ u d is. subst (λ (n : ℕ). d.ts ≤ n) (sym (readied_clock (s.holder.lives t))) (h.timely u d is);
         format = subst (λ (n : ℕ). AreServerNotes n s.servers (noted (ready_name.spell j) (Some (ready_form.spell p)) notes)) (sym (readied_server (s.holder.lives t))) k.format;
       }
 
@@ -282,14 +285,19 @@ forgotten_notes s m t epoch notes holder servers phases others gone named h =
       ready = λ i fits. subst (λ (x : Holder). IsReadyNote x.lives (m.phases i) (ready_at (noted (decision_name.spell t) None notes) i)) (sym holder)
           (subst (λ (f : JoinNo → Phase). IsReadyNote s.holder.lives (f i) (ready_at (noted (decision_name.spell t) None notes) i)) (sym phases) (k.ready i fits));
       decided = k.decided;
-      fit = λ i is. h.fit i (sym (ap (λ (f : JoinNo → Phase). is_ready (f i)) phases) ∙ is);
-      fit_decided = λ u is. named_still u is (same_trans t u) refl;
+      fit = λ i is. h.fit i (ap (λ (f : JoinNo → Phase). is_ready (f i)) (sym phases) ∙ is);
+      fit_decided = λ u is. fits_beside u (same_trans t u) refl is;
+      timely = λ u d is. subst (λ (x : Holder). d.ts ≤ x.kept) (sym holder) (timely_beside u d (same_trans t u) refl is);
       format = subst (λ (x : Holder). AreServerNotes x.server m.servers (noted (decision_name.spell t) None notes)) (sym holder) (subst (λ (n : ℕ). AreServerNotes s.holder.server n (noted (decision_name.spell t) None notes)) (sym servers) k.format);
     }
   where
-    named_still : (u : TransId) → is_some (decision_kept (m.fates u)) ≡ true → (b : Bool) → same_trans t u ≡ b → decision_name.Fits u
-    named_still u is true e = subst (λ (x : TransId). decision_name.Fits x) (same_trans-true t u e) named
-    named_still u is false e = h.fit_decided u (sym (ap (λ (o : Option Decision). is_some o) (others u e)) ∙ is)
+    fits_beside : (u : TransId) (b : Bool) → same_trans t u ≡ b → is_some (decision_kept (m.fates u)) ≡ true → decision_name.Fits u
+    fits_beside u true e is = subst (λ (x : TransId). decision_name.Fits x) (same_trans-true t u e) named
+    fits_beside u false e is = h.fit_decided u (ap (λ (o : Option Decision). is_some o) (sym (others u e)) ∙ is)
+
+    timely_beside : (u : TransId) (d : Decision) (b : Bool) → same_trans t u ≡ b → decision_kept (m.fates u) ≡ Some d → d.ts ≤ s.holder.kept
+    timely_beside u d true e is = let wrong : None ≡ Some d = sym gone ∙ ap (λ (x : TransId). decision_kept (m.fates x)) (same_trans-true t u e) ∙ is in cc
+    timely_beside u d false e is = h.timely u d (sym (others u e) ∙ is)
 
     trans_away : (u : TransId) → (u ≡ t → ⊥) → same_trans t u ≡ false
     trans_away u other = go (same_trans t u) refl

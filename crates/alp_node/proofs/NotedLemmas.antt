@@ -4,7 +4,7 @@ use Rattle.std.specs.List.{list_any, AllByRecursion}
 use Rattle.std.specs.Option.{option_or}
 use Rattle.std.specs.FinMap as map
 use Rattle.std.proofs.lemmas.List.Folds.{find-append}
-use Rattle.std.proofs.Common.{◌≡◌, ℕ, List, [], ◌∷◌, ◌++◌, refl, sym, ◌∙◌, ap, subst, inl, inr}
+use Rattle.std.proofs.Common.{◌≡◌, ℕ, List, [], ◌∷◌, ◌++◌, refl, sym, ◌∙◌, ap, subst, inl, inr, ◌≤◌}
 use Rattle.alp_base.specs.Notes.{Notes}
 use Rattle.alp_base.specs.declared.ids.JoinNo.{JoinNo}
 use Rattle.alp_base.specs.declared.ids.TransId.{TransId}
@@ -179,6 +179,7 @@ notes_on s m epoch notes kept server servers fates ready h = record {
   decided = λ t fits. h.decided t fits ∙ sym (fates t);
   fit = λ j is. h.fit j (ready_before s.holder.lives m.holder.lives (s.phases j) (m.phases j) (ready j) is);
   fit_decided = λ t is. h.fit_decided t (ap (λ (o : Option Decision). is_some o) (sym (fates t)) ∙ is);
+  timely = λ t d is. subst (λ (n : ℕ). d.ts ≤ n) (sym kept) (h.timely t d (sym (fates t) ∙ is));
   format = subst (λ (n : ℕ). AreServerNotes n m.servers notes) (sym server) (subst (λ (n : ℕ). AreServerNotes s.holder.server n notes) (sym servers) h.format);
 }
 

@@ -271,7 +271,7 @@ module _ (servers here : ℕ) (c : Coordinator) (k : Joins) (m : LiveMap) (h : A
 -- ---- how many are live
 
 -- of ids that are named once no more are there than of those among which each is
-within : (ts us : List TransId) → AreIdsOnce ts → ((t : TransId) → has_trans t ts ≡ true → has_trans t us ≡ true) → length ts ≤ length us
+pub within : (ts us : List TransId) → AreIdsOnce ts → ((t : TransId) → has_trans t ts ≡ true → has_trans t us ≡ true) → length ts ≤ length us
 within [] us once all = omega arith
 within (t ∷ ts) us once all =
     let rest : length ts ≤ length (filter other us) = within ts (filter other us) once.1 (λ u here. left u us (apart u here (same_trans t u) refl) (all u (or_right (same_trans t u) here))) in
@@ -375,7 +375,7 @@ settled_counts t (Some (settled.Committed ts)) = refl
 settled_counts t (Some (settled.Forgotten ts ms)) = refl
 settled_counts t (Some (settled.Ended c)) = refl
 
-runs_counts : (f : Fate) (n : ℕ) → client_of f ≡ Some n → is_counted f ≡ true
+pub runs_counts : (f : Fate) (n : ℕ) → client_of f ≡ Some n → is_counted f ≡ true
 runs_counts Undrawn n e = let wrong : None ≡ Some n = e in cc
 runs_counts (Running c js) n e = refl
 runs_counts (Finishing c js vs) n e = refl
@@ -431,10 +431,10 @@ has_right t (u ∷ us) vs h = go (same_trans u t) (has_right t us vs h)
     go true e = refl
     go false e = e
 
-abbrev joined_list : List LiveJoin → List TransId
+abbrev pub joined_list : List LiveJoin → List TransId
 joined_list ls = list_map (λ (x : LiveJoin). x.trans) ls
 
-joined_there : (j : JoinNo) (y : LiveJoin) (ls : List LiveJoin) → join_at ls j ≡ Some y → has_trans y.trans (joined_list ls) ≡ true
+pub joined_there : (j : JoinNo) (y : LiveJoin) (ls : List LiveJoin) → join_at ls j ≡ Some y → has_trans y.trans (joined_list ls) ≡ true
 joined_there j y [] is = let wrong : None ≡ Some y = is in cc
 joined_there j y (x ∷ xs) is = go (is_at j x) is (joined_there j y xs)
   where
@@ -453,7 +453,7 @@ length_both : (us vs : List TransId) → length (us ++ vs) ≡ length us + lengt
 length_both [] vs = omega arith
 length_both (u ∷ us) vs = (let rest : length (us ++ vs) ≡ length us + length vs = length_both us vs in omega (arith, rest))
 
-length_joined : (ls : List LiveJoin) → length (joined_list ls) ≡ length ls
+pub length_joined : (ls : List LiveJoin) → length (joined_list ls) ≡ length ls
 length_joined [] = refl
 length_joined (x ∷ xs) = ap suc (length_joined xs)
 

@@ -3,7 +3,7 @@ use Rattle.std.specs.Prelude.{cond, max, Bool, true, false, ◌==◌, ◌||◌, 
 use Rattle.std.specs.List.{list_any}
 use Rattle.std.specs.FinMap as map
 use Rattle.std.specs.FinMap.Entries.{put}
-use Rattle.std.proofs.Common.{◌≡◌, ◌⊎◌, inl, inr, ℕ, ◌+◌, ◌<◌, ◌≤◌, List, [], ◌∷◌, refl, sym, ◌∙◌, ap, subst, arith, eq-eqb}
+use Rattle.std.proofs.Common.{◌≡◌, ◌⊎◌, inl, inr, ⊎_elim, ℕ, ◌+◌, ◌<◌, ◌≤◌, List, [], ◌∷◌, refl, sym, ◌∙◌, ap, subst, arith, eq-eqb}
 use Rattle.std.proofs.lemmas.Bool.{or_left, or_right, and_from}
 use Rattle.alp_base.specs.declared.faults.Sizes.{Sizes}
 use Rattle.alp_base.specs.declared.ids.JoinNo.{JoinNo}
@@ -31,11 +31,16 @@ use Rattle.alp_journal.proofs.IdLemmas.{same_trans-true, same_trans-itself}
 use Rattle.alp_journal.proofs.RestartLemmas.{IsNoted, restart_leads}
 use Rattle.alp_journal.proofs.RestartMade.{commit_made_leads, decision_made_leads, vote_made_leads, application_made_leads, end_made_leads, abort_made_leads}
 use Rattle.alp_node.specs.Downs.{IsPartPast, IsPast, state_then}
-use Rattle.alp_node.specs.ServerState.{IsAlike, IsAs, SeesNoneToCome, PutNoneBeyond, AreMade}
+use Rattle.alp_node.specs.ServerState.{IsAlike, IsAs, SeesNoneToCome, PutNoneBeyond, AreMade, IsReady}
 use Rattle.alp_node.specs.declared.lives.Live.{Live}
 use Rattle.alp_node.specs.declared.server_state.ServerState.{ServerState}
 use Rattle.alp_node.proofs.KeptLemmas.{earlier_more}
 use Rattle.alp_node.proofs.MadeAs.{earlier_put}
+use Rattle.alp_node.specs.SoundLives.{HasSoundLives}
+use Rattle.alp_node.proofs.NoMoreLemmas.{no_more_itself}
+use Rattle.alp_node.proofs.TogetherLemmas.{keeps_together}
+use Rattle.alp_node.proofs.TriedTogether.{made_less, made_then}
+use Rattle.alp_node.proofs.TriedVotes.{TriesInRoom}
 
 -- ---- what stays
 
@@ -48,8 +53,8 @@ part_past a held k h t l is = go (map.get k.lives t) (a.holder.lives t) is (h.li
     go (Some z) None e alike = absurd alike
     go (Some z) (Some y) e alike = subst (λ (x : Life). IsPartPast x (a.locked t)) (same-some y l e) (record { within = alike.within; intended = alike.intended; sized = alike.sized; known = alike.known })
 
-pub past_of : {V : Type 0} (a : Account) (held : Contents) (k : ServerState V) (sizes : Sizes) → IsAs a held k → k.sizes ≡ sizes → IsPast a k.server k.servers k.epoch sizes
-past_of a held k sizes h sizes_same = record {
+pub past_of : {V : Type 0} (a : Account) (held : Contents) (k : ServerState V) (sizes : Sizes) → IsAs a held k → k.sizes ≡ sizes → (steps : ℕ) (serves : Bool) → IsReady steps serves k → HasSoundLives a.holder → TriesInRoom (state_of a) → IsPast a k.server k.servers k.epoch sizes
+past_of a held k sizes h sizes_same steps serves ready sound room = record {
   number = h.server;
   among = h.servers;
   volume = h.sizes ∙ sizes_same;
@@ -60,6 +65,9 @@ past_of a held k sizes h sizes_same = record {
   born = subst (λ (m : ℕ). SeesNoneToCome a.holder.server a.ids.epoch m (map.get a.holder.cells)) (sym h.files) h.born;
   earlier = h.earlier;
   quiet = h.quiet;
+  together = λ near c late stored.
+      ⊎_elim (λ x. keeps_together a held k steps serves h ready near late (state_of a) (made_less a held k steps serves h ready sound (state_of a) (no_more_itself (state_of a))) c x)
+      (λ x. keeps_together a held k steps serves h ready near late (state_then (state_of a)) (made_then a held k steps serves h ready sound room) c x) stored;
 }
 
 -- ---- what a restart may find

@@ -20,7 +20,7 @@ use Rattle.alp_locks.specs.Releases.{released}
 use Rattle.alp_locks.proofs.HeldLemmas.{insert-keeps, insert-knows}
 use Rattle.alp_locks.proofs.LawLemmas.{entering-keeps-held}
 use Rattle.alp_locks.proofs.SoundLemmas.{released-sound, entered-sound, each-more, each-both, each-filter, not-true}
-use Rattle.alp_locks.proofs.WakeLemmas.{taken-sound, released-each, released-knows, released-none, LocksNone}
+use Rattle.alp_locks.proofs.WakeLemmas.{taken-sound, released-each, released-knows}
 use Rattle.alp_queue.specs.Order.{is_of as is_waiter_of}
 use Rattle.alp_queue.specs.declared.waiter.Waiter.{Waiter}
 use Rattle.alp_journal.specs.Ids.{same_trans}
@@ -33,7 +33,7 @@ use Rattle.alp_coord.specs.Coordinators.{IsOf, IsAlong, Comes, Keeps, server_of,
 use Rattle.alp_worker.specs.declared.joins.Joins.{Joins}
 use Rattle.alp_worker.specs.declared.live.LiveJoin.{LiveJoin}
 use Rattle.alp_worker.specs.Lives.{join_at}
-use Rattle.alp_node.specs.Asks.{is_given}
+use Rattle.alp_node.specs.Asks.{is_given, IsHeldHere}
 use Rattle.alp_node.specs.Dead.{cause_in, without_client}
 use Rattle.alp_node.specs.Rooms.{IsWithin}
 use Rattle.alp_node.specs.Sessions.{session_at, with_session}
@@ -62,6 +62,7 @@ use Rattle.alp_journal.specs.Desk.{Session}
 use Rattle.alp_node.specs.declared.sessions.Sessions.{Sessions}
 use Rattle.alp_node.specs.declared.sessions.Turn.{Turn}
 use Rattle.alp_node.proofs.MapLemmas.{session_kept, places_set, get_put, get_gone, tied_same}
+use Rattle.alp_node.proofs.HeldHere.{same_here, released_here}
 
 -- ---- sessions
 
@@ -145,10 +146,7 @@ alive_buried client dead lives joins h = record {
 
 -- the joins of a server are within more steps
 pub joins_later : (server epoch m n : ℕ) (js : Joins) → m ≤ n → AreJoinsHere server epoch m js → AreJoinsHere server epoch n js
-joins_later server epoch m n js more h = record { server = h.server; epoch = h.epoch; drawn = omega (arith, more, h.drawn); numbered = h.numbered; once = h.once; single = h.single; times = h.times }
-
-entered_unheld : (t : Table) (u v : TransId) (r : Resource) → holding t.held v r ≡ None → holding (entered t u).held v r ≡ None
-entered_unheld t u v r none = ap (λ h. map.get h r) (entering-keeps-held t u v) ∙ none
+joins_later server epoch m n js more h = record { server = h.server; epoch = h.epoch; drawn = omega (arith, more, h.drawn); numbered = h.numbered; clients = h.clients; once = h.once; single = h.single; times = h.times }
 
 module _ {V : Type 0} (n : ℕ) (serves : Bool) (k : ServerState V) where
   -- a session begins
@@ -319,8 +317,8 @@ module _ {V : Type 0} (n : ℕ) (serves : Bool) (k : ServerState V) where
     raised = h.raised;
     fated = lets.fated;
     last = h.last;
-    unheld = λ u m high. released-none (numbered k m) k.locks t (λ v. h.unheld v m high)
-        (each-more (IsOfCalls k.server k.epoch k.given k.lives k.waits) (LocksNone (numbered k m)) (λ x o. o.beyond m high) k.locks.waiting h.waits.queued) u;
+    unheld = released_here k.server k.epoch k.given k.locks t h.unheld
+        (each-more (IsOfCalls k.server k.epoch k.given k.lives k.waits) (λ (x : Waiter). IsHeldHere k.server k.epoch k.given (map.get x.after)) (λ x o. o.beyond) k.locks.waiting h.waits.queued);
   }
     where
       go : (u : TransId) (b : Bool) → same_trans u t ≡ b → (l : Live) → cond {A = Option Live} b None (map.get k.lives u) ≡ Some l → is_some (map.get (released k.locks t).held u) ≡ true
@@ -391,7 +389,7 @@ module _ {V : Type 0} (n : ℕ) (serves : Bool) (k : ServerState V) where
       fated = early_begins k.servers k.server t turn.client 0 turn.who k.coordinator c (comes turn.who 0) h.fated;
       last = h.last;
       times = times_begun k.clock clock turn.client 0 turn.who t k.coordinator c later (comes turn.who 0) h.times;
-      unheld = λ u m high. entered_unheld k.locks t u (numbered k m) (h.unheld u m high);
+      unheld = λ u. same_here k.server k.epoch k.given (holding k.locks.held u) (holding (entered k.locks t).held u) (λ r i. map.get (entering-keeps-held k.locks t u i) r) (h.unheld u);
     }
       where
         paired_then : ArePaired k.servers k.server c k.joins (map.insert k.lives t l)

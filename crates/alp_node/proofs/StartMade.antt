@@ -171,7 +171,7 @@ module _ {V : Type 0} (G : Ghosts V) (server servers : ℕ) (before mid : V) (cl
           kept = subst (IsAs (opened_on o) (G.held v)) (sym (kept_is G server servers before mid clock f n.kept left fits_note alone later_than finds put begun))
               (found_as (G.tells before) server servers (G.volume before).area (G.volume before) clock.epoch clock.clock (G.held before).cells (G.held before).notes alone later_than f.lives f.locks f.joins f.coordinator finds.found (opened_on o)
               (new_told (G.tells before) server servers (G.volume before).area (G.volume before) clock.epoch clock.clock (G.held before).cells (G.held before).notes alone later_than f.lives f.locks f.joins f.coordinator finds.found (volume told) (given_before (given told)))
-              n.kept (G.held v) told fits_note (cells_now told) notes_now (together told).room);
+              n.kept (G.held v) told fits_note low_clock (cells_now told) notes_now (together told).room);
         })
 
     pub start_consistent : IsConsistent G n

@@ -45,7 +45,7 @@ run_told server epoch given opens (call.ReadPages t n run mode choice) some e (r
     same = let all : Some run.count ≡ Some (length pages) = told in cc
 
     one : 1 ≤ length pages
-    one = let at : run.count ≡ length pages = same in omega (arith, some, at)
+    one = let at : run.count ≡ length pages = same in omega (arith, some.0, at)
 
     few : run.count ≤ 16 → length pages ≤ 16
     few h = let at : run.count ≡ length pages = same in omega (arith, h, at)

@@ -21,7 +21,7 @@ use Rattle.alp_files.specs.Changes.{edits_of}
 use Rattle.alp_base.specs.declared.key.Key.TheVariants.{Leader}
 use Rattle.alp_files.specs.Edits.{edits_at, edits_map}
 use Rattle.alp_files.specs.Holdings.{held_by}
-use Rattle.alp_files.specs.Needs.{Intents, intents_of, no_intents}
+use Rattle.alp_files.specs.Needs.{Intents, intents_of, no_intents, changed_by}
 use Rattle.alp_files.specs.declared.refusal.Why.{Why}
 use Rattle.alp_files.specs.declared.refusal.Why.TheVariants as why
 use Rattle.alp_modes.specs.declared.Mode.{Mode}
@@ -99,6 +99,8 @@ use Rattle.alp_node.proofs.ReadyLemmas.{ready_with, stepped_ready}
 use Rattle.alp_node.proofs.SayLemmas.{away_told, quiet_step, said_caused, said_goes_on}
 use Rattle.alp_node.proofs.WaitLemmas.{none_waiting, named_all}
 use Rattle.alp_node.proofs.WriteSteps.{HasCome, IsStop, written_stepped}
+use Rattle.alp_node.specs.Sessions.{IsClient}
+use Rattle.alp_node.proofs.LocksNoted.{once_listed}
 
 -- ---- why there is a vote
 
@@ -283,6 +285,7 @@ module _ {V : Type 0} (n : ℕ) (serves : Bool) (k : ServerState V) (h : IsReady
       epoch = h.joins.epoch;
       drawn = h.joins.drawn;
       numbered = λ i x at. (let w = was_staged j f k.joins.lives i x at in h.joins.numbered i w.was w.there);
+      clients = λ i x at. (let w = was_staged j f k.joins.lives i x at in subst (λ (n : ℕ). IsClient n) (sym (staged_client j f w.was) ∙ ap (λ (z : LiveJoin). z.client) (sym w.now)) (h.joins.clients i w.was w.there));
       once = once_staged j f k.joins.lives h.joins.once;
       single = single_staged j f k.joins.lives h.joins.single;
       times = λ i x m at voted. (let w = was_staged j f k.joins.lives i x at in
@@ -424,7 +427,12 @@ module _ {V : Type 0} (G : Ghosts V) (k : ServerState V) (from : ℕ) (j : JoinN
       kept_of : (a : Account) (h : IsAs a (G.held k.vault) k) → IsKeptOf (IsActive.alive (is_active a h)).life n.kept
       kept_of a h =
           let y : IsActive a = is_active a h in
-          record { held = λ r. n.held r ∙ ap (find resource_cmp r) locks_are ∙ sym (get-entries (held_of k.locks.held t) r) ∙ sym (y.alive.alike.held r); intents = n.intents ∙ y.alive.alike.intents }
+          record {
+            held = λ r. n.held r ∙ ap (find resource_cmp r) locks_are ∙ sym (get-entries (held_of k.locks.held t) r) ∙ sym (y.alive.alike.held r);
+            intents = n.intents ∙ y.alive.alike.intents;
+            once = once_listed n.kept.locks (held_of k.locks.held t) (λ r. n.held r ∙ ap (find resource_cmp r) locks_are ∙ sym (get-entries (held_of k.locks.held t) r)) (n.count ∙ ap (λ (xs : List (Resource × Mode)). length xs) locks_are);
+            cells = n.cells ∙ y.alive.alike.counts.cells ∙ ap changed_by (sym (n.intents ∙ y.alive.alike.intents));
+          }
 
       written_notes : (a : Account) → IsAs a (G.held k.vault) k → (d : Contents) → IsWritten p.intents changes (G.held k.vault) d → AreNotesOf (state_deed (state_of a) (Readies j t (k.clock + 1))) a.ids.epoch d.notes
       written_notes a h d w =

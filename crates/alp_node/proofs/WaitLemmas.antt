@@ -36,6 +36,7 @@ use Rattle.alp_node.specs.declared.lives.Live.{Live}
 use Rattle.alp_node.specs.declared.lock_counts.LockCounts.{LockCounts}
 use Rattle.alp_node.specs.declared.waits.WaitingCall.{WaitingCall}
 use Rattle.alp_node.proofs.BesideLemmas.{AreNamed, AreOthers, HasNoCall}
+use Rattle.alp_node.proofs.HeldHere.{here_later}
 use Rattle.alp_node.proofs.MapLemmas.{tied_same}
 use Rattle.alp_node.proofs.OpenLemmas.{given_later}
 
@@ -459,7 +460,7 @@ module _ (server epoch m n : ℕ) (more : m ≤ n) (drawn : ℕ) (sizes : Sizes)
     calls = each-both (IsLikeThen lives now) (IsWaitingCall server epoch m drawn sizes lives) (IsWaitingCall server epoch n drawn sizes now)
         (λ w from o. call_later server epoch m n more sizes drawn drawn (le_refl drawn) lives now w (λ z counted q l is. from z counted l is) o) ws was h.calls;
     apart = h.apart;
-    queued = each-more (IsOfCalls server epoch m lives ws) (IsOfCalls server epoch n now ws) (λ x o. record { live = stays_live x.trans o.live; asks = o.asks; beyond = λ k high. o.beyond k (omega (arith, more, high)) }) queue h.queued;
+    queued = each-more (IsOfCalls server epoch m lives ws) (IsOfCalls server epoch n now ws) (λ x o. record { live = stays_live x.trans o.live; asks = o.asks; beyond = here_later server epoch m n more (map.get x.after) o.beyond }) queue h.queued;
   }
 
 all_like : (lives : LiveMap) (ws : List WaitingCall) → AllByRecursion (IsLikeThen lives lives) ws

@@ -1,13 +1,15 @@
 -- What a call asks of the lock table: what it needs, but for what a file's lock gives.
-use Rattle.std.specs.Prelude.{◌≡◌, List, [], ◌∷◌, ◌++◌, Bool, true, false, nat_lt, nat_le, ◌&&◌, ◌||◌, ◌==◌, ◌+◌, if◌then◌else◌, ℕ, length, IsTrue, Option, None, Some, IfSome, Result, Ok, Err}
+use Rattle.std.specs.Prelude.{◌≡◌, List, [], ◌∷◌, ◌++◌, Bool, true, false, nat_lt, nat_le, ◌&&◌, ◌||◌, ◌==◌, ◌+◌, ◌<◌, if◌then◌else◌, ℕ, length, IsTrue, Option, None, Some, IfSome, Result, Ok, Err}
 use Rattle.std.specs.List.{AllByRecursion}
 use Rattle.alp_base.specs.declared.ids.FileId.{FileId}
 use Rattle.alp_base.specs.declared.ids.TransId.{TransId}
 use Rattle.alp_base.specs.declared.choices.Access.{Access}
 use Rattle.alp_base.specs.declared.choices.Access.TheVariants.{ReadOnly, Change}
+use Rattle.alp_base.specs.declared.key.Key.{Key}
 use Rattle.alp_base.specs.declared.key.Key.TheVariants.{Leader, OwnerOf}
 use Rattle.alp_base.specs.declared.key.Resource.{Resource}
 use Rattle.alp_base.specs.declared.key.Resource.TheVariants.{Whole, Leaf}
+use Rattle.alp_modes.specs.declared.Mode.{Mode}
 use Rattle.alp_modes.specs.declared.Mode.TheVariants.{Read, Write}
 use Rattle.alp_files.specs.Act.{Own, open_at}
 use Rattle.alp_files.specs.Cells.{Cells, View}
@@ -30,6 +32,7 @@ use Rattle.alp_calls.specs.Parts.{seen}
 use Rattle.alp_calls.specs.declared.finding.OpenedFile.{OpenedFile}
 use Rattle.alp_trans.specs.Parts.{own_of}
 use Rattle.alp_trans.specs.declared.part.Part.{Part}
+use Rattle.alp_regain.specs.Named.{is_leaf_mode, is_own}
 
 -- ---- what is needed
 
@@ -120,13 +123,25 @@ abbrev pub is_of_given : ℕ → ℕ → ℕ → Call → Bool
 is_of_given server epoch count (call.OpenFile t file access mode choice) = is_given server epoch count file
 is_of_given server epoch count c = true
 
--- a file that is asked for is one of them
-abbrev pub IsGivenOn : ℕ → ℕ → ℕ → Resource → Type 0
-IsGivenOn server epoch count (Whole f) = is_given server epoch count f ≡ true
-IsGivenOn server epoch count (Leaf k) = Unit {0}
+-- a file that is asked for is one of them, and a leaf is asked for to be read, to be read and perhaps written, or to be written
+abbrev pub IsGivenOn : ℕ → ℕ → ℕ → Resource → Mode → Type 0
+IsGivenOn server epoch count (Whole f) m = is_given server epoch count f ≡ true
+IsGivenOn server epoch count (Leaf k) m = is_leaf_mode m ≡ true
 
 abbrev pub AreGiven : ℕ → ℕ → ℕ → List Need → Type 0
-AreGiven server epoch count ns = AllByRecursion (λ n. IsGivenOn server epoch count n.0) ns
+AreGiven server epoch count ns = AllByRecursion (λ n. IsGivenOn server epoch count n.0 n.1) ns
+
+-- ---- what is held
+
+-- whole files that the server made, and leaves to be read, to be read and perhaps written, or to be written
+pub record IsTidyHeld (server epoch : ℕ) (held : Holding) : Type 0 where
+  pub own : (f : FileId) (m : Mode) → held (Whole f) ≡ Some m → is_own server epoch f ≡ true
+  pub modes : (k : Key) (m : Mode) → held (Leaf k) ≡ Some m → is_leaf_mode m ≡ true
+
+-- and of those of this epoch none beyond that count
+pub record IsHeldHere (server epoch count : ℕ) (held : Holding) : Type 0 where
+  pub unmade : (n : ℕ) → count < n → held (Whole (record { server = server; epoch = epoch; counter = n })) ≡ None
+  pub tidy : IsTidyHeld server epoch held
 
 -- ---- what is granted
 

@@ -71,7 +71,8 @@ pub record IsPartPast (l : Life) (locked : List Resource) : Type 0 where
   pub known : AreHeld l.held locked
 
 -- Of the state that a server fell in these stay: which it is, one of so many; its parts; the ids of files that it gave and those that
--- it did not; what was applied; and that it was quiet.
+-- it did not; what was applied; that it was quiet; and that its notes go together, for the epoch after its last one: those of what the
+-- journal says, and those of that with the whole of what was tried last.
 pub record IsPast (a : Account) (server servers epoch : ℕ) (sizes : Sizes) : Type 0 where
   pub number : a.holder.server ≡ server
   pub among : a.servers ≡ servers
@@ -83,6 +84,7 @@ pub record IsPast (a : Account) (server servers epoch : ℕ) (sizes : Sizes) : T
   pub born : SeesNoneToCome a.holder.server a.ids.epoch a.ids.files (map.get a.holder.cells)
   pub earlier : AreEarlier a.holder.kept a.holder.applied
   pub quiet : IsQuiet a
+  pub together : (near : ℕ) (c : Contents) → a.ids.epoch ≤ near → IsStoredBy near (account_state a) c ⊎ IsStoredBy near (state_then (account_state a)) c → AreTogether a.holder.server a.servers (a.ids.epoch + 1) a.sizes c.cells c.notes
 
 -- its journal is lawful, and each of its entries has its cause
 pub record IsPastRight {V : Type 0} (o : Start) (sizes : Sizes) (d : DownState V) : Type 0 where
@@ -266,8 +268,8 @@ pub record HasRestarted {V : Type 0} (G : Ghosts V) (d : DownState V) (n : NodeS
   pub crash : IsTrue (G.tells d.vault) → Leaves G d.vault n.kept.vault (IsLeftOrRaised G d.server d.servers d.epoch d.vault)
 
 -- It is the same server, which may be started again. Just where its last epoch is the last there is, that is the cause, whatever else is
--- wanting. Of the only server of a run whose vault tells what it holds the notes are never at fault: what a crash leaves of them is in the
--- format.
+-- wanting. Where its vault tells what it holds the notes are never at fault, in whatever it went down: what a crash leaves of them is in the
+-- format and goes together, with the files too.
 pub record IsStillDown {V : Type 0} (G : Ghosts V) (old new : DownState V) (f : StartFault) : Type 0 where
   pub opening : new.opening ≡ old.opening
   pub journal : new.journal ≡ old.journal
@@ -277,5 +279,5 @@ pub record IsStillDown {V : Type 0} (G : Ghosts V) (old new : DownState V) (f : 
   pub same : IsSameVault G.tells G.volume G.server G.servers old.vault new.vault
   pub cause : HasRaiseCause G old.epoch old.vault new.vault f
   pub end : old.epoch ≡ 4294967295 → f ≡ fault.EpochEnd
-  pub sound : new.servers ≡ 1 → IsTrue (G.tells old.vault) → f ≡ fault.BadNote → ⊥
+  pub sound : IsTrue (G.tells old.vault) → f ≡ fault.BadNote → ⊥
   pub back : IsHandedBack G old.vault new.vault (IsLeftOrRaised G old.server old.servers old.epoch old.vault)

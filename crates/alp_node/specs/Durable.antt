@@ -1,5 +1,5 @@
 -- What a server's vault holds by its journal, and what a crash leaves of it.
-use Rattle.std.specs.Prelude.{◌≡◌, ◌⊎◌, ℕ, true, false, IsTrue, List, Option, None, Some, is_some}
+use Rattle.std.specs.Prelude.{◌≡◌, ◌⊎◌, ◌≤◌, ℕ, true, false, IsTrue, List, Option, None, Some, is_some, [], length}
 use Rattle.alp_base.specs.Crashes.{Only, NoMore, Adds}
 use Rattle.alp_base.specs.Notes.{Notes, notes_after}
 use Rattle.alp_base.specs.declared.bytes.NoteChange.{NoteChange}
@@ -9,17 +9,19 @@ use Rattle.alp_base.specs.declared.key.Resource.{Resource}
 use Rattle.alp_fields.specs.ClockNote.{clock_kept}
 use Rattle.alp_fields.specs.DecisionNote.{decision_name}
 use Rattle.alp_fields.specs.ReadyNote.{ready_name}
+use Rattle.alp_fields.specs.declared.decision_note.Decision.{Decision}
 use Rattle.alp_fields.specs.declared.ready_note.ReadyPart.{ReadyPart}
 use Rattle.alp_files.specs.Changes.{edits_of}
 use Rattle.alp_files.specs.Edits.{edits_map}
 use Rattle.alp_files.specs.Holdings.{held_by}
-use Rattle.alp_files.specs.Needs.{Intents, intents_of}
+use Rattle.alp_files.specs.Needs.{Intents, intents_of, changed}
 use Rattle.alp_trans.specs.Parts.{change_of}
 use Rattle.alp_vault.specs.Contents.{Contents}
-use Rattle.alp_vault.specs.Volumes.{AreServerNotes}
+use Rattle.alp_vault.specs.Volumes.{AreServerNotes, changed_cells}
 use Rattle.alp_vault.specs.declared.vault.Vault.{Ghosts}
 use Rattle.alp_journal.specs.declared.entry.Entry.{Entry}
 use Rattle.alp_journal.specs.Along.{state_after}
+use Rattle.alp_journal.specs.Counts.{with_resources}
 use Rattle.alp_journal.specs.Deeds.{Deed}
 use Rattle.alp_journal.specs.Holder.{Life}
 use Rattle.alp_journal.specs.Moves.{tried}
@@ -30,10 +32,12 @@ use Rattle.alp_node.specs.Noted.{decision_kept}
 
 -- ---- what is held
 
--- the note has the locks of the part and what it intends
+-- the note has the locks of the part and what it intends, and names no resource and no cell twice
 pub record IsKeptOf (l : Life) (p : ReadyPart) : Type 0 where
   pub held : (r : Resource) → held_by p.locks r ≡ l.held r
   pub intents : intents_of (edits_of p.change) ≡ intents_of l.edits
+  pub once : length p.locks ≡ length (with_resources p.locks [])
+  pub cells : changed_cells p.change ≡ changed (edits_of p.change)
 
 abbrev pub IsKeptIf : Option Life → ReadyPart → Type 0
 IsKeptIf None p = ⊥
@@ -47,13 +51,14 @@ IsReadyNote lives phase x = x ≡ None
 
 -- What the notes of a server keep by its journal: that epoch and the clock that a restart finds; each part that voted and whose
 -- outcome is not known; each decision that a part on another server has not applied. Nothing else stands. Each of them has a name that
--- can be spelled.
+-- can be spelled, and no decision is later than the clock.
 pub record AreNotesOf (s : State) (epoch : ℕ) (notes : Notes) : Type 0 where
   pub clock : clock_kept notes ≡ record { epoch = epoch; clock = s.holder.kept }
   pub ready : (j : JoinNo) → ready_name.Fits j → IsReadyNote s.holder.lives (s.phases j) (ready_at notes j)
   pub decided : (t : TransId) → decision_name.Fits t → decision_at notes t ≡ decision_kept (s.fates t)
   pub fit : (j : JoinNo) → is_ready (s.phases j) ≡ true → ready_name.Fits j
   pub fit_decided : (t : TransId) → is_some (decision_kept (s.fates t)) ≡ true → decision_name.Fits t
+  pub timely : (t : TransId) (d : Decision) → decision_kept (s.fates t) ≡ Some d → d.ts ≤ s.holder.kept
   pub format : AreServerNotes s.holder.server s.servers notes
 
 -- the vault has the cells that the journal says, and its notes, of that epoch

@@ -34,7 +34,8 @@ IsAskable (call.Collect number) = Unit {0}
 IsAskable (call.Outcome t) = Unit {0}
 -- a join of whatever transaction: nothing is left out
 IsAskable (call.Join t) = Unit {0}
--- A file call of the grammar of frames, which stays, in any mode, of any run that is not empty and with either choice.
+-- A file call of the grammar of frames, which stays, of any run that is not empty and with either choice. A file is opened in any mode, and
+-- its pages are locked to be read, to be read and perhaps written, or to be written.
 IsAskable c = IsServedCall c × IsFormed c × ReadsSome c
 
 -- a call of a session that stands
@@ -46,9 +47,9 @@ IsTurnCall c = IsAskable c
 
 -- the named premise of a step
 abbrev pub IsServed : Event → Type 0
--- A call of a client with a number up to 16, which stays: those of scripts begin at 1, and a server takes 0 too. It has any epoch
+-- A call of a client with a number from 1 to 16, which stays: those are the clients of a run. It has any epoch
 -- and any number. Left out is what `IsAskable` leaves out.
-IsServed (event.Call client epoch number c) = (client ≤ 16) × IsAskable c
+IsServed (event.Call client epoch number c) = (1 ≤ client) × (client ≤ 16) × IsAskable c
 -- a timeout, of whatever transaction: nothing is left out
 IsServed (event.Timeout t) = Unit {0}
 -- a tick, and a force: nothing is left out

@@ -17,7 +17,6 @@ use Rattle.alp_base.specs.declared.ids.Stamp.{Stamp}
 use Rattle.alp_base.specs.declared.ids.TransId.{TransId}
 use Rattle.alp_base.specs.declared.key.Key.TheVariants.{Leader}
 use Rattle.alp_base.specs.declared.key.Resource.{Resource}
-use Rattle.alp_base.specs.declared.key.Resource.TheVariants.{Whole}
 use Rattle.alp_files.specs.Holdings.{IsIntended}
 use Rattle.alp_files.specs.Locks.{Reads, Writes, HoldsEach, needs_of}
 use Rattle.alp_files.specs.Apart.{AreSized, IsWithin as AreWithin, OpensRead}
@@ -42,7 +41,7 @@ use Rattle.alp_journal.specs.Coordinator.{decision_in}
 use Rattle.alp_journal.specs.Desk.{Session}
 use Rattle.alp_journal.specs.Ids.{is_drawn, stamp_cmp}
 use Rattle.alp_journal.specs.Account.{Account, state_of, IsQuiet, AreEarlier}
-use Rattle.alp_node.specs.Asks.{is_given}
+use Rattle.alp_node.specs.Asks.{is_given, IsHeldHere}
 use Rattle.alp_node.specs.Covers.{AreHeld, AreSizedEdits}
 use Rattle.alp_node.specs.Dead.{cause_in}
 use Rattle.alp_node.specs.Durable.{AreNotesOf}
@@ -50,7 +49,7 @@ use Rattle.alp_node.specs.EarlyFates.{AreEarly}
 use Rattle.alp_node.specs.Noted.{HasReadyRoom, ready_room}
 use Rattle.alp_node.specs.Paired.{ArePaired}
 use Rattle.alp_node.specs.Rooms.{IsWithin}
-use Rattle.alp_node.specs.Sessions.{session_at}
+use Rattle.alp_node.specs.Sessions.{session_at, IsClient}
 use Rattle.alp_node.specs.Totals.{LiveMap, totals_of, HaveRoom}
 use Rattle.alp_node.specs.Transactions.{IsCoordinatorOf, AreDecidedBy}
 use Rattle.alp_node.specs.Turns.{IsKeepable}
@@ -177,12 +176,14 @@ pub record AreAlive (dead : List DeadPart) (lives : LiveMap) (ls : List LiveJoin
   pub parts : (t : TransId) (l : Live) → map.get lives t ≡ Some l → IsAlive dead l.client t
   pub joins : (j : JoinNo) (x : LiveJoin) → join_at ls j ≡ Some x → IsAlive dead x.client x.trans
 
--- The joins are of this server in this epoch, each was drawn here and is there once, and no vote is later than a time may be.
+-- The joins are of this server in this epoch, each was drawn here for a client of the run and is there once, and no vote is later than a
+-- time may be.
 pub record AreJoinsHere (here now steps : ℕ) (joins : Joins) : Type 0 where
   pub server : joins.server ≡ here
   pub epoch : joins.epoch ≡ now
   pub drawn : joins.drawn ≤ steps
   pub numbered : (j : JoinNo) (x : LiveJoin) → join_at joins.lives j ≡ Some x → is_drawn_in joins j ≡ true
+  pub clients : (j : JoinNo) (x : LiveJoin) → join_at joins.lives j ≡ Some x → IsClient x.client
   pub once : AreOnce joins.lives
   pub single : AreSingle joins.lives
   pub times : (j : JoinNo) (x : LiveJoin) (ts : ℕ) → join_at joins.lives j ≡ Some x → x.stage ≡ stage.Ready ts → ts ≤ 2 ^ 62
@@ -191,7 +192,7 @@ pub record AreJoinsHere (here now steps : ℕ) (joins : Joins) : Type 0 where
 -- wait in it do so for calls that the server keeps, and these may be performed once they have their locks. The table knows each live
 -- transaction; live parts, transactions of this server and joins of others' go together, and no file call waits of a part that voted;
 -- each live part is within its limits and is not among the dead, there are no more transactions than a server may have, and the log
--- has room to apply those that voted. Nobody has a file open or holds a lock on one that was not made yet, each session keeps what it
+-- has room to apply those that voted. Nobody has a file open or holds a lock on one that was not made yet, or a leaf as an intention, each session keeps what it
 -- may, no transaction was decided later than the clock, what is known of each that is not decided has room in a note, and no count went
 -- further than so many steps.
 pub record IsReady {V : Type 0} (steps : ℕ) (serves : Bool) (k : ServerState V) : Type 0 where
@@ -222,7 +223,7 @@ pub record IsReady {V : Type 0} (steps : ℕ) (serves : Bool) (k : ServerState V
   pub clock : k.clock ≤ 2 ^ 62
   pub raised : 0 < k.epoch
   pub last : k.epoch < 2 ^ 32
-  pub unheld : (t : TransId) (n : ℕ) → k.given < n → holding k.locks.held t (Whole (record { server = k.server; epoch = k.epoch; counter = n })) ≡ None
+  pub unheld : (t : TransId) → IsHeldHere k.server k.epoch k.given (holding k.locks.held t)
 
 -- it is ready, and its counts have room for one step more
 abbrev pub IsReadyForMore : {V : Type 0} → Bool → ServerState V → Type 0

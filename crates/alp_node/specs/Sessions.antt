@@ -1,5 +1,5 @@
 -- The sessions of clients, each at its client's number.
-use Rattle.std.specs.Prelude.{ℕ, Option, None, Some, replicate, slice_get, slice_set, ◌+◌}
+use Rattle.std.specs.Prelude.{ℕ, Option, None, Some, replicate, slice_get, slice_set, ◌+◌, ◌≤◌}
 use Rattle.alp_base.specs.declared.limits.TheConstants.{CLIENTS}
 use Rattle.std.specs.Option.{option_and_then}
 use Rattle.alp_journal.specs.Desk.{Session}
@@ -13,3 +13,7 @@ session_at s client = option_and_then (λ x. x) (slice_get s.places client)
 
 abbrev pub with_session : Sessions → ℕ → Session → Sessions
 with_session s client session = record { places = slice_set s.places client (Some session) }
+
+-- there is such a client in a run
+abbrev pub IsClient : ℕ → Type 0
+IsClient n = (1 ≤ n) × (n ≤ 16)

@@ -1,5 +1,5 @@
 -- What a call is refused for before its locks are looked at: its shape, and how many locks it would leave.
-use Rattle.std.specs.Prelude.{ℕ, ◌+◌, ◌≤◌, Bool, true, false, not, nat_lt, nat_le, List, [], ◌∷◌, Option, None, Some, is_some, if◌then◌else◌}
+use Rattle.std.specs.Prelude.{◌≡◌, ℕ, ◌+◌, ◌≤◌, Bool, true, false, not, nat_lt, nat_le, List, [], ◌∷◌, Option, None, Some, is_some, if◌then◌else◌}
 use Rattle.std.specs.Option.{option_or}
 use Rattle.alp_base.specs.declared.choices.Choice.{Choice}
 use Rattle.alp_base.specs.declared.choices.Choice.TheVariants as choice
@@ -13,6 +13,7 @@ use Rattle.alp_files.specs.declared.refusal.Refusal.TheVariants as refusal
 use Rattle.alp_files.specs.declared.refusal.What.TheVariants as what
 use Rattle.alp_journal.specs.Counts.{log_need}
 use Rattle.alp_journal.specs.Answers.{if_over, more_locks, choice_of}
+use Rattle.alp_regain.specs.Named.{is_leaf_mode}
 use Rattle.alp_node.specs.Asks.{is_given}
 use Rattle.alp_node.specs.declared.lock_counts.LockCounts.{LockCounts}
 
@@ -27,9 +28,10 @@ no_run r = if_over (nat_lt 16 r.count) (refusal.TooMany what.Run 16)
 abbrev pub no_size : ℕ → Option Refusal
 no_size size = if_over (nat_lt 4096 size) (refusal.TooMany what.Pages 4096)
 
--- a run that is read is not empty
+-- a run that is read is not empty, and pages are locked to be read, to be read and perhaps written, or to be written
 abbrev pub ReadsSome : Call → Type 0
-ReadsSome (call.ReadPages t n r mode choice) = 1 ≤ r.count
+ReadsSome (call.ReadPages t n r mode choice) = (1 ≤ r.count) × (is_leaf_mode mode ≡ true)
+ReadsSome (call.LockPages t n r mode choice) = is_leaf_mode mode ≡ true
 ReadsSome c = Unit {0}
 
 -- where the server and its epoch gave ids to so many files, and the part has so many opens; what is wrong with an open that a

@@ -145,6 +145,7 @@ IsEntered G o old new before after e (Err f) = IsStepAs G o old new e (Err f) ×
 -- it is the next call of its client's session, behind the last one and its reply
 pub record IsTurn (sessions : Sessions) (t : Turn) : Type 0 where
   pub client : t.client ≤ 16
+  pub some : 1 ≤ t.client
   pub last : ℕ
   pub kept : Reply
   pub session : session_at sessions t.client ≡ Some (record { who = t.who; last = last; reply = kept })

@@ -5,7 +5,6 @@ use Rattle.std.specs.FinMap as map
 use Rattle.alp_base.specs.declared.ids.JoinNo.{JoinNo}
 use Rattle.alp_base.specs.declared.ids.TransId.{TransId}
 use Rattle.alp_base.specs.declared.faults.Sizes.{Sizes}
-use Rattle.alp_base.specs.declared.key.Resource.TheVariants.{Whole}
 use Rattle.alp_files.specs.Locks.{IsFormed}
 use Rattle.alp_files.specs.declared.call.Call.{Call}
 use Rattle.alp_files.specs.declared.call.Call.TheVariants as call
@@ -20,6 +19,7 @@ use Rattle.alp_coord.specs.declared.coordinator.Coordinator.{Coordinator}
 use Rattle.alp_worker.specs.declared.joins.Joins.{Joins}
 use Rattle.alp_worker.specs.declared.live.LiveJoin.{LiveJoin}
 use Rattle.alp_worker.specs.Lives.{is_open, join_at, part_of}
+use Rattle.alp_node.specs.Asks.{IsHeldHere}
 use Rattle.alp_node.specs.Dead.{cause_in}
 use Rattle.alp_node.specs.Shapes.{shape_of, ReadsSome}
 use Rattle.alp_node.specs.Totals.{LiveMap}
@@ -171,11 +171,11 @@ is_asking t w = is_file_on t w && not w.is_granted
 abbrev pub asks_for : List WaitingCall → TransId → Bool
 asks_for ws t = list_any (is_asking t) ws
 
--- who waits in the table is live, has a call here that waits for its locks, and would lock no file that was not made yet
+-- who waits in the table is live, has a call here that waits for its locks, and would hold what a part may
 pub record IsOfCalls (server epoch given : ℕ) (lives : LiveMap) (ws : List WaitingCall) (x : Waiter) : Type 0 where
   pub live : is_some (map.get lives x.trans) ≡ true
   pub asks : asks_for ws x.trans ≡ true
-  pub beyond : (n : ℕ) → given < n → map.get x.after (Whole (record { server = server; epoch = epoch; counter = n })) ≡ None
+  pub beyond : IsHeldHere server epoch given (map.get x.after)
 
 -- each of them is so, and so is the table's queue
 pub record AreWaiting (server epoch given drawn : ℕ) (sizes : Sizes) (lives : LiveMap) (ws : List WaitingCall) (queue : List Waiter) : Type 0 where

@@ -110,6 +110,7 @@ impl<V: Vault> ServerState<V> {
     // The next call of the client's session.
     fn next_call(&mut self, client: u8, number: u32, call: &Call) -> Result<Answer, OutOfMemory>
         requires client { client ≤ 16 }
+        requires some { 1 ≤ client }
         requires asked { IsAskable call.now }
         requires next { order_of self.old.epoch self.old.epoch number call.now (session_at self.old.sessions client) ≡ order.Next }
         requires up { self.old.is_down ≡ false }
@@ -159,6 +160,7 @@ impl<V: Vault> ServerState<V> {
         call: &Call,
     ) -> Result<Answer, OutOfMemory>
         requires client { client ≤ 16 }
+        requires some { 1 ≤ client }
         requires asked { IsAskable call.now }
         requires up { self.old.is_down ≡ false }
         requires ready { IsReadyForMore (V.serves self.old.vault) self.old }

@@ -230,8 +230,9 @@ impl<V: Vault> Down<V> {
     /// is that of the note.
     ///
     /// Where it is refused, the server comes back with its journal as one that may be started again. Where its last epoch is the last
-    /// there is, it is refused for just that. The count of faults of its vault rises only where that failed. A vault that was recovered
-    /// already is powered off, and what it holds stays.
+    /// there is, it is refused for just that. Where its vault tells what it holds it is never refused for its own notes, in whatever
+    /// write it went down. The count of faults of its vault rises only where that failed. A vault that was recovered already is powered
+    /// off, and what it holds stays.
     pub fn restart(self) -> Result<Node<V>, (Down<V>, StartFault)>
         ensures { MatchResult result (HasRestarted V.Vault self) (λ e. IsStillDown V.Vault self e.0 e.1) }
     {

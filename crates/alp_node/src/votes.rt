@@ -123,7 +123,8 @@ impl<V: Vault> ServerState<V> {
             unreachable!()
         };
         let locks = self.locks.list_of(trans)?;
-        // The table has as many locks of it as it counts. Else there would be no vote.
+        // The table has as many locks of it as it counts. Of a vault that tells what it holds this is proved, and the branch is never
+        // taken; of any other no clause says so, and a part of which they differed would not be answered.
         if locks.len() != live.locks as usize {
             return Ok(self.silence());
         }

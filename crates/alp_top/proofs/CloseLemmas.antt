@@ -30,11 +30,11 @@ module _ {V : Type 0} (G : VaultGhosts V) (servers : ℕ) where
   failed_elsewhere T here before now fault.JournalFull h = tt
   failed_elsewhere T here before now (fault.Start s f) h = (h.0, λ is. absurd (h.1 is))
 
-  told_elsewhere : (T : Type 0) (many here : ℕ) (f : RunFault) → IsElsewhere {T = T} servers here (Err f) → IsToldFault {T = T} many here (Err f)
-  told_elsewhere T many here (fault.DiskFault s) h = tt
-  told_elsewhere T many here fault.OutOfMemory h = tt
-  told_elsewhere T many here fault.JournalFull h = tt
-  told_elsewhere T many here (fault.Start s f) h = λ is. absurd (h.1 is)
+  told_elsewhere : (T : Type 0) (here : ℕ) (f : RunFault) → IsElsewhere {T = T} servers here (Err f) → IsToldFault {T = T} here (Err f)
+  told_elsewhere T here (fault.DiskFault s) h = tt
+  told_elsewhere T here fault.OutOfMemory h = tt
+  told_elsewhere T here fault.JournalFull h = tt
+  told_elsewhere T here (fault.Start s f) h = λ is. absurd (h.1 is)
 
   counted_elsewhere : (T : Type 0) (here before now : ℕ) (f : RunFault) → IsElsewhere {T = T} servers here (Err f) → now ≡ before → AreCountedIn {T = T} here (Err f) before now
   counted_elsewhere T here before now (fault.DiskFault s) h same = (λ is. absurd (h.1 is), λ away. same)
@@ -48,7 +48,7 @@ module _ {V : Type 0} (G : VaultGhosts V) (servers : ℕ) where
     same = h.same;
     later = h.later;
     failed = failed_elsewhere T (G.server u) (G.faults u) (G.faults v) f away;
-    told = λ e. told_elsewhere T (G.servers u) (G.server u) f away;
+    told = λ e. told_elsewhere T (G.server u) f away;
     free = h.free;
     counted = λ p e. counted_elsewhere T (G.server u) (G.faults u) (G.faults v) f away (h.counted p e);
   }

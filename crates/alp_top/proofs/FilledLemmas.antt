@@ -28,9 +28,9 @@ use Rattle.alp_vault.specs.Vault.{IsSameVault}
 use Rattle.alp_vault.specs.declared.vault.Vault.{Ghosts as VaultGhosts}
 use Rattle.alp_cluster.specs.Fills.{IsEndFor, IsFullFor, server_due}
 use Rattle.alp_cluster.specs.Runs.{StopNone, HasEndedEarly}
-use Rattle.alp_cluster.specs.Servers.{IsOn, StaysDown, AreCountedIn, state_of}
+use Rattle.alp_cluster.specs.Servers.{AreCalm, IsOn, StaysDown, AreCountedIn, state_of}
 use Rattle.alp_cluster.specs.Station.{standing, HasVault, seat_for, seat_of}
-use Rattle.alp_cluster.specs.Stations.{IsManned, IsUnchanged, EndsFor, EndsAt, course_of, opening_in, openings_of, servers_of}
+use Rattle.alp_cluster.specs.Stations.{AreCalmSince, IsManned, IsUnchanged, EndsFor, EndsAt, course_of, opening_in, openings_of, servers_of}
 use Rattle.alp_cluster.specs.declared.fault.RunFault.{RunFault}
 use Rattle.alp_cluster.specs.declared.fault.RunFault.TheVariants as run_fault
 use Rattle.alp_cluster.specs.declared.server.Server.{Server}
@@ -38,8 +38,9 @@ use Rattle.alp_cluster.specs.declared.server.Server.TheVariants.{Fallen}
 use Rattle.alp_cluster.specs.declared.station.Station.{Station}
 use Rattle.alp_cluster.specs.declared.stations.Stations.{Stations}
 use Rattle.alp_top.specs.Disks.{notes_in}
-use Rattle.alp_top.specs.Volumes.{IsBare, IsLeftBy, IsOpenedNew, IsOpenedOn, IsStored, IsCutShort, HasFilled, HasUsedUp}
+use Rattle.alp_top.specs.Volumes.{IsUnstopped, IsBare, IsLeftBy, IsOpenedNew, IsOpenedOn, IsStored, IsCutShort, HasFilled, HasUsedUp}
 use Rattle.alp_top.proofs.BeginLemmas.{holds_by}
+use Rattle.alp_top.proofs.CalmAtLemmas.{calm_at}
 use Rattle.alp_top.proofs.CutLemmas.{cut_short}
 use Rattle.alp_top.proofs.GivenLemmas.{up_vault}
 use Rattle.alp_top.proofs.GoneAtLemmas.{IsGoneAt, IsLeftSo, IsFilledRun, IsUsedUpRun}
@@ -77,7 +78,7 @@ set_elsewhere (x ∷ xs) (suc i) (suc j) y away = set_elsewhere xs i j y (λ e. 
 
 -- each has the vault of the server that stood there
 module _ {V D T : Type 0} (G : VaultGhosts V) (g : Ghosts D) (tells : Bool) (told : IsTrue tells) (lines : List NumberedLine) (before after : ℕ → Option D) (first left : Stations V) (f : RunFault) (early : HasEndedEarly G (servers_said lines) lines f left)
-    (at : (n : ℕ) → IsOneOf (servers_said lines) n → IsLeftSo {T = T} G g tells lines before after first left (Err f) n) (opens : openings_of left ≡ openings_of first) where
+    (at : (n : ℕ) → IsOneOf (servers_said lines) n → IsLeftSo {T = T} G g tells lines before after first left (Err f) n) (opens : openings_of left ≡ openings_of first) (calm : AreCalmSince G first left) where
   abbrev last : Stations V
   last = early.last
 
@@ -125,7 +126,12 @@ module _ {V D T : Type 0} (G : VaultGhosts V) (g : Ghosts D) (tells : Bool) (tol
 
       -- what is left of it
       pub still_left : (StopNone lines → G.faults x.vault ≡ G.faults x.node.kept.vault) → IsLeftBy g lines r n x.taken x.given
-      still_left calm =
+      still_left same_so =
+          let journal_is : (seat_at r n).journal ≡ m.node.journal = ap (λ (z : Seat). z.journal) sits in
+          let left_counted : IsUnstopped lines (seat_at r n).journal → G.faults x.vault ≡ G.faults x.node.kept.vault = λ h. elim h [
+            | inl none ↦ same_so none
+            | inr stopped_none ↦ ap G.faults vault_is ∙ (calm_at G first left calm n x.station x.left x.node (standing m.node) x.stood x.was x.stands still (subst AreCalm journal_is stopped_none)).1
+          ] in
           let same : IsSameVault G.tells G.volume G.server G.servers x.node.kept.vault x.vault = x.gone.same in
           let server_of : G.server x.vault ≡ n = same.number ∙ x.begun.started.on.kept.number ∙ x.begun.started.number in
           let servers_are : G.servers x.vault ≡ servers_said lines = same.of_all ∙ x.begun.started.on.kept.all ∙ x.begun.started.count in
@@ -148,7 +154,7 @@ module _ {V D T : Type 0} (G : VaultGhosts V) (g : Ghosts D) (tells : Bool) (tol
                       ((m.keeps.on.kept.durable still_tells).down c (subst (λ (v : V). G.may_leave v c) vault_is may_be)),
                 );
             read = x.back.read (vault_tells n here);
-            unfailed = λ none. x.back.faults ∙ calm none ∙ x.begun.started.faults;
+            unfailed = λ h. x.back.faults ∙ left_counted h ∙ x.begun.started.faults;
           }
 
       -- its journal was full
@@ -164,9 +170,12 @@ module _ {V D T : Type 0} (G : VaultGhosts V) (g : Ghosts D) (tells : Bool) (tol
                 (started_as G g (sizes_said lines n) n (servers_said lines) x.node m.node x.vault x.taken x.given x.begun.started (x.begun.told told) m.keeps.on m.number_is opening still_tells);
             full = subst (λ (z : Seat). entries_limit ≤ length z.journal) (sym sits) (subst (λ (z : Seat). entries_limit ≤ z.stand.place) sits full);
             stored =
-                subst (λ (z : Seat). IsStored g (StopNone lines) n (servers_said lines) (sizes_said lines n) z.opening (notes_in G m.node) (state_after next (opened z.opening) z.journal) x.taken x.given) (sym sits)
-                (stored G g (sizes_said lines n) n (servers_said lines) x.node m.node x.vault x.taken x.given x.begun.started (x.begun.told told) m.keeps.on m.number_is opening still_tells node_up x.gone.same (ap G.held vault_is) serves x.back (StopNone lines) here.first here.last
-                (λ none. subst (λ (q : RunFault). AreCountedIn {T = T} (G.server x.node.kept.vault) (Err q) (G.faults x.node.kept.vault) (G.faults x.vault)) is (x.gone.counted none x.begun.started.idle.free)));
+                subst (λ (z : Seat). IsStored g (IsUnstopped lines z.journal) n (servers_said lines) (sizes_said lines n) z.opening (notes_in G m.node) (state_after next (opened z.opening) z.journal) x.taken x.given) (sym sits)
+                (stored G g (sizes_said lines n) n (servers_said lines) x.node m.node x.vault x.taken x.given x.begun.started (x.begun.told told) m.keeps.on m.number_is opening still_tells node_up x.gone.same (ap G.held vault_is) serves x.back (IsUnstopped lines m.node.journal) here.first here.last
+                (λ h. elim h [
+                  | inl none ↦ subst (λ (q : RunFault). AreCountedIn {T = T} (G.server x.node.kept.vault) (Err q) (G.faults x.node.kept.vault) (G.faults x.vault)) is (x.gone.counted none x.begun.started.idle.free)
+                  | inr stopped_none ↦ ap G.faults vault_is ∙ (calm_at G first left calm n x.station x.left x.node (standing m.node) x.stood x.was x.stands still stopped_none).1
+                ]));
           }
 
   -- ---- at a full journal
@@ -328,6 +337,13 @@ module _ {V D T : Type 0} (G : VaultGhosts V) (g : Ghosts D) (tells : Bool) (tol
         let server_of : G.server x.vault ≡ k + 1 = same.number ∙ x.begun.started.on.kept.number ∙ x.begun.started.number in
         let servers_are : G.servers x.vault ≡ servers_said lines = same.of_all ∙ x.begun.started.on.kept.all ∙ x.begun.started.count in
         let volume : G.volume x.vault ≡ (start_in G e.node).sizes = same.sizes ∙ ap G.volume (sym x.begun.started.idle.opening) ∙ ap (λ o. G.volume o.vault.value) (sym opening) in
+        let since = calm_at G first left calm (k + 1) x.station x.left x.node (Some (Fallen down)) x.stood x.was x.stands (ap (λ (z : Station V). z.server) left_is ∙ e.ends.1) in
+        let journal_is : (seat_at r (k + 1)).journal ≡ down.journal = ap (λ (z : Seat). z.journal) sits_node ∙ sym stays.falls.journal ∙ sym stays.stays.journal in
+        let over_counted : IsUnstopped lines (seat_at r (k + 1)).journal → G.faults x.vault ≡ G.faults x.node.kept.vault = λ h. elim h [
+          | inl none ↦ (subst (λ (q : RunFault). AreCountedIn {T = T} (G.server x.node.kept.vault) (Err q) (G.faults x.node.kept.vault) (G.faults x.vault)) is (x.gone.counted none x.begun.started.idle.free)).0
+              (server_is ∙ sym x.begun.started.number ∙ sym x.begun.started.on.kept.number)
+          | inr stopped_none ↦ ap G.faults (down_vault here) ∙ (since (subst AreCalm journal_is stopped_none)).1
+        ] in
         record {
           seat = seat_here (k + 1) here;
           notes = notes_in G e.node;
@@ -346,10 +362,7 @@ module _ {V D T : Type 0} (G : VaultGhosts V) (g : Ghosts D) (tells : Bool) (tol
                 subst (λ (z : Seat). IsLeftOf (state_after next (opened z.opening) z.journal) c) (sym sits_node) (left_down e.node down e.pick stays (subst (λ v. IsTrue (G.tells v)) (down_vault here) tells_vault) c (subst (λ v. G.may_leave v c) (down_vault here) may_be)),
               );
           read = x.back.read tells_vault;
-          unfailed = λ none. x.back.faults
-              ∙ (subst (λ (q : RunFault). AreCountedIn {T = T} (G.server x.node.kept.vault) (Err q) (G.faults x.node.kept.vault) (G.faults x.vault)) is (x.gone.counted none x.begun.started.idle.free)).0
-              (server_is ∙ sym x.begun.started.number ∙ sym x.begun.started.on.kept.number)
-              ∙ x.begun.started.faults;
+          unfailed = λ h. x.back.faults ∙ over_counted h ∙ x.begun.started.faults;
         }
       where
         -- what a crash leaves of a server that has come to its last epoch

@@ -266,4 +266,4 @@ module _ {V D : Type 0} (G : VaultGhosts V) (g : Ghosts D) (tells : Bool) (told 
       go (fault.NotAVolume s found) (inl x) of make = absurd x.1
       go (fault.NotAVolume s found) (inr x) of make = stops (λ n. IsNoVolume g lines n found) s of (make (λ n. IsNoVolume g lines n found) x (λ d e why. (why.1, why.2)))
       go (fault.Damaged s place) (inl x) of make = absurd x.1
-      go (fault.Damaged s place) (inr x) of make = inl (stops (λ n. IsDamaged g lines n place) s of (make (λ n. IsDamaged g lines n place) x (λ d e why. why.1)))
+      go (fault.Damaged s place) (inr x) of make = stops (λ n. IsDamaged g lines n place) s of (make (λ n. IsDamaged g lines n place) x (λ d e why. why.1))

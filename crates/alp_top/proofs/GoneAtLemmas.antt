@@ -3,6 +3,7 @@ use Rattle.std.specs.Prelude.{Bool, IsTrue, map as list_map, slice_get, Option, 
 use Rattle.std.proofs.Common.{inl, inr, ◌⊎◌, ◌≡◌, ◌≢◌, ℕ, zero, suc, ◌+◌, ◌-◌, ◌<◌, ◌≤◌, List, [], ◌∷◌, length, refl, sym, ◌∙◌, ap, subst, arith}
 use Rattle.std.proofs.lemmas.Bool.{cases_eq}
 use Rattle.alp_base.specs.Causes.{Rose}
+use Rattle.alp_base.specs.declared.allowance.Allowance.TheVariants.{Free}
 use Rattle.alp_base.specs.declared.faults.Sizes.{Sizes}
 use Rattle.alp_base.specs.declared.faults.VaultFault.{VaultFault}
 use Rattle.alp_base.specs.declared.faults.VaultFault.TheVariants as vault_fault
@@ -61,14 +62,19 @@ pub record IsLeftSo {V D T : Type 0} (G : VaultGhosts V) (g : Ghosts D) (tells :
   pub at : IsGoneAt G g tells lines before after first now r n
   pub its : HasVault at.left.server at.vault
 
--- It was at rest, and was closed.
+-- It was at rest, and was closed. Where nobody stops it then, its count of faults stayed.
 pub record IsDoneAt {V D T : Type 0} (G : VaultGhosts V) (g : Ghosts D) (tells : Bool) (lines : List NumberedLine) (before after : ℕ → Option D) (first now : Stations V) (r : Result T RunFault) (n : ℕ) : Type 0 where
   pub at : IsGoneAt G g tells lines before after first now r n
   pub rest : NodeState V
   pub rests : at.left.server ≡ standing rest
   pub held : OnOk r (G.held at.vault ≡ G.held rest.kept.vault)
   pub serves : OnOk r (IsTrue (G.serves at.vault))
+  pub still : OnOk r (G.allowance rest.kept.vault ≡ Free → G.faults at.vault ≡ G.faults rest.kept.vault)
   pub telling : G.tells rest.kept.vault ≡ G.tells at.node.kept.vault
+
+ok_counted : {U : Type 0} (F : Type 0) (here before now : ℕ) (q : Result U RunFault) → (F → AreCountedIn here q before now) → OnOk q (F → now ≡ before)
+ok_counted F here before now (Ok x) h = h
+ok_counted F here before now (Err f) h = tt
 
 module _ {V D : Type 0} (G : VaultGhosts V) (g : Ghosts D) (tells : Bool) (lines : List NumberedLine) (before mid after : ℕ → Option D) (ns : List (NodeState V)) (ds : List D) (first now : Stations V) (stand : AreStationsOf ns first.all.items) (many : length ns ≡ servers_said lines)
     (begun : AreBegun G g tells lines before 1 ns ds) (same : IsTrue tells → AreOthersSame (servers_said lines) before mid) where
@@ -151,6 +157,7 @@ module _ {V D : Type 0} (G : VaultGhosts V) (g : Ghosts D) (tells : Bool) (lines
           rests = y.stands;
           held = y.held;
           serves = y.serves;
+          still = ok_counted (G.allowance y.node.kept.vault ≡ Free) (G.server y.node.kept.vault) (G.faults y.node.kept.vault) (G.faults y.vault) q (λ free. y.gone.counted tt free);
           telling = first_gone.same.telling;
         }
 
@@ -219,6 +226,10 @@ module _ {V D : Type 0} (G : VaultGhosts V) (g : Ghosts D) (tells : Bool) (lines
       go (run_fault.Start s start_fault.BadNote) x = one_of s (x 1 first_here).0
       go (run_fault.Start s start_fault.EpochEnd) x = tt
 
+  -- and the last epoch is that of a server of the run
+  pub play_epoch : (s : ℕ) → f ≡ run_fault.Start s start_fault.EpochEnd → IsOneOf (servers_said lines) s
+  play_epoch s is = (let named : Failed (run_fault.Start s start_fault.EpochEnd) = subst (λ (q : RunFault). Failed q) is failed in one_of s (named 1 first_here).0)
+
   -- ---- on a bay that tells
 
   module _ (told : IsTrue tells) (others : AreOthersSame (servers_said lines) before after) where
@@ -270,14 +281,12 @@ module _ {V D : Type 0} (G : VaultGhosts V) (g : Ghosts D) (tells : Bool) (lines
     vault_told : (n : ℕ) (here : IsOneOf (servers_said lines) n) → IsTrue (G.tells (at n here).node.kept.vault)
     vault_told n here = (let x = at n here in subst IsTrue (sym x.begun.started.telling) (x.begun.told told))
 
-    fault_told : (n : ℕ) (here : IsOneOf (servers_said lines) n) → IsToldFault {T = T} (servers_said lines) n (Err f)
-    fault_told n here =
-        let many : G.servers (at n here).node.kept.vault ≡ servers_said lines = (let x = at n here in x.begun.started.on.kept.all ∙ x.begun.started.count) in
-        subst (λ (k : ℕ). IsToldFault {T = T} k n (Err f)) many (subst (λ (m : ℕ). IsToldFault {T = T} (G.servers (at n here).node.kept.vault) m (Err f)) (here_is n here) ((at n here).gone.told (vault_told n here)))
+    fault_told : (n : ℕ) (here : IsOneOf (servers_said lines) n) → IsToldFault {T = T} n (Err f)
+    fault_told n here = subst (λ (m : ℕ). IsToldFault {T = T} m (Err f)) (here_is n here) ((at n here).gone.told (vault_told n here))
 
     record Facts (q : RunFault) : Type 0 where
       failed_so : Failed q
-      told_so : (n : ℕ) (here : IsOneOf (servers_said lines) n) → IsToldFault {T = T} (servers_said lines) n (Err q)
+      told_so : (n : ℕ) (here : IsOneOf (servers_said lines) n) → IsToldFault {T = T} n (Err q)
       counted_so : StopNone lines → (n : ℕ) (here : IsOneOf (servers_said lines) n) → AreCounted n q (G.faults (at n here).node.kept.vault) (G.faults (at n here).vault)
       filled : q ≡ run_fault.JournalFull → IsFilledRun g lines (λ n here. (at n here).taken) (λ n here. (at n here).given)
       over : (s : ℕ) → q ≡ run_fault.Start s start_fault.EpochEnd → IsUsedUpRun g lines s (λ n here. (at n here).taken) (λ n here. (at n here).given)
@@ -315,13 +324,7 @@ module _ {V D : Type 0} (G : VaultGhosts V) (g : Ghosts D) (tells : Bool) (lines
         go (run_fault.Start s (start_fault.Vault vault_fault.OutOfMemory)) x = wanting (λ none n here. same_for n here (elim (cases_eq s n) [ inl is ↦ (x.counted_so none n here).0 is | inr away ↦ (x.counted_so none n here).1 away ]))
         go (run_fault.Start s (start_fault.Vault (vault_fault.NotAVolume found))) x = absurd (x.told_so s (one_of s (x.failed_so 1 first_here).0) refl)
         go (run_fault.Start s (start_fault.Vault (vault_fault.Damaged place))) x = absurd (x.told_so s (one_of s (x.failed_so 1 first_here).0) refl)
-        go (run_fault.Start s start_fault.BadNote) x = inr (
-          refl,
-          x.told_so s (one_of s (x.failed_so 1 first_here).0) refl,
-          one_of s (x.failed_so 1 first_here).0,
-          returned (λ n d e. (StopNone lines → g.faults e ≡ g.faults d) × IsLeftWhole g lines n d e)
-              (λ n here. ((λ none. same_for n here (elim (cases_eq s n) [ inl is ↦ (x.counted_so none n here).0 is | inr away ↦ (x.counted_so none n here).1 away ])), whole_at n here)),
-        )
+        go (run_fault.Start s start_fault.BadNote) x = absurd (x.told_so s (one_of s (x.failed_so 1 first_here).0) refl)
         go (run_fault.Start s start_fault.EpochEnd) x =
             let y = x.over s refl in
             inr (

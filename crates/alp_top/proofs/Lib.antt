@@ -4,12 +4,16 @@ pub mod LonelyLemmas
 pub mod BeginLemmas
 pub mod BegunLemmas
 pub mod CommandLemmas
+pub mod AwayDeeds
+pub mod AwayEdits
+pub mod CalmAtLemmas
 pub mod CloseLemmas
 pub mod CloseOneLemmas
 pub mod KeptCourse
 pub mod KeptLemmas
 pub mod LeaveLemmas
 pub mod LookLemmas
+pub mod EndedLemmas
 pub mod FilledLemmas
 pub mod CountedFits
 pub mod CountedLemmas
@@ -27,6 +31,7 @@ pub mod RefusedLemmas
 pub mod RunLemmas
 pub mod SeatedLemmas
 pub mod SeveralLemmas
+pub mod StartableLemmas
 pub mod StartedLemmas
 pub mod StoredLemmas
 pub mod StreamLemmas

@@ -19,11 +19,12 @@ use Rattle.alp_vault.specs.declared.vault.Vault.{Ghosts as VaultGhosts}
 use Rattle.alp_words.specs.Words.{folder_named, IsNamedBy}
 use Rattle.alp_words.specs.declared.command.Command.{Command}
 use Rattle.alp_words.specs.declared.command.Command.TheVariants as command
-use Rattle.alp_top.specs.Anywhere.{IsPlayedThrough, HasReported, IsDeclared}
+use Rattle.alp_top.specs.Anywhere.{IsPlayedThrough, HasReported, IsDeclared, IsLimitOf}
 use Rattle.alp_top.specs.Commands.{AreToPlay, shows_lines}
+use Rattle.alp_top.specs.Limits.{IsEndTold}
 use Rattle.alp_top.specs.Headline.{IsRunOf, IsPromised, IsPlayed, IsCutOff}
 use Rattle.alp_top.specs.Logs.{Log}
-use Rattle.alp_top.specs.Statuses.{IsLimit, OnTooLong, OnBadDisk, OnUntaken, OnNoLines, Kept, OnDone, OnWriteFault, OnCutShort, ended_by, folder_in, IsFolderTold, IsBayFaultTold, OnDiskFault, IsHandedOver, IsPlayedOrMemory, IsReadFaultTold, IsWriteFaultTold}
+use Rattle.alp_top.specs.Statuses.{OnBayFault, OnTooLong, OnBadDisk, OnUntaken, OnNoLines, Kept, OnDone, OnWriteFault, OnCutShort, ended_by, folder_in, IsFolderTold, IsBayFaultTold, OnDiskFault, IsHandedOver, IsPlayedOrMemory, IsReadFaultTold, IsWriteFaultTold}
 use Rattle.alp_top.specs.Volumes.{pages_of, HasRunCause, IsBayFault, IsFolderLeft, IsOfServers, IsStartable, StartsOn}
 use Rattle.alp_top.specs.declared.fault.NoReport.{NoReport}
 use Rattle.alp_top.specs.declared.fault.NoReport.TheVariants as fault
@@ -146,15 +147,28 @@ module _ {D : Type 0} {g : Ghosts D} where
       go (fault.NotAVolume server found) = tt
       go (fault.Damaged server place) = tt
 
-  pub limited : (s : Status D g) (f : NoReport) → s ≡ ended_by f → OnTooLong s IsLimit
-  limited s f is = subst (λ (q : Status D g). OnTooLong q IsLimit) (sym is) (go f)
+  pub limited : (s : Status D g) (f : NoReport) (words : List (List ℕ)) (old new : Option (List ℕ)) (c : Command) → IsNamedBy words c → (lines : List NumberedLine) → AreToPlay c old new lines → s ≡ ended_by f → IsEndTold lines f → OnTooLong s (IsLimitOf words old new)
+  limited s f words old new c named lines script is h = subst (λ (q : Status D g). OnTooLong q (IsLimitOf words old new)) (sym is) (go f h)
     where
-      go : (f : NoReport) → OnTooLong (ended_by {D = D} {g = g} f) IsLimit
-      go fault.Bay = tt
-      go (fault.Disk server) = tt
+      go : (f : NoReport) → IsEndTold lines f → OnTooLong (ended_by {D = D} {g = g} f) (IsLimitOf words old new)
+      go fault.Bay h = tt
+      go (fault.Disk server) h = tt
+      go fault.OutOfMemory h = tt
+      go fault.JournalFull h = inr (inl (refl, record { play = record { command = c; named = named; lines = lines; script = script }; ended = h }))
+      go (fault.EpochEnd server) h = inr (inr (refl, server, record { command = c; named = named; lines = lines; script = script; is = h }))
+      go (fault.NotAVolume server found) h = tt
+      go (fault.Damaged server place) h = tt
+
+  -- the bay was asked for disks of lines to play
+  pub bay_asked : (s : Status D g) (f : NoReport) (P : Type 0) → s ≡ ended_by f → P → OnBayFault s P
+  bay_asked s f P is p = subst (λ (q : Status D g). OnBayFault q P) (sym is) (go f)
+    where
+      go : (f : NoReport) → OnBayFault (ended_by {D = D} {g = g} f) P
+      go fault.Bay = λ e. p
+      go (fault.Disk server) = λ e. p
       go fault.OutOfMemory = tt
-      go fault.JournalFull = inr (inl refl)
-      go (fault.EpochEnd server) = inr (inr refl)
+      go fault.JournalFull = tt
+      go (fault.EpochEnd server) = tt
       go (fault.NotAVolume server found) = tt
       go (fault.Damaged server place) = tt
 
@@ -219,6 +233,18 @@ module _ {D : Type 0} {g : Ghosts D} where
   handed_limits (status.TooLong limit) P h = absurd h
   handed_limits (status.NotAVolume server found) P h = tt
   handed_limits (status.Damaged server place) P h = tt
+
+  pub handed_bay : (s : Status D g) (P : Type 0) → IsHandedOver s → OnBayFault s P
+  handed_bay (status.Done log) P h = tt
+  handed_bay (status.WriteFault log) P h = tt
+  handed_bay status.BadWords P h = tt
+  handed_bay (status.BadScript line) P h = tt
+  handed_bay status.ReadFault P h = tt
+  handed_bay (status.DiskFault server) P h = absurd h
+  handed_bay status.OutOfMemory P h = tt
+  handed_bay (status.TooLong limit) P h = tt
+  handed_bay (status.NotAVolume server found) P h = tt
+  handed_bay (status.Damaged server place) P h = tt
 
   pub handed_disk : (s : Status D g) (P : ℕ → Type 0) → IsHandedOver s → OnBadDisk s P
   handed_disk (status.Done log) P h = tt
@@ -327,8 +353,8 @@ module _ {D : Type 0} {g : Ghosts D} (lines : List NumberedLine) (before after :
       record { volume = λ found why. blank; whole = λ place why. blank; epoch = λ none. blank; notes = λ a held several counts holds own. inl blank }
   startable n here d (Some s) is same = subst (λ (q : D). IsStartable (sizes_said lines n) n (servers_said lines) (g.size q) (g.seen q)) (sym same) ((starts n here).startable s is)
 
-  pub plays_on : (s : Status D g) (f : NoReport) (bay_before bay_after : ℕ) → s ≡ ended_by f → HasRunCause g lines before after bay_before bay_after f → (Rose bay_before bay_after → ⊥) → (P : Type 0) → ((servers_said lines ≡ 1 → ⊥) → P) → IsPlayedOrMemory P s
-  plays_on s f bay_before bay_after is cause still P several = subst (λ (q : Status D g). IsPlayedOrMemory P q) (sym is) (go f cause)
+  pub plays_on : (s : Status D g) (f : NoReport) (bay_before bay_after : ℕ) → s ≡ ended_by f → HasRunCause g lines before after bay_before bay_after f → (Rose bay_before bay_after → ⊥) → IsPlayedOrMemory s
+  plays_on s f bay_before bay_after is cause still = subst (λ (q : Status D g). IsPlayedOrMemory q) (sym is) (go f cause)
     where
       on : (n : ℕ) → IsOneOf (servers_said lines) n → (d : D) → IsTaken g (before n) (pages_of (sizes_said lines n)) d → IsStartable (sizes_said lines n) n (servers_said lines) (g.size d) (g.seen d)
       on n here d was = startable n here d (before n) refl was
@@ -336,7 +362,7 @@ module _ {D : Type 0} {g : Ghosts D} (lines : List NumberedLine) (before after :
       its : (n : ℕ) → IsOneOf (servers_said lines) n → IsOneOf n n
       its n here = record { first = here.first; last = omega arith }
 
-      go : (f : NoReport) → HasRunCause g lines before after bay_before bay_after f → IsPlayedOrMemory P (ended_by {D = D} {g = g} f)
+      go : (f : NoReport) → HasRunCause g lines before after bay_before bay_after f → IsPlayedOrMemory (ended_by {D = D} {g = g} f)
       go fault.Bay x = absurd (still x.3)
       go (fault.Disk n) x =
           let e = x.returned.each n x.cause in
@@ -347,8 +373,7 @@ module _ {D : Type 0} {g : Ghosts D} (lines : List NumberedLine) (before after :
       go (fault.EpochEnd n) (inl x) = (let e = x.returned.each n (its n x.among) in let why = e.left.0 refl in absurd (why.0.old ((on n x.among e.taken e.from_there).epoch why.1)))
       go (fault.EpochEnd n) (inr x) = inr refl
       go (fault.NotAVolume n found) x = (let e = x.returned.each n (its n x.among) in let why = e.left.0 refl in absurd (why.0.old ((on n x.among e.taken e.from_there).volume found why.1)))
-      go (fault.Damaged n place) (inr x) = (x.0, several x.1)
-      go (fault.Damaged n place) (inl x) =
+      go (fault.Damaged n place) x =
           let e = x.returned.each n (its n x.among) in
           let y = on n x.among e.taken e.from_there in
           elim (e.left.0 refl) [

@@ -2,9 +2,10 @@
 use Rattle.std.specs.Prelude.{Vec, Bool, false, IsTrue, map as list_map, slice_get, get_or, Option, None, Some, Result, Ok, Err}
 use Rattle.std.specs.Global.{Global}
 use Rattle.std.specs.List.{AllByRecursion}
-use Rattle.std.proofs.Common.{◌≡◌, ℕ, zero, suc, ◌+◌, ◌-◌, ◌<◌, ◌≤◌, List, [], ◌∷◌, length, refl, sym, ◌∙◌, ap, subst, arith}
+use Rattle.std.proofs.Common.{inl, inr, ◌≡◌, ℕ, zero, suc, ◌+◌, ◌-◌, ◌<◌, ◌≤◌, List, [], ◌∷◌, length, refl, sym, ◌∙◌, ap, subst, arith}
 use Rattle.std.proofs.lemmas.List.{length-map}
 use Rattle.alp_base.specs.Notes.{Notes}
+use Rattle.alp_base.specs.declared.allowance.Allowance.TheVariants.{Free}
 use Rattle.alp_course.specs.Courses.{Course, Seat, IsOneOf, IsSeat, seat_at, TellAll}
 use Rattle.alp_course.specs.Links.{server_log}
 use Rattle.alp_disk.specs.declared.disk.Disk.{Ghosts}
@@ -24,12 +25,14 @@ use Rattle.alp_node.specs.declared.opened.Opened.{Opened}
 use Rattle.alp_script.specs.Accepted.{RisesFrom, servers_said}
 use Rattle.alp_script.specs.Volumes.{sizes_said}
 use Rattle.alp_script.specs.declared.numbered.NumberedLine.{NumberedLine}
+use Rattle.alp_store.specs.Holding.{Holds}
+use Rattle.alp_vault.specs.Contents.{Contents}
 use Rattle.alp_vault.specs.declared.vault.Vault.{Ghosts as VaultGhosts}
 use Rattle.alp_cluster.specs.Gathered.{AreStationsOf}
 use Rattle.alp_cluster.specs.Runs.{StopNone, HasPlayedOut}
-use Rattle.alp_cluster.specs.Servers.{IsOn, state_of}
+use Rattle.alp_cluster.specs.Servers.{AreCalm, IsOn, state_of}
 use Rattle.alp_cluster.specs.Station.{standing, seat_for, seat_of}
-use Rattle.alp_cluster.specs.Stations.{HaveGone, IsManned, course_of, opening_in, openings_of}
+use Rattle.alp_cluster.specs.Stations.{AreCalmSince, HaveGone, IsManned, course_of, opening_in, openings_of}
 use Rattle.alp_cluster.specs.declared.fault.RunFault.{RunFault}
 use Rattle.alp_cluster.specs.declared.station.Station.{Station}
 use Rattle.alp_cluster.specs.declared.stations.Stations.{Stations}
@@ -40,15 +43,17 @@ use Rattle.alp_top.specs.Headline.{IsStoredBy, AreAtRest, AreFromDisks, IsAlone,
 use Rattle.alp_top.specs.Logs.{Log, ServerOfLog, openings, start_of, log_of}
 use Rattle.alp_top.specs.Reports.{end_of}
 use Rattle.alp_top.specs.Together.{BeginsSound, OpensOn, OpenOn}
-use Rattle.alp_top.specs.Volumes.{pages_of, IsBare, IsStored, AreReturned}
+use Rattle.alp_top.specs.Volumes.{pages_of, IsBare, IsUnstopped, IsStored, AreReturned, IsStartable}
 use Rattle.alp_top.specs.declared.finish.Rests.{Rests}
 use Rattle.alp_top.proofs.GoneAtLemmas.{IsGoneAt, IsDoneAt, done_at}
+use Rattle.alp_top.proofs.CalmAtLemmas.{calm_at}
 use Rattle.alp_top.proofs.CountedLemmas.{counted_for}
 use Rattle.alp_top.proofs.LonelyLemmas.{is_alone}
 use Rattle.alp_top.proofs.PairLemmas.{matched_at, same_there}
 use Rattle.alp_top.proofs.SeatedLemmas.{there_less, seat_on, many}
 use Rattle.alp_top.proofs.RestLemmas.{only_clock}
 use Rattle.alp_top.proofs.SeveralLemmas.{one_node, one_same, log_many, faithful, AreDecidedSo, proper_log, decided_so, told_clients, log_at, at_rest, tallied}
+use Rattle.alp_top.proofs.StartableLemmas.{startable_again}
 use Rattle.alp_top.proofs.StoredLemmas.{stored, bare_as}
 use Rattle.alp_top.proofs.TogetherLemmas.{IsPlain, fresh_together, lone_together, plain_together, opens_by, all_open}
 
@@ -88,7 +93,7 @@ tell_all G s f = all_map (λ (z : Seat). IsTrue z.tells) (seat_of G) s.all.items
 
 module _ {V D U : Type 0} (G : VaultGhosts V) (g : Ghosts D) (tells : Bool) (told : IsTrue tells) (lines : List NumberedLine) (before mid after : ℕ → Option D) (ns : List (NodeState V)) (ds : List D) (first last : Stations V) (stand : AreStationsOf ns first.all.items)
     (many_is : length ns ≡ servers_said lines) (few : servers_said lines ≤ 8) (begun : AreBegun G g tells lines before 1 ns ds) (same : IsTrue tells → AreOthersSame (servers_said lines) before mid) (gone : HaveGone {T = Unit {0}} G (StopNone lines) first last (Ok tt)) (u : U)
-    (closed : AreClosed {T = U} G g tells (length last.all.items) last.all.items mid after (Ok u)) (opens : openings_of last ≡ openings_of first) (vs : List (Vec Item Global)) (text printed : List ℕ) (log : Log V) (rests : Rests V) (rises : RisesFrom 1 lines)
+    (closed : AreClosed {T = U} G g tells (length last.all.items) last.all.items mid after (Ok u)) (opens : openings_of last ≡ openings_of first) (calm : AreCalmSince G first last) (vs : List (Vec Item Global)) (text printed : List ℕ) (log : Log V) (rests : Rests V) (rises : RisesFrom 1 lines)
     (out : HasPlayedOut G (servers_said lines) lines last vs text) (kept : AreRestsOf G last.all.items rests) (shows : Bool) (is : IsReportOf rests vs (shown_text shows text) log printed) where
   abbrev at_end : (n : ℕ) → IsOneOf (servers_said lines) n → IsDoneAt {T = U} G g tells lines before after first last (Ok u) n
   at_end = done_at G g tells lines before mid after ns ds first last stand many_is begun same tt (Ok u) gone closed
@@ -150,12 +155,19 @@ module _ {V D U : Type 0} (G : VaultGhosts V) (g : Ghosts D) (tells : Bool) (tol
       let final_is : logs.final (log_of G log) n ≡ end_of G (servers_said lines) y =
       ap (λ (l : logs.ServerLog). state_after next (opened l.opening) l.journal)
       (log_at G lines last vs text printed log rests rises out kept shows is all_told n seat ∙ ap server_log (sits ∙ sym (ap (seat_for G s.is_fused s.ranks.items) m.keeps.stands)) ∙ same_log) in
-      let on_disk : IsStored g (StopNone lines) n (servers_said lines) (sizes_said lines n) (start_of G (servers_said lines) y) ((openings G).notes y.opening) (end_of G (servers_said lines) y) x.at.taken x.at.given =
-      subst (λ (q : State). IsStored g (StopNone lines) n (servers_said lines) (sizes_said lines n) (start_of G (servers_said lines) y) ((openings G).notes y.opening) q x.at.taken x.at.given) state_is
-      (subst (λ (o : Start). IsStored g (StopNone lines) n (servers_said lines) (sizes_said lines n) o ((openings G).notes y.opening) (state_of G x.rest) x.at.taken x.at.given) start_is
-      (subst (λ (w : Notes). IsStored g (StopNone lines) n (servers_said lines) (sizes_said lines n) (start_in G x.rest) w (state_of G x.rest) x.at.taken x.at.given) notes_are
-      (stored G g (sizes_said lines n) n (servers_said lines) x.at.node x.rest x.at.vault x.at.taken x.at.given x.at.begun.started (x.at.begun.told told) on number opening (rest_told n here) up x.at.gone.same x.held x.serves x.at.back (StopNone lines) low here.last
-      (λ none. x.at.gone.counted none x.at.begun.started.idle.free)))) in
+      let free : G.allowance x.rest.kept.vault ≡ Free =
+      ap (λ (k : NodeState V). G.allowance k.kept.vault) (sym node_is) ∙ m.keeps.free (ap (λ (z : Seat). z.stand.is_fused) (sym sits) ∙ (out.up n seat).free) in
+      let journal_is : y.journal ≡ x.rest.journal = ap (λ (z : logs.ServerLog). z.journal) (sym same_log) ∙ ap (λ (z : Seat). z.journal) as_seat in
+      let since = calm_at G first last calm n x.at.station x.at.left x.at.node (standing x.rest) x.at.stood x.at.was x.at.stands x.rests in
+      let unfailed : IsUnstopped lines y.journal → G.faults x.at.vault ≡ G.faults x.at.node.kept.vault = λ h. elim h [
+        | inl none ↦ x.at.gone.counted none x.at.begun.started.idle.free
+        | inr stopped_none ↦ x.still free ∙ (since (subst AreCalm journal_is stopped_none)).1
+      ] in
+      let on_disk : IsStored g (IsUnstopped lines y.journal) n (servers_said lines) (sizes_said lines n) (start_of G (servers_said lines) y) ((openings G).notes y.opening) (end_of G (servers_said lines) y) x.at.taken x.at.given =
+      subst (λ (q : State). IsStored g (IsUnstopped lines y.journal) n (servers_said lines) (sizes_said lines n) (start_of G (servers_said lines) y) ((openings G).notes y.opening) q x.at.taken x.at.given) state_is
+      (subst (λ (o : Start). IsStored g (IsUnstopped lines y.journal) n (servers_said lines) (sizes_said lines n) o ((openings G).notes y.opening) (state_of G x.rest) x.at.taken x.at.given) start_is
+      (subst (λ (w : Notes). IsStored g (IsUnstopped lines y.journal) n (servers_said lines) (sizes_said lines n) (start_in G x.rest) w (state_of G x.rest) x.at.taken x.at.given) notes_are
+      (stored G g (sizes_said lines n) n (servers_said lines) x.at.node x.rest x.at.vault x.at.taken x.at.given x.at.begun.started (x.at.begun.told told) on number opening (rest_told n here) up x.at.gone.same x.held x.serves x.at.back (IsUnstopped lines y.journal) low here.last unfailed))) in
       record {
         server = y;
         there = ap (λ (xs : List (ServerOfLog V)). slice_get xs (n - 1)) is.servers ∙ there;
@@ -210,6 +222,14 @@ module _ {V D U : Type 0} (G : VaultGhosts V) (g : Ghosts D) (tells : Bool) (tol
         plain_together g later (omega (arith, same, few)) after (λ n here.
         let (given, there, plain) = plain_at begins n (subst (λ (m : ℕ). IsOneOf m n) same here) in
         (given, there, subst (λ (m : ℕ). IsPlain g m n given) (sym same) plain));
+    starts = λ begins later same n here d there further.
+        let back = returned_all.each n here in
+        let is : back.given ≡ d = some_same back.given d (sym back.there ∙ there) in
+        let home : ℕ = (start_of G (servers_said lines) back.left.server).sizes.home in
+        let held : Contents = back.left.stored.held in
+        let holds : Holds n (servers_said lines) (g.size d) home (g.seen d) held = subst (λ (e : D). Holds n (servers_said lines) (g.size e) home (g.seen e) held) is back.left.stored.finish in
+        subst (λ (m : ℕ). IsStartable (sizes_said later n) n m (g.size d) (g.seen d)) (sym same)
+        (startable_again (sizes_said later n) n (servers_said lines) (g.size d) home (g.seen d) held holds back.left.stored.own (back.left.noted begins) further);
   }
 
   lone_run : servers_said lines ≡ 1 → IsAlone G lines log

@@ -18,7 +18,7 @@ use Rattle.alp_cluster.specs.Gathered.{AreStationsOf, AreGathered}
 use Rattle.alp_cluster.specs.Runs.{StopNone, HasPlayed, HasPlayedOut, HasEndedEarly}
 use Rattle.alp_cluster.specs.Servers.{HasGoneBy}
 use Rattle.alp_cluster.specs.Station.{standing, HasVault, seat_for}
-use Rattle.alp_cluster.specs.Stations.{IsOfRun, HaveGone, course_of, openings_of}
+use Rattle.alp_cluster.specs.Stations.{AreCalmSince, IsOfRun, HaveGone, course_of, openings_of}
 use Rattle.alp_cluster.specs.declared.cluster.Cluster.{Cluster}
 use Rattle.alp_cluster.specs.declared.fault.RunFault.{RunFault}
 use Rattle.alp_cluster.specs.declared.fault.RunFault.TheVariants as run_fault
@@ -28,6 +28,7 @@ use Rattle.alp_cluster.proofs.GatherLemmas.{played_none}
 use Rattle.alp_cluster.proofs.GoneLemmas.{gone_memory}
 use Rattle.alp_top.specs.Anywhere.{IsPlayedThrough}
 use Rattle.alp_top.specs.Disks.{IsBegunAt, AreBegun, IsOfServer, HaveBegun, HaveBegunSome, AreHeld, AreLeftBy, IsAtRest, AreAtRest, AreClosed}
+use Rattle.alp_top.specs.Limits.{IsEndedFor, IsEndTold}
 use Rattle.alp_top.specs.Endings.{AreRestsOf, IsReportOf, shown_text}
 use Rattle.alp_top.specs.Faults.{of_bay, played}
 use Rattle.alp_top.specs.Headline.{IsRunOf}
@@ -36,9 +37,10 @@ use Rattle.alp_top.specs.Volumes.{HasRunCause, IsBayFault, IsBayTold, IsOfServer
 use Rattle.alp_top.specs.declared.fault.NoReport.{NoReport}
 use Rattle.alp_top.specs.declared.fault.NoReport.TheVariants as fault
 use Rattle.alp_top.specs.declared.finish.Rests.{Rests}
+use Rattle.alp_top.proofs.EndedLemmas.{ended_for, ended_told}
 use Rattle.alp_top.proofs.FilledLemmas.{filled, over}
 use Rattle.alp_top.proofs.GivenLemmas.{station_at, stations_many}
-use Rattle.alp_top.proofs.GoneAtLemmas.{IsGoneAt, IsLeftSo, IsDoneAt, others_same, left_at, done_at, play_counted, play_ended}
+use Rattle.alp_top.proofs.GoneAtLemmas.{IsGoneAt, IsLeftSo, IsDoneAt, others_same, left_at, done_at, play_counted, play_epoch, play_ended}
 use Rattle.alp_top.proofs.PairLemmas.{HasPair, paired_at, same_there}
 use Rattle.alp_top.proofs.PlayedOutLemmas.{run_over}
 use Rattle.alp_top.proofs.SeatedLemmas.{there_less, seat_on, many}
@@ -52,6 +54,10 @@ end_full f P h is = subst P (sym is) (subst (λ (q : RunFault). OnEndBy q P) is 
 
 pub end_over : (f : RunFault) (s : ℕ) (P : RunFault → Type 0) → OnEndBy f P → f ≡ run_fault.Start s start_fault.EpochEnd → P f
 end_over f s P h is = subst P (sym is) (subst (λ (q : RunFault). OnEndBy q P) is h)
+
+-- what ends the closing of servers comes to no limit
+pub close_unended : (lines : List NumberedLine) (f : RunFault) → OnEndBy f (λ e. ⊥) → IsEndTold lines (played f)
+close_unended lines f room = ended_told lines f (λ is. absurd (end_full f (λ e. ⊥) room is)) (λ s is. absurd (end_over f s (λ e. ⊥) room is))
 
 -- none of the bay
 pub play_still : (f : RunFault) (before now : ℕ) → now ≡ before → IsBayFault (played f) before now
@@ -175,13 +181,18 @@ module _ {V D : Type 0} (G : VaultGhosts V) (g : Ghosts D) (tells : Bool) (lines
       pub fell_counted : IsOfServers g (servers_said lines) (played f)
       fell_counted = play_counted G g tells lines before after first now (Unit {0}) f some (λ n here. (fell_at n here).at)
 
-      pub fell_ended : IsTrue tells → (bay_before bay_after : ℕ) → OnEndBy f (λ e. HasEndedEarly G (servers_said lines) lines e now) → OnEndBy f (λ e. openings_of now ≡ openings_of first)
+      pub fell_told : OnEndBy f (λ e. HasEndedEarly G (servers_said lines) lines e now) → IsEndTold lines (played f)
+      fell_told ended =
+          ended_told lines f (λ is. subst (IsEndedFor lines) is (ended_for G lines f now (end_full f (λ e. HasEndedEarly G (servers_said lines) lines e now) ended is)))
+          (λ s is. play_epoch G g tells lines before after first now (Unit {0}) f some (λ n here. (fell_at n here).at) s is)
+
+      pub fell_ended : IsTrue tells → (bay_before bay_after : ℕ) → OnEndBy f (λ e. HasEndedEarly G (servers_said lines) lines e now) → OnEndBy f (λ e. openings_of now ≡ openings_of first) → OnEndBy f (λ e. AreCalmSince G first now)
           → HasRunCause g lines before after bay_before bay_after (played f)
-      fell_ended told bay_before bay_after ended opens =
+      fell_ended told bay_before bay_after ended opens calm =
           play_ended G g tells lines before after first now (Unit {0}) f some (λ n here. (fell_at n here).at) told
           (others_same G g tells lines before mid after h.nodes h.disks first now h.gathered.stations h.many h.begun h.others (Err f) gone told (left.others told)) bay_before bay_after
-          (λ is. filled G g tells told lines before after first now f (end_full f (λ e. HasEndedEarly G (servers_said lines) lines e now) ended is) fell_at (end_full f (λ e. openings_of now ≡ openings_of first) opens is) is)
-          (λ s is. over G g tells told lines before after first now f (end_over f s (λ e. HasEndedEarly G (servers_said lines) lines e now) ended is) fell_at (end_over f s (λ e. openings_of now ≡ openings_of first) opens is) s is)
+          (λ is. filled G g tells told lines before after first now f (end_full f (λ e. HasEndedEarly G (servers_said lines) lines e now) ended is) fell_at (end_full f (λ e. openings_of now ≡ openings_of first) opens is) (end_full f (λ e. AreCalmSince G first now) calm is) is)
+          (λ s is. over G g tells told lines before after first now f (end_over f s (λ e. HasEndedEarly G (servers_said lines) lines e now) ended is) fell_at (end_over f s (λ e. openings_of now ≡ openings_of first) opens is) (end_over f s (λ e. AreCalmSince G first now) calm is) s is)
 
   -- ---- when it was played
 
@@ -243,9 +254,9 @@ module _ {V D : Type 0} (G : VaultGhosts V) (g : Ghosts D) (tells : Bool) (lines
 
       -- all went well
       module _ (vs : List (Vec Item Global)) (text printed : List ℕ) (log : Log V) (rests : Rests V) (rises : RisesFrom 1 lines) (out : HasPlayedOut G (servers_said lines) lines now vs text) (kept : AreRestsOf G now.all.items rests) (shows : Bool) (is : IsReportOf rests vs (shown_text shows text) log printed) where
-        pub went_well : IsTrue tells → openings_of now ≡ openings_of first → IsRunOf G g shows lines log printed before after
-        went_well told opens =
-            run_over G g tells told lines before mid after h.nodes h.disks first now h.gathered.stations h.many few h.begun h.others gone u closed opens vs text printed log rests rises out kept shows is
+        pub went_well : IsTrue tells → openings_of now ≡ openings_of first → AreCalmSince G first now → IsRunOf G g shows lines log printed before after
+        went_well told opens calm =
+            run_over G g tells told lines before mid after h.nodes h.disks first now h.gathered.stations h.many few h.begun h.others gone u closed opens calm vs text printed log rests rises out kept shows is
 
         pub went_through : IsPlayedThrough G shows lines log printed
         went_through = played_through G lines now vs text printed log rests rises out kept shows is

@@ -1,13 +1,18 @@
 -- what a server leaves on its disk
-use Rattle.std.specs.Prelude.{IsTrue, false}
-use Rattle.std.proofs.Common.{◌≡◌, ℕ, ◌≤◌, refl, sym, ◌∙◌, ap, subst, arith}
+use Rattle.std.specs.Prelude.{IsTrue, false, Option, None, Some}
+use Rattle.std.proofs.Common.{inl, inr, ◌≡◌, ℕ, ◌<◌, ◌≤◌, [], refl, sym, ◌∙◌, ap, subst, arith}
 use Rattle.std.specs.FinMap as map
 use Rattle.alp_base.specs.Notes.{Notes}
+use Rattle.alp_base.specs.declared.cell.Cell.{Cell}
 use Rattle.alp_base.specs.declared.faults.Sizes.{Sizes}
+use Rattle.alp_base.specs.declared.ids.FileId.{FileId}
+use Rattle.alp_base.specs.declared.key.Key.TheVariants.{Leader}
 use Rattle.alp_disk.specs.declared.disk.Disk.{Ghosts}
 use Rattle.alp_files.specs.Apart.{AreSized}
 use Rattle.alp_files.specs.Cells.{Cells}
-use Rattle.alp_fields.specs.ClockNote.{AreClockNotes}
+use Rattle.alp_files.proofs.CellMapLemmas.{get_cell}
+use Rattle.alp_fields.specs.ClockNote.{AreClockNotes, clock_kept}
+use Rattle.alp_fields.specs.declared.clock_note.ClockNote.{ClockNote}
 use Rattle.alp_journal.specs.Account.{Account, state_of as account_state}
 use Rattle.alp_journal.specs.Opening.{Start, start_at}
 use Rattle.alp_journal.specs.State.{State}
@@ -16,7 +21,8 @@ use Rattle.alp_node.specs.Durable.{IsSaid}
 use Rattle.alp_node.specs.Nodes as node
 use Rattle.alp_node.specs.Nodes.{start_in}
 use Rattle.alp_node.specs.NodeStates.{NodeState}
-use Rattle.alp_store.specs.Starts.{IsNew}
+use Rattle.alp_node.proofs.StartLemmas.{raised_later}
+use Rattle.alp_store.specs.Starts.{AreOfServer, IsNew}
 use Rattle.alp_vault.specs.Contents.{Contents}
 use Rattle.alp_vault.specs.Vault.{IsSameVault}
 use Rattle.alp_vault.specs.Volumes.{AreServerNotes}
@@ -25,7 +31,8 @@ use Rattle.alp_vault.proofs.VolumeLemmas.{alone_so_far}
 use Rattle.alp_cluster.specs.Servers.{IsOn, state_of}
 use Rattle.alp_top.specs.Disks.{IsStarted, IsGiven, notes_in}
 use Rattle.alp_top.specs.Volumes.{IsOpenedNew, IsOpenedOn, IsBare, IsSoundAlone, IsStored}
-use Rattle.alp_top.proofs.BeginLemmas.{holds_by}
+use Rattle.alp_top.proofs.AwayDeeds.{gave_files}
+use Rattle.alp_top.proofs.BeginLemmas.{holds_by, new_by}
 
 module _ {V D : Type 0} (G : VaultGhosts V) (g : Ghosts D) (sizes : Sizes) (number servers : ℕ) (n m : NodeState V) (v : V) (d e : D) (begun : IsStarted G g sizes number servers d n) (told : IsTrue (g.tells d)) (on : IsOn G m) (here : m.kept.server ≡ number)
     (opening : m.opening ≡ n.opening) (telling : IsTrue (G.tells m.kept.vault)) where
@@ -54,6 +61,24 @@ module _ {V D : Type 0} (G : VaultGhosts V) (g : Ghosts D) (sizes : Sizes) (numb
   pub started_as : start_in G m ≡ start_at number servers (start_in G m).sizes (start_in G m).cells (notes_in G m)
   started_as = (let v0 = m.opening.vault.value in (λ i. start_at (here i) ((ap (λ o. G.servers o.vault.value) opening ∙ begun.on.all ∙ begun.count) i) (G.volume v0) (G.held v0).cells (G.held v0).notes))
 
+  -- it opened on files that it gave
+  gave_before : (f : FileId) (c : Cell) → map.get (start_in G m).cells (Leader f) ≡ Some c → (f.server ≡ number) × (f.epoch ≤ (start_in G m).epoch)
+  gave_before f c is = elim (new_by sizes (g.size d) (g.seen d)) [
+    | inl new ↦ (let wrong : ◌≡◌ {A = Option Cell} None (Some c) = sym (get_cell [] (Leader f)) ∙ ap (λ (k : Cells). map.get k (Leader f)) (sym (opened_new new).cells) ∙ is in cc)
+    | inr old ↦
+        let w : IsOpenedOn number servers (g.size d) (g.seen d) (start_in G m) (notes_in G m) = opened_on old in
+        let mine = w.own.files f c (ap (λ (k : Cells). map.get k (Leader f)) (sym w.cells) ∙ is) in
+        let noted : f.epoch ≤ (clock_kept w.held.notes).epoch = mine.1 in
+        let later : (clock_kept w.held.notes).epoch < (start_in G m).epoch = raised_later w.held (record { epoch = (start_in G m).epoch; clock = (start_in G m).clock }) w.next in
+        (mine.0, omega (arith, noted, later))
+  ]
+
+  -- and so are those that its journal comes to
+  gave_all : (f : FileId) (c : Cell) → map.get (state_of G m).holder.cells (Leader f) ≡ Some c → (f.server ≡ number) × (f.epoch ≤ (state_of G m).ids.epoch)
+  gave_all f c is =
+      let given = gave_files (start_in G m) m.journal right.lawful right.opening.before right.opening.earlier right.opening.ready (λ e x at. (let b = gave_before e x at in (b.0 ∙ sym here, b.1))) f c is in
+      (given.0 ∙ here, given.1)
+
   -- what its vault holds
   pub holds_said : (up : m.kept.is_down ≡ false) → IsSaid (state_of G m) (G.held m.kept.vault)
   holds_said up = subst (λ (s : State). IsSaid s (G.held m.kept.vault)) (sym right.says) (record { cells = right.kept.cells up; notes = right.kept.notes up })
@@ -74,12 +99,24 @@ module _ {V D : Type 0} (G : VaultGhosts V) (g : Ghosts D) (sizes : Sizes) (numb
     said : IsSaid (state_of G m) (G.held v)
     said = subst (λ c. IsSaid (state_of G m) c) (sym held) (holds_said up)
 
+    as_server : (state_of G m).holder.server ≡ number
+    as_server = ap (λ (s : State). s.holder.server) right.says ∙ right.kept.server ∙ here
+
+    as_servers : (state_of G m).servers ≡ servers
+    as_servers = ap (λ (s : State). s.servers) right.says ∙ right.kept.servers ∙ sym on.all ∙ ap (λ o. G.servers o.vault.value) opening ∙ begun.on.all ∙ begun.count
+
+    own : AreOfServer number servers (G.held v)
+    own = record {
+      notes = subst (λ (k : ℕ). AreServerNotes number k (G.held v).notes) as_servers (subst (λ (k : ℕ). AreServerNotes k (state_of G m).servers (G.held v).notes) as_server said.notes.format);
+      files = λ f c is.
+          let gave = gave_all f c (ap (λ (k : Cells). map.get k (Leader f)) (sym said.cells) ∙ is) in
+          (gave.0, subst (λ (k : ℕ). f.epoch ≤ k) (ap (λ (k : ClockNote). k.epoch) (sym said.notes.clock)) gave.1);
+    }
+
     sound_alone : 1 ≤ number → number ≤ servers → servers ≡ 1 → IsSoundAlone (start_in G m) (G.held v)
     sound_alone first last one =
         let first_is : number ≡ 1 = omega (arith, first, last, one) in
-        let as_server : (state_of G m).holder.server ≡ 1 = ap (λ (s : State). s.holder.server) right.says ∙ right.kept.server ∙ here ∙ first_is in
-        let as_servers : (state_of G m).servers ≡ 1 = ap (λ (s : State). s.servers) right.says ∙ right.kept.servers ∙ sym on.all ∙ ap (λ o. G.servers o.vault.value) opening ∙ begun.on.all ∙ begun.count ∙ one in
-        let format : AreServerNotes 1 1 (G.held v).notes = subst (λ (k : ℕ). AreServerNotes 1 k (G.held v).notes) as_servers (subst (λ (k : ℕ). AreServerNotes k (state_of G m).servers (G.held v).notes) as_server said.notes.format) in
+        let format : AreServerNotes 1 1 (G.held v).notes = subst (λ (k : ℕ). AreServerNotes 1 k (G.held v).notes) one (subst (λ (k : ℕ). AreServerNotes k servers (G.held v).notes) first_is own.notes) in
         let clock : AreClockNotes (G.held v).notes = alone_so_far (G.held v).notes format in
         record {
           clock = clock;
@@ -93,6 +130,7 @@ module _ {V D : Type 0} (G : VaultGhosts V) (g : Ghosts D) (sizes : Sizes) (numb
       held = G.held v;
       finish = holds_by _ _ _ _ _ _ _ _ (g.seen e) (G.held v) its_server its_servers refl (ap (λ (z : Sizes). z.home) its_volume) (back.holds tells serves);
       said = said;
+      own = own;
       files = (back.files tells serves).sound;
       sized = subst (λ (c : Cells). AreSized (map.get c)) (sym (ap (λ c. c.cells) held ∙ right.kept.cells up)) right.kept.sized;
       durable = back.only tells serves;

@@ -1,23 +1,28 @@
 -- What holds of a run on any bay and any vaults, also on some that do not tell what they hold.
-use Rattle.std.specs.Prelude.{◌≡◌, ◌-◌, ℕ, List, ◌++◌, length, take, Option, Bool}
+use Rattle.std.specs.Prelude.{◌≡◌, ◌⊎◌, ◌-◌, ℕ, List, ◌++◌, length, take, Option, Bool}
 use Rattle.std.specs.Io.KnownBytes.{Appends}
 use Rattle.alp_base.specs.Causes.{Rose}
+use Rattle.alp_cluster.specs.declared.fault.RunFault.{RunFault}
+use Rattle.alp_cluster.specs.declared.fault.RunFault.TheVariants as run_fault
 use Rattle.alp_disk.specs.declared.disk.Disk.{Ghosts as DiskGhosts}
+use Rattle.alp_journal.specs.Answered.{entries_limit}
 use Rattle.alp_course.specs.Courses.{Seat, IsOneOf}
 use Rattle.alp_report.specs.Sections.{printed}
 use Rattle.alp_report.specs.declared.summary.Held.{Held}
 use Rattle.alp_report.specs.declared.summary.Summary.{Summary}
 use Rattle.alp_script.specs.Accepted.{servers_said}
 use Rattle.alp_script.specs.declared.numbered.NumberedLine.{NumberedLine}
+use Rattle.alp_script.specs.declared.numbered.TheConstants.{SCRIPT_LINES_MOST}
 use Rattle.alp_vault.specs.declared.vault.Vault.{Ghosts}
 use Rattle.alp_words.specs.Words.{IsNamedBy}
 use Rattle.alp_words.specs.declared.command.Command.{Command}
 use Rattle.alp_top.specs.Commands.{AreToPlay, shows_lines, shown_as}
+use Rattle.alp_top.specs.Limits.{IsEndedFor}
 use Rattle.alp_top.specs.Headline.{IsOfScript}
 use Rattle.alp_top.specs.Logs.{Log}
 use Rattle.alp_top.specs.Pairs.{AreMatched}
 use Rattle.alp_top.specs.Reports.{shown_lines}
-use Rattle.alp_top.specs.Statuses.{Kept, OnDone, OnWriteFault, OnTooLong, OnBadDisk, OnDiskFault, IsLimit}
+use Rattle.alp_top.specs.Statuses.{Kept, OnDone, OnWriteFault, OnTooLong, OnBadDisk, OnDiskFault, OnBayFault}
 use Rattle.alp_top.specs.Tallies.{begun_in, committed_in}
 use Rattle.alp_top.specs.declared.status.Status.{Status}
 
@@ -56,12 +61,31 @@ pub record IsDeclared (words : List (List ℕ)) (old new : Option (List ℕ)) (s
   pub script : AreToPlay command old new lines
   pub is : IsOneOf (servers_said lines) server
 
+-- there are lines that the command plays
+pub record HasPlay (words : List (List ℕ)) (old new : Option (List ℕ)) : Type 0 where
+  pub command : Command
+  pub named : IsNamedBy words command
+  pub lines : List NumberedLine
+  pub script : AreToPlay command old new lines
+
+-- a run of such lines ended for that fault
+pub record IsEndedIn (words : List (List ℕ)) (old new : Option (List ℕ)) (f : RunFault) : Type 0 where
+  pub play : HasPlay words old new
+  pub ended : IsEndedFor play.lines f
+
+-- The limit of the lines of a script; or that of the entries of a journal, where a run of the command's lines came to it; or the last epoch, of a
+-- server that they declare.
+abbrev pub IsLimitOf : (words : List (List ℕ)) → (old new : Option (List ℕ)) → ℕ → Type 0
+IsLimitOf words old new limit =
+    (limit ≡ SCRIPT_LINES_MOST) ⊎ ((limit ≡ entries_limit) × IsEndedIn words old new run_fault.JournalFull) ⊎ ((limit ≡ 4294967295) × (server : ℕ) × IsDeclared words old new server)
+
 -- What a status tells of any bay: with `Done` the script was played through and the text is written, with `WriteFault` a prefix of
--- it; a limit is one of three, a disk that is none to start on is that of a server that the script declares, and a fault of a disk is
--- told of one that failed, of such a server.
+-- it; a limit has its cause, a disk that is none to start on is that of a server that the script declares, and a fault of a disk is
+-- told of one that failed, of such a server. The bay is asked only where there are lines to play.
 pub record IsToldAnywhere {D : Type 0} {g : DiskGhosts D} (G : Ghosts (Kept D g)) (words : List (List ℕ)) (old new written_before written : Option (List ℕ)) (s : Status D g) : Type 0 where
   pub played : OnDone s (HasReported G words old new (λ text. Appends written_before written text))
   pub cut_off : OnWriteFault s (HasReported G words old new (λ text. (count : ℕ) × Appends written_before written (take count text)))
-  pub limits : OnTooLong s IsLimit
+  pub limits : OnTooLong s (IsLimitOf words old new)
   pub server : OnBadDisk s (IsDeclared words old new)
   pub counted : OnDiskFault s (λ server. IsDeclared words old new server × (taken : D) × (given : D) × Rose (g.faults taken) (g.faults given))
+  pub bay : OnBayFault s (HasPlay words old new)

@@ -25,13 +25,12 @@ use Rattle.alp_course.specs.Lone.{happenings_of}
 use Rattle.alp_course.specs.Plays.{ArePlayed}
 use Rattle.alp_course.specs.Settles.{AreUp, AreTaken}
 use Rattle.alp_course.specs.Turns.{turns_of, own_in}
-use Rattle.alp_cluster.specs.Runs.{StopNone}
 use Rattle.alp_cluster.specs.Servers.{IsDone}
 use Rattle.alp_top.specs.Commands.{AreToPlay, HasLines, shows_lines, shown_as}
 use Rattle.alp_top.specs.Logs.{Log, ServerOfLog, openings, start_of, log_of, lists_of}
 use Rattle.alp_top.specs.Reports.{Shown, end_of, report_for, tallied_for}
 use Rattle.alp_top.specs.Together.{BeginsSound, GoTogether}
-use Rattle.alp_top.specs.Volumes.{IsBare, HasNoPart, IsStored, AreReturned, HasRunCause, StartsOn}
+use Rattle.alp_top.specs.Volumes.{IsBare, HasNoPart, IsUnstopped, IsStored, AreReturned, HasNoEpoch, HasRunCause, IsStartable, StartsOn}
 use Rattle.alp_top.specs.declared.fault.NoReport.{NoReport}
 
 -- ---- what happened
@@ -67,14 +66,14 @@ pub record IsFaithful {V : Type 0} (G : Ghosts V) (lines : List NumberedLine) (l
   pub lawful : logs.AreLawful (log_of G log)
   pub caused : (n : ℕ) → Along next IsDone (opened (logs.opening_of (log_of G log) n)) (logs.journal_of (log_of G log) n)
 
--- What the disk of this server holds is what its journal says; without a line that stops one, it did not fail. Where what the servers opened
--- on is sound, it holds the files that the history of the decided transactions ends in, and no note but that of the epoch and the clock: no
+-- What the disk of this server holds is what its journal says. It did not fail, where no line stops a disk, or, whatever the lines are, no entry of
+-- the journal stopped the server. Where what the servers opened on is sound, it holds the files that the history of the decided transactions ends in, and no note but that of the epoch and the clock: no
 -- part is ready there, and no decision stands.
 pub record IsStoredBy {V D : Type 0} (G : Ghosts V) (g : DiskGhosts D) (lines : List NumberedLine) (log : Log V) (n : ℕ) (taken given : D) : Type 0 where
   pub server : ServerOfLog V
   pub there : slice_get log.servers.items (n - 1) ≡ Some server
   pub number : server.server ≡ n
-  pub stored : IsStored g (StopNone lines) n (servers_said lines) (sizes_said lines n) (start_of G (servers_said lines) server) ((openings G).notes server.opening) (end_of G (servers_said lines) server) taken given
+  pub stored : IsStored g (IsUnstopped lines server.journal) n (servers_said lines) (sizes_said lines n) (start_of G (servers_said lines) server) ((openings G).notes server.opening) (end_of G (servers_said lines) server) taken given
   pub ends : BeginsSound (log_of G log) → stored.held.cells ≡ logs.finish_of (log_of G log) n
   pub noted : BeginsSound (log_of G log) → AreClockNotes stored.held.notes
 
@@ -149,12 +148,15 @@ pub record IsAlone {V : Type 0} (G : Ghosts V) (lines : List NumberedLine) (log 
 -- ---- the disks of a run
 
 -- Which disks meet what a run asks of the openings: those that go together. Where there is one server its disk does by itself, and so do new
--- disks and such that have no part and no decision. The disks that are given back go together once more, for each script of as many servers.
+-- disks and such that have no part and no decision. The disks that are given back go together once more, for each script of as many servers, and
+-- its servers start on them, but one that has come to the last epoch.
 pub record AreFromDisks {V D : Type 0} (G : Ghosts V) (g : DiskGhosts D) (lines : List NumberedLine) (log : Log V) (before after : ℕ → Option D) : Type 0 where
   pub begins : GoTogether g lines before → BeginsSound (log_of G log)
   pub alone : servers_said lines ≡ 1 → GoTogether g lines before
   pub fresh : ((n : ℕ) → IsOneOf (servers_said lines) n → HasNoPart g lines n (before n)) → GoTogether g lines before
   pub again : BeginsSound (log_of G log) → (later : List NumberedLine) → servers_said later ≡ servers_said lines → GoTogether g later after
+  pub starts : BeginsSound (log_of G log) → (later : List NumberedLine) → servers_said later ≡ servers_said lines → (n : ℕ) → IsOneOf (servers_said lines) n → (d : D) → after n ≡ Some d
+      → (HasNoEpoch n (servers_said lines) (g.size d) (g.seen d) → ⊥) → IsStartable (sizes_said later n) n (servers_said later) (g.size d) (g.seen d)
 
 -- ---- a run
 
@@ -218,10 +220,6 @@ OfAllToPlay words old new P = (command : Command) → IsNamedBy words command �
 -- the disks are some that a run of the lines starts on, and none failed
 abbrev pub StartsHere : {D : Type 0} → DiskGhosts D → (words : List (List ℕ)) → (old new : Option (List ℕ)) → (before after : ℕ → Option D) → Type 0
 StartsHere g words old new before after = OfAllToPlay words old new (λ lines. StartsOn g lines before after)
-
--- the lines declare one server
-abbrev pub IsOfOne : (words : List (List ℕ)) → (old new : Option (List ℕ)) → Type 0
-IsOfOne words old new = OfAllToPlay words old new (λ lines. servers_said lines ≡ 1)
 
 -- there are lines to play, as far as the source says
 abbrev pub HasLinesFor : (words : List (List ℕ)) → Option (List ℕ) → Type 0

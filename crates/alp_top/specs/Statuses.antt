@@ -133,6 +133,11 @@ module _ {D : Type 0} {g : Ghosts D} where
   OnDiskFault (status.DiskFault server) P = (server ≡ 0) ⊎ P server
   OnDiskFault _ P = Unit {0}
 
+  -- where the bay failed
+  abbrev pub OnBayFault : Status D g → Type 0 → Type 0
+  OnBayFault (status.DiskFault server) P = server ≡ 0 → P
+  OnBayFault _ P = Unit {0}
+
   -- where something is too long, of its limit
   abbrev pub OnTooLong : Status D g → (ℕ → Type 0) → Type 0
   OnTooLong (status.TooLong limit) P = P limit
@@ -165,18 +170,12 @@ module _ {D : Type 0} {g : Ghosts D} where
   IsHandedOver (status.WriteFault log) = Unit {0}
   IsHandedOver _ = ⊥
 
-  -- the report is written, or there was no memory, or a journal was full, or a server had come to the last epoch; or, where that holds, a
-  -- server that started again found that its notes do not go together
-  abbrev pub IsPlayedOrMemory : Type 0 → Status D g → Type 0
-  IsPlayedOrMemory P (status.Done log) = Unit {0}
-  IsPlayedOrMemory P status.OutOfMemory = Unit {0}
-  IsPlayedOrMemory P (status.TooLong limit) = (limit ≡ entries_limit) ⊎ (limit ≡ 4294967295)
-  IsPlayedOrMemory P (status.Damaged server place) = (place ≡ 0) × P
-  IsPlayedOrMemory P _ = ⊥
-
--- the limit of the lines of a script, that of the entries of a journal, or the last epoch
-abbrev pub IsLimit : ℕ → Type 0
-IsLimit limit = (limit ≡ SCRIPT_LINES_MOST) ⊎ (limit ≡ entries_limit) ⊎ (limit ≡ 4294967295)
+  -- the report is written, or there was no memory, or a journal was full, or a server had come to the last epoch
+  abbrev pub IsPlayedOrMemory : Status D g → Type 0
+  IsPlayedOrMemory (status.Done log) = Unit {0}
+  IsPlayedOrMemory status.OutOfMemory = Unit {0}
+  IsPlayedOrMemory (status.TooLong limit) = (limit ≡ entries_limit) ⊎ (limit ≡ 4294967295)
+  IsPlayedOrMemory _ = ⊥
 
 -- the folder of a command
 abbrev pub folder_in : Command → Option (List ℕ)

@@ -20,6 +20,7 @@ use Rattle.alp_journal.specs.Answered.{entries_limit}
 use Rattle.alp_journal.specs.Laws.{IsLawful}
 use Rattle.alp_journal.specs.Moves.{next}
 use Rattle.alp_journal.specs.State.{State, opened}
+use Rattle.alp_journal.specs.declared.entry.Entry.{Entry}
 use Rattle.alp_node.specs.Downs.{IsLeftOf}
 use Rattle.alp_node.specs.Durable.{IsSaid, IsSaidThen}
 use Rattle.alp_node.specs.Nodes.{IsSoundStart}
@@ -38,7 +39,7 @@ use Rattle.alp_history.specs.RunLogs.{handed_of}
 use Rattle.alp_history.specs.Theorems.{IsOneThread, AreWhole}
 use Rattle.alp_cluster.specs.Fills.{IsEndFor}
 use Rattle.alp_cluster.specs.Runs.{StopNone, StopsInLine, StopsBehindLines}
-use Rattle.alp_cluster.specs.Servers.{IsDone}
+use Rattle.alp_cluster.specs.Servers.{AreCalm, IsDone}
 use Rattle.alp_course.specs.Courses.{Course, Occurrence, IsOneOf, IsSeat, seat_at, TellAll, AreCourse}
 use Rattle.alp_course.specs.Links.{IsFirst, log_of}
 use Rattle.alp_course.specs.Plays.{Due, sent_of}
@@ -85,6 +86,11 @@ HasNoPart {D} g lines server was =
 
 -- ---- what a disk holds behind the run
 
+-- No line lets a disk be stopped, or no entry of this journal stopped its server: of a disk that was stopped no count says whether it failed, since
+-- the write that stops it is handed on.
+abbrev pub IsUnstopped : List NumberedLine → List Entry → Type 0
+IsUnstopped lines journal = StopNone lines ⊎ AreCalm journal
+
 -- a server finds no part of a transaction that is ready, and no decision that is not at its end
 pub record IsBare (o : Start) : Type 0 where
   pub ready : o.ready ≡ []
@@ -95,14 +101,16 @@ pub record IsSoundAlone (o : Start) (held : Contents) : Type 0 where
   pub clock : AreClockNotes held.notes
   pub bare : IsBare (start_at 1 1 o.sizes held.cells held.notes)
 
--- What the server holds in the end by its journal is what the disk that was given back holds, and what a crash leaves of it. What its notes
--- said of its own files was sound. Where this holds, the disk did not fail.
+-- What the server holds in the end by its journal is what the disk that was given back holds, and what a crash leaves of it: the notes are in its
+-- format, and it gave the files, in epochs up to that of its note. What its notes said of its own files was sound. Where this holds, the disk
+-- did not fail.
 pub record IsStored {D : Type 0} (g : Ghosts D) (P : Type 0) (server servers : ℕ) (sizes : Sizes) (o : Start) (notes : Notes) (m : State) (taken given : D) : Type 0 where
   pub new : IsNew sizes (g.size taken) (g.seen taken) → IsOpenedNew sizes o notes
   pub found : (IsNew sizes (g.size taken) (g.seen taken) → ⊥) → IsOpenedOn server servers (g.size taken) (g.seen taken) o notes
   pub held : Contents
   pub finish : Holds server servers (g.size given) o.sizes.home (g.seen given) held
   pub said : IsSaid m held
+  pub own : AreOfServer server servers held
   pub files : AreSound held.cells
   pub sized : AreSized (map.get held.cells)
   pub durable : Only (g.seen given) (g.may_leave given)
@@ -172,7 +180,8 @@ pub record IsCutShort (lines : List NumberedLine) (f : RunFault) (last : Course)
   pub alone : servers_said lines ≡ 1 → logs.AreSoundOpenings (log_of last (handed_of (λ k. own_in k turns)))
 
 -- Where the servers stand so, this one was started on the disk, and what a crash leaves of the disk that is given back is what its journal
--- says; of a server that is down, it is that or what its last write makes of that. Without a line that stops a disk this one did not fail.
+-- says; of a server that is down, it is that or what its last write makes of that. Where no line stops a disk, or no entry of the journal stopped the
+-- server, this one did not fail.
 pub record IsLeftBy {D : Type 0} (g : Ghosts D) (lines : List NumberedLine) (last : Course) (server : ℕ) (taken given : D) : Type 0 where
   pub notes : Notes
   pub started : (seat_at last server).opening ≡ start_at server (servers_said lines) (seat_at last server).opening.sizes (seat_at last server).opening.cells notes
@@ -183,7 +192,7 @@ pub record IsLeftBy {D : Type 0} (g : Ghosts D) (lines : List NumberedLine) (las
       → (c : Contents) × Holds server (servers_said lines) (g.size given) (seat_at last server).opening.sizes.home image c
       × (IsSaid (state_after next (opened (seat_at last server).opening) (seat_at last server).journal) c ⊎ IsSaidThen (state_after next (opened (seat_at last server).opening) (seat_at last server).journal) c)
   pub read : g.may_leave given (g.seen given)
-  pub unfailed : StopNone lines → g.faults given ≡ g.faults taken
+  pub unfailed : IsUnstopped lines (seat_at last server).journal → g.faults given ≡ g.faults taken
 
 -- The journal of the server that was started on the disk was full where another event was to come. The disk holds what the journal
 -- says.
@@ -192,7 +201,7 @@ pub record HasFilled {D : Type 0} (g : Ghosts D) (lines : List NumberedLine) (la
   pub notes : Notes
   pub started : (seat_at last server).opening ≡ start_at server (servers_said lines) (seat_at last server).opening.sizes (seat_at last server).opening.cells notes
   pub full : entries_limit ≤ length (seat_at last server).journal
-  pub stored : IsStored g (StopNone lines) server (servers_said lines) (sizes_said lines server) (seat_at last server).opening notes (state_after next (opened (seat_at last server).opening) (seat_at last server).journal) taken given
+  pub stored : IsStored g (IsUnstopped lines (seat_at last server).journal) server (servers_said lines) (sizes_said lines server) (seat_at last server).opening notes (state_after next (opened (seat_at last server).opening) (seat_at last server).journal) taken given
 
 -- The server that was started on the disk was to start again, and had come to the last epoch. What the disk reads and what a crash leaves
 -- of it is what the journal says, or that with the whole of what was tried last.
@@ -206,7 +215,7 @@ pub record HasUsedUp {D : Type 0} (g : Ghosts D) (lines : List NumberedLine) (la
   pub left : (image : Image) → g.may_leave given image
       → (c : Contents) × Holds server (servers_said lines) (g.size given) (seat_at last server).opening.sizes.home image c × IsLeftOf (state_after next (opened (seat_at last server).opening) (seat_at last server).journal) c
   pub read : g.may_leave given (g.seen given)
-  pub unfailed : StopNone lines → g.faults given ≡ g.faults taken
+  pub unfailed : IsUnstopped lines (seat_at last server).journal → g.faults given ≡ g.faults taken
 
 -- A disk that is not new holds a volume of this server, one of several, whose notes do not go together, with one another or with its files. It
 -- comes back with the same, after a crash too.
@@ -295,8 +304,8 @@ IsAtItsEnd g lines server taken given = IsLeftAlone g (sizes_said lines server) 
 -- Why a run ended before its report, and how the bay stands then. Where the bay failed, so many servers were started, and the next disk was not
 -- taken. A disk that is none to start on is the first one that is not. Where a disk failed it is one that was taken, and where memory was
 -- wanting all that were taken are given back. A full journal, and an epoch that is the last one of a server in the run, come when all were
--- started, and each disk comes back as its server's journal says. A server of several that starts again in the run may find that its notes do
--- not go together.
+-- started, and each disk comes back as its server's journal says. A server that starts again in the run finds its own notes good, in whatever it
+-- was stopped.
 abbrev pub HasRunCause : {D : Type 0} → Ghosts D → List NumberedLine → (before after : ℕ → Option D) → (bay_before bay_after : ℕ) → NoReport → Type 0
 HasRunCause g lines before after bay_before bay_after fault.Bay = (count : ℕ) × (count < servers_said lines) × AreReturned g lines count before after (IsUnplayed g lines) × Rose bay_before bay_after
 HasRunCause g lines before after bay_before bay_after fault.OutOfMemory = AreLeftWanting g lines before after
@@ -311,8 +320,6 @@ HasRunCause g lines before after bay_before bay_after (fault.EpochEnd server) =
 HasRunCause g lines before after bay_before bay_after (fault.NotAVolume server found) = StopsAt g lines server before after (IsNoVolume g lines server found)
 HasRunCause g lines before after bay_before bay_after (fault.Damaged server place) =
     StopsAt g lines server before after (IsDamaged g lines server place)
-    ⊎ ((place ≡ 0) × (servers_said lines ≡ 1 → ⊥) × IsOneOf (servers_said lines) server
-    × AreReturned g lines (servers_said lines) before after (λ n taken given. (StopNone lines → g.faults given ≡ g.faults taken) × IsLeftWhole g lines n taken given))
 
 -- ---- which disks a run starts on
 

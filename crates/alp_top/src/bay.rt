@@ -6,6 +6,7 @@ ghost use Rattle.alp_cluster.specs.Gathered.{AreGathered};
 ghost use Rattle.alp_script.specs.Accepted.{IsAccepted, servers_said};
 ghost use Rattle.alp_top.specs.Anywhere.{IsPlayedThrough};
 ghost use Rattle.alp_top.specs.Disks.{IsLong, IsToldOf, IsVaultTold, IsGivenAs, IsGivenAt, IsBegunHere, IsRefusedHere, HasAdded, HaveBegun, HaveBegunSome, AreHeld, AreLeftBy, IsAtRest, AreAtRest, IsElsewhere, IsClosedHere, GoesOn, IsStationPut, AreClosed};
+ghost use Rattle.alp_top.specs.Limits.{IsEndTold};
 ghost use Rattle.alp_top.specs.Endings.{AreRestsOf};
 ghost use Rattle.alp_top.specs.Headline.{IsRunOf};
 ghost use Rattle.alp_top.specs.Volumes.{HasRunCause, IsBayTold, IsFolderChosen, IsOfServers, pages_of as pages_of_said};
@@ -234,6 +235,7 @@ pub fn run_bay<B: Bay>(
     ensures cause { (folder.entry ≡ None) ⊎ IsTrue (B.tells bay.new) → IfErr result (HasRunCause B.Device.Disk lines.now (B.at bay.old) (B.at bay.new) (B.faults bay.old) (B.faults bay.new)) }
     ensures chosen { IsFolderChosen result (B.chosen bay.old) (B.chosen bay.new) (option_map (λ name. name.now) folder.entry) }
     ensures counted { IfErr result (IsOfServers B.Device.Disk (servers_said lines.now)) }
+    ensures ended { IfErr result (IsEndTold lines.now) }
     ensures bay { IsBayTold result (B.faults bay.old) (B.faults bay.new) }
 {
     bay.choose(folder)?;

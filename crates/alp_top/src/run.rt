@@ -7,7 +7,7 @@ ghost use Rattle.alp_script.specs.Accepted.{IsAccepted};
 ghost use Rattle.alp_script.specs.Reading.{HasReadCause};
 ghost use Rattle.alp_top.specs.Anywhere.{IsToldAnywhere};
 ghost use Rattle.alp_top.specs.Commands.{AreToPlay, HasNoLines, IsWithoutLines, HasFewRounds, OnDrill, shows_lines};
-ghost use Rattle.alp_top.specs.Headline.{IsPlayed, IsCutOff, HasCause, StartsHere, IsOfOne, HasLinesFor};
+ghost use Rattle.alp_top.specs.Headline.{IsPlayed, IsCutOff, HasCause, StartsHere, HasLinesFor};
 ghost use Rattle.alp_top.specs.Statuses.{AreWordsTold, IsTold, OnDone, OnBadWords, OnNoLines, OnWriteFault, OnCutShort, OnUntaken, folder_in, IsReadFaultTold, IsWriteFaultTold, IsBayFaultTold, IsFolderTold, OnUnwritten, IsPlayedOrMemory, IsHandedOver};
 ghost use Rattle.alp_words.specs.Words.{are_bad, folder_named, name_named};
 
@@ -132,10 +132,9 @@ pub fn run_alpine<S: Source, K: Sink, B: Bay>(
     // No disk is asked for before the script is read.
     ensures untaken { OnUntaken result (bay.new ≡ bay.old) }
     // A script of the language is played to its end on disks that are new or their servers', where nothing fails, unless memory is
-    // wanting, a journal is full or a server has come to the last epoch; or, in a run of several servers, one starts again whose notes do
-    // not go together.
+    // wanting, a journal is full or a server has come to the last epoch.
     ensures complete { are_bad (map string_bytes words.now) ≡ false → HasLinesFor (map string_bytes words.now) (S.left script.old) → (Rose (S.faults script.old) (S.faults script.new) → ⊥) → (Rose (K.faults out.old) (K.faults out.new) → ⊥)
-        → (Rose (B.faults bay.old) (B.faults bay.new) → ⊥) → IsTold (map string_bytes words.now) (B.tells bay.new) → StartsHere B.Device.Disk (map string_bytes words.now) (S.left script.old) (S.left script.new) (B.at bay.old) (B.at bay.new) → IsPlayedOrMemory (IsOfOne (map string_bytes words.now) (S.left script.old) (S.left script.new) → ⊥) result }
+        → (Rose (B.faults bay.old) (B.faults bay.new) → ⊥) → IsTold (map string_bytes words.now) (B.tells bay.new) → StartsHere B.Device.Disk (map string_bytes words.now) (S.left script.old) (S.left script.new) (B.at bay.old) (B.at bay.new) → IsPlayedOrMemory result }
     // Nothing is written but the report.
     ensures unwritten { OnUnwritten result (out.new ≡ out.old) }
 {

@@ -1,6 +1,9 @@
 //! Sixteen clients of one server, and the one file that all of them lock pages of.
 ghost use Rattle.std.specs.Prelude.{◌≡◌, ◌≤◌, IfOk};
+ghost use Rattle.alp_base.specs.declared.choices.Choice.TheVariants as choice;
+ghost use Rattle.alp_files.specs.declared.call.Call.TheVariants as call;
 ghost use Rattle.alp_node.specs.Served.{IsAskable};
+ghost use Rattle.alp_node.specs.Shapes.{ReadsSome};
 
 use alp_acknowledge::ServeFault;
 use alp_base::{
@@ -87,6 +90,7 @@ fn file(alloc: Global, trans: TransId) -> Result<Call, OutOfMemory>
 
 /// The call that locks pages to read or to write them, and does not wait.
 pub(crate) fn lock(opened: Opened, run: Run, mode: Mode) -> Call
+    requires { ReadsSome (call.LockPages opened.trans opened.open_no run mode choice.Fail) }
     ensures { IsAskable result }
 {
     Call::LockPages {
@@ -144,7 +148,7 @@ impl<V: Vault> Desk<V> {
     pub(crate) fn ask(&mut self, client: u8, call: Call) -> Result<Reply, ServeFault>
         requires { IsAskable call }
     {
-        if client > CLIENTS {
+        if client == 0 || client > CLIENTS {
             return Err(ServeFault::Refused);
         }
         let number = self.last[client as usize].saturating_add(1);
@@ -216,10 +220,22 @@ impl<V: Vault> Desk<V> {
         }
     }
 
-    /// The pages of the run are locked.
-    pub(crate) fn take(&mut self, opened: Opened, run: Run, mode: Mode) -> Result<(), ServeFault> {
-        match self.ask(opened.client, lock(opened, run, mode))? {
+    // A call that is answered plainly.
+    fn done(&mut self, client: u8, call: Call) -> Result<(), ServeFault>
+        requires { IsAskable call }
+    {
+        match self.ask(client, call)? {
             Reply::Plain => Ok(()),
+            _ => Err(ServeFault::Refused),
+        }
+    }
+
+    /// The pages of the run are locked, in a mode of pages.
+    pub(crate) fn take(&mut self, opened: Opened, run: Run, mode: Mode) -> Result<(), ServeFault> {
+        match mode {
+            Mode::Read => self.done(opened.client, lock(opened, run, Mode::Read)),
+            Mode::Update => self.done(opened.client, lock(opened, run, Mode::Update)),
+            Mode::Write => self.done(opened.client, lock(opened, run, Mode::Write)),
             _ => Err(ServeFault::Refused),
         }
     }

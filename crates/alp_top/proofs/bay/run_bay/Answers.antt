@@ -7,13 +7,15 @@ use Rattle.alp_store.specs.contracts.store.StoreVault.TheImpl as store_vault
 use Rattle.alp_script.specs.Accepted.{servers_said}
 use Rattle.alp_top.specs.Disks.{HaveBegun, HaveBegunSome, AreClosed}
 use Rattle.alp_top.specs.Faults.{played}
+use Rattle.alp_top.specs.Limits.{IsEndTold}
 use Rattle.alp_top.specs.Endings.{shown_text}
 use Rattle.alp_top.specs.Headline.{IsRunOf}
 use Rattle.alp_top.specs.Volumes.{HasRunCause, IsOfServers, IsBayFault}
 use Rattle.alp_top.specs.declared.fault.NoReport.TheVariants as fault
+use Rattle.alp_top.proofs.EndedLemmas.{bay_unended, start_unended}
 use Rattle.alp_top.proofs.GivenLemmas.{none_returned, bay_ended, start_ended}
 use Rattle.alp_top.proofs.RefusedLemmas.{err_of, told_of, untaken, bay_counted, bay_folder, folder_taken}
-use Rattle.alp_top.proofs.RunLemmas.{bay_uncounted, play_still, start_counted, begins_new, fell_few, fell_held, fell_counted, fell_ended, rest_few, rest_all, close_counted, close_ended, wanting_ended, went_well, went_through, some_held, some_few, cause_moved, left_moved, closed_moved, held_moved, rest_moved, rests_moved, report_moved}
+use Rattle.alp_top.proofs.RunLemmas.{bay_uncounted, play_still, start_counted, begins_new, close_unended, fell_few, fell_held, fell_counted, fell_told, fell_ended, rest_few, rest_all, close_counted, close_ended, wanting_ended, went_well, went_through, some_held, some_few, cause_moved, left_moved, closed_moved, held_moved, rest_moved, rests_moved, report_moved}
 use Rattle.alp_top.proofs.bay.run_bay.Goals as goal
 
 -- ---- the bay has no such folder
@@ -29,6 +31,10 @@ returns-in_err-choose-clause-chosen g c = bay_folder c.in_err-choose.field-0.0 c
 pub returns-in_err-choose-clause-counted : goal.returns-in_err-choose-clause-counted
 returns-in_err-choose-clause-counted g c =
     err_of _ _ c.from_residual.result c.from_residual.ensures.0 c.from_residual.ensures.1 (bay_uncounted g.B.Device.Disk (servers_said c.args.lines.now) c.in_err-choose.field-0.0)
+
+pub returns-in_err-choose-clause-ended : goal.returns-in_err-choose-clause-ended
+returns-in_err-choose-clause-ended g c =
+    err_of _ _ c.from_residual.result c.from_residual.ensures.0 c.from_residual.ensures.1 (bay_unended c.args.lines.now c.in_err-choose.field-0.0)
 
 pub returns-in_err-choose-clause-bay : goal.returns-in_err-choose-clause-bay
 returns-in_err-choose-clause-bay g c = told_of _ _ _ c.from_residual.result c.from_residual.ensures.0 c.from_residual.ensures.1 (bay_counted _ _ c.in_err-choose.field-0.0 c.in_err-choose.ensures.cause)
@@ -61,6 +67,9 @@ returns-in-Err-clause-cause g c asked =
 
 pub returns-in-Err-clause-counted : goal.returns-in-Err-clause-counted
 returns-in-Err-clause-counted g c = (let some = c.in-Err.ensures.some in start_counted g.B.Device.Disk (servers_said c.args.lines.now) some.count c.in-Err.fault some.few some.next_one.of_server)
+
+pub returns-in-Err-clause-ended : goal.returns-in-Err-clause-ended
+returns-in-Err-clause-ended g c = (let some = c.in-Err.ensures.some in start_unended g.B.Device.Disk c.args.lines.now some.count c.in-Err.fault some.few some.next_one.of_server)
 
 pub returns-in-Err-clause-chosen : goal.returns-in-Err-clause-chosen
 returns-in-Err-clause-chosen g c = folder_taken {U = Unit {0}} (Err c.in-Err.fault) _ _ _ (c.leave_all.ensures.chosen ∙ c.start_all.ensures.chosen ∙ c.in_ok-choose.ensures.named)
@@ -121,7 +130,7 @@ returns-in-Err-play_out-clause-cause g c asked =
     (subst (λ (b : ℕ → Option g.row.B-Device.Denot). HasRunCause g.B.Device.Disk c.args.lines.now b three (g.B.Bay.faults c.args.bay.now) (g.B.Bay.faults c.leave_all-in-Err-play_out.new.bay) (played c.in-Err-play_out.fault)) c.choose.ensures.places
     (fell_ended G g.B.Device.Disk t c.args.lines.now c.requires.accepted.least c.requires.accepted.most one two three old begun c.play_out.new.self.parties.stations c.in-Err-play_out.fault c.in-Err-play_out.ensures.gone
     (left_moved G g.B.Device.Disk (g.B.Bay.tells c.start_all.new.bay) t c.into_parts-stations-in-Err-play_out.result.0.items c.play_out.new.self.parties.stations.all.items two three c.start_all.ensures.tells (ap (λ v. v.items) c.into_parts-stations-in-Err-play_out.ensures.stations) c.leave_all-in-Err-play_out.ensures.left)
-    told (g.B.Bay.faults c.args.bay.now) (g.B.Bay.faults c.leave_all-in-Err-play_out.new.bay) c.in-Err-play_out.ensures.ended c.in-Err-play_out.ensures.left))
+    told (g.B.Bay.faults c.args.bay.now) (g.B.Bay.faults c.leave_all-in-Err-play_out.new.bay) c.in-Err-play_out.ensures.ended c.in-Err-play_out.ensures.left c.in-Err-play_out.ensures.calm_left))
 
 pub returns-in-Err-play_out-clause-counted : goal.returns-in-Err-play_out-clause-counted
 returns-in-Err-play_out-clause-counted g c =
@@ -135,6 +144,20 @@ returns-in-Err-play_out-clause-counted g c =
     subst (IsOfServers g.B.Device.Disk (servers_said c.args.lines.now)) (sym c.from.ensures)
     (fell_counted G g.B.Device.Disk t c.args.lines.now c.requires.accepted.least c.requires.accepted.most one two three old begun c.play_out.new.self.parties.stations c.in-Err-play_out.fault c.in-Err-play_out.ensures.gone
     (left_moved G g.B.Device.Disk (g.B.Bay.tells c.start_all.new.bay) t c.into_parts-stations-in-Err-play_out.result.0.items c.play_out.new.self.parties.stations.all.items two three c.start_all.ensures.tells (ap (λ v. v.items) c.into_parts-stations-in-Err-play_out.ensures.stations) c.leave_all-in-Err-play_out.ensures.left))
+
+pub returns-in-Err-play_out-clause-ended : goal.returns-in-Err-play_out-clause-ended
+returns-in-Err-play_out-clause-ended g c =
+    let G = store_vault.ghosts (the_row g.row.B-Device g.B.Device.Disk) (fuse_disk.ghosts g.row.B-Device g.B.Device.Disk g.B.Device.Disk-dict g.B.Device.Destruct-dict) fuse_disk.no_dict fuse_disk.no_dict in
+    let t : Bool = g.B.Bay.tells c.choose.new.self in
+    let one : ℕ → Option g.row.B-Device.Denot = g.B.Bay.at c.choose.new.self in
+    let two : ℕ → Option g.row.B-Device.Denot = g.B.Bay.at c.start_all.new.bay in
+    let old = c.start_all.new.cluster in
+    let begun : HaveBegun G g.B.Device.Disk t c.args.lines.now (servers_said c.args.lines.now) one two old = subst (λ (m : ℕ). HaveBegun G g.B.Device.Disk t c.args.lines.now m one two old) c.servers_of.ensures c.in_default.ensures.begun in
+    let three : ℕ → Option g.row.B-Device.Denot = g.B.Bay.at c.leave_all-in-Err-play_out.new.bay in
+    subst (IsEndTold c.args.lines.now) (sym c.from.ensures)
+    (fell_told G g.B.Device.Disk t c.args.lines.now c.requires.accepted.least c.requires.accepted.most one two three old begun c.play_out.new.self.parties.stations c.in-Err-play_out.fault c.in-Err-play_out.ensures.gone
+    (left_moved G g.B.Device.Disk (g.B.Bay.tells c.start_all.new.bay) t c.into_parts-stations-in-Err-play_out.result.0.items c.play_out.new.self.parties.stations.all.items two three c.start_all.ensures.tells (ap (λ v. v.items) c.into_parts-stations-in-Err-play_out.ensures.stations) c.leave_all-in-Err-play_out.ensures.left)
+    c.in-Err-play_out.ensures.ended)
 
 pub returns-in-Err-play_out-clause-chosen : goal.returns-in-Err-play_out-clause-chosen
 returns-in-Err-play_out-clause-chosen g c = folder_taken {U = Unit {0}} (Err c.from.result) _ _ _ (c.leave_all-in-Err-play_out.ensures.chosen ∙ c.start_all.ensures.chosen ∙ c.in_ok-choose.ensures.named)
@@ -201,6 +224,10 @@ returns-in_err-rests-clause-counted g c =
     (close_counted G g.B.Device.Disk t c.args.lines.now c.requires.accepted.least c.requires.accepted.most one two three old begun c.play_out.new.self.parties.stations c.in_default-play_out.ensures.gone c.in_err-rests.field-0.0
     (closed_moved G g.B.Device.Disk (g.B.Bay.tells c.start_all.new.bay) t c.into_parts-stations-2.result.0.items c.play_out.new.self.parties.stations.all.items two three _ c.start_all.ensures.tells (ap (λ v. v.items) c.into_parts-stations-2.ensures.stations) c.in_err-rests.ensures.closed))
 
+pub returns-in_err-rests-clause-ended : goal.returns-in_err-rests-clause-ended
+returns-in_err-rests-clause-ended g c =
+    err_of _ _ c.from_residual-in_err-rests.result c.from_residual-in_err-rests.ensures.0 c.from_residual-in_err-rests.ensures.1 (close_unended c.args.lines.now c.in_err-rests.field-0.0 c.in_err-rests.ensures.room)
+
 pub returns-in_err-rests-clause-chosen : goal.returns-in_err-rests-clause-chosen
 returns-in_err-rests-clause-chosen g c = folder_taken c.from_residual-in_err-rests.result _ _ _ (c.close_all.ensures.chosen ∙ c.start_all.ensures.chosen ∙ c.in_ok-choose.ensures.named)
 
@@ -258,7 +285,7 @@ returns-clause-ran g c asked =
     c.args.shows
     (report_moved c.in_ok-rests.rests c.into_parts-stations-2.result.1.items last.lists.items c.shown.result.items (shown_text c.args.shows last.text.items) c.in_ok-report.field-0.log c.in_ok-report.field-0.text.items (ap (λ v. v.items) c.into_parts-stations-2.ensures.parts.0)
     (c.shown.ensures ∙ ap (λ v. shown_text c.args.shows v.items) c.into_parts-stations-2.ensures.parts.1) c.in_ok-report.ensures)
-    told c.in_default-play_out.ensures.openings)
+    told c.in_default-play_out.ensures.openings c.in_default-play_out.ensures.calm)
 
 pub returns-clause-through : goal.returns-clause-through
 returns-clause-through g c =

@@ -3,11 +3,12 @@ use Rattle.std.proofs.Common.{◌≡◌, ℕ, List, refl, sym, ◌∙◌, subst}
 use Rattle.alp_script.specs.Accepted.{IsAccepted}
 use Rattle.alp_script.specs.declared.numbered.NumberedLine.{NumberedLine}
 use Rattle.alp_words.specs.Words.{folder_named}
+use Rattle.alp_top.specs.Anywhere.{HasPlay}
 use Rattle.alp_top.specs.Commands.{AreToPlay}
 use Rattle.alp_top.specs.Headline.{HasCause}
 use Rattle.alp_top.specs.Volumes.{IsFolderLeft}
 use Rattle.alp_top.proofs.CommandLemmas.{few_rounds}
-use Rattle.alp_top.proofs.PlayedLemmas.{run_shown, through_shown, is_played, is_cut_off, done_then, cut_then, caused, folder_left, handed_folder, disk_counted, handed_counted, has_reported, has_reported_part, handed_limits, handed_disk, not_done, not_cut, limited, of_declared, bay_told, read_well, wrote_well, named_folder, folder_told, plays_on, had_lines, not_untaken}
+use Rattle.alp_top.proofs.PlayedLemmas.{run_shown, through_shown, is_played, is_cut_off, done_then, cut_then, caused, folder_left, handed_folder, disk_counted, handed_counted, has_reported, has_reported_part, handed_limits, handed_bay, bay_asked, handed_disk, not_done, not_cut, limited, of_declared, bay_told, read_well, wrote_well, named_folder, folder_told, plays_on, had_lines, not_untaken}
 use Rattle.alp_top.proofs.run.run_alpine.Goals as goal
 
 pub lines_of-requires : goal.lines_of-requires
@@ -45,6 +46,7 @@ returns-in-Ok-run_bay-clause-any_bay g c =
       limits = handed_limits c.hand_over.result _ c.hand_over.ensures.played;
       server = handed_disk c.hand_over.result _ c.hand_over.ensures.played;
       counted = handed_counted c.hand_over.result _ c.hand_over.ensures.played;
+      bay = handed_bay c.hand_over.result _ c.hand_over.ensures.played;
     }
 
 pub returns-in-Ok-run_bay-clause-folder : goal.returns-in-Ok-run_bay-clause-folder
@@ -57,9 +59,10 @@ returns-clause-any_bay g c =
     record {
       played = not_done c.ended_by.result c.in-Err.fault _ c.ended_by.ensures;
       cut_off = not_cut c.ended_by.result c.in-Err.fault _ c.ended_by.ensures;
-      limits = limited c.ended_by.result c.in-Err.fault c.ended_by.ensures;
+      limits = limited c.ended_by.result c.in-Err.fault _ _ _ c.in-Ok.command c.in-Ok.ensures.named lines script c.ended_by.ensures c.in-Err.ensures.ended;
       server = of_declared c.ended_by.result c.in-Err.fault _ _ _ c.in-Ok.command c.in-Ok.ensures.named lines script c.ended_by.ensures c.in-Err.ensures.counted;
       counted = disk_counted c.ended_by.result c.in-Err.fault _ _ _ c.in-Ok.command c.in-Ok.ensures.named lines script c.ended_by.ensures c.in-Err.ensures.counted;
+      bay = bay_asked c.ended_by.result c.in-Err.fault (HasPlay _ _ _) c.ended_by.ensures (record { command = c.in-Ok.command; named = c.in-Ok.ensures.named; lines = lines; script = script });
     }
 
 pub returns-clause-faults : goal.returns-clause-faults
@@ -82,7 +85,7 @@ returns-clause-complete g c good says source sink bay told starts =
     let lines : List NumberedLine = c.deref-played.result.now in
     let script : AreToPlay c.in-Ok.command (g.S.Source.left c.args.script.now) (g.S.Source.left c.lines_of.new.script) lines = subst (AreToPlay c.in-Ok.command _ _) (sym c.deref-played.ensures.value) c.in-Ok-lines_of.ensures.lines in
     let asked = folder_told (λ name. name.now) c.folder_of.result _ _ (c.folder_of.ensures ∙ named_folder _ c.in-Ok.command c.in-Ok.ensures.named) told in
-    plays_on lines _ _ (starts c.in-Ok.command c.in-Ok.ensures.named lines script) c.ended_by.result c.in-Err.fault _ _ c.ended_by.ensures (c.in-Err.ensures.cause asked) bay _ (λ several all. several (all c.in-Ok.command c.in-Ok.ensures.named lines script))
+    plays_on lines _ _ (starts c.in-Ok.command c.in-Ok.ensures.named lines script) c.ended_by.result c.in-Err.fault _ _ c.ended_by.ensures (c.in-Err.ensures.cause asked) bay
 
 pub returns-clause-no_lines : goal.returns-clause-no_lines
 returns-clause-no_lines g c = had_lines c.ended_by.result c.in-Err.fault _ c.ended_by.ensures

@@ -8,15 +8,15 @@ use Rattle.alp_script.specs.Order.{names_ours}
 use Rattle.alp_script.specs.declared.numbered.NumberedLine.{NumberedLine}
 use Rattle.alp_cluster.specs.Runs.{HasPlayed, StopNone, is_stop_line}
 use Rattle.alp_cluster.specs.Steps.{Adds, AddsSome}
-use Rattle.alp_cluster.proofs.DidLemmas.{gone_none, gone_both, all_where, all_on}
+use Rattle.alp_cluster.proofs.DidLemmas.{calm_none, calm_both, gone_none, gone_both, all_where, all_on}
 use Rattle.alp_cluster.proofs.GoneLemmas.{end_on, handed_on}
-use Rattle.alp_cluster.proofs.LeftLemmas.{split_at, end_opened}
+use Rattle.alp_cluster.proofs.LeftLemmas.{split_at, end_opened, end_calm}
 use Rattle.alp_cluster.proofs.RunLemmas.{front_at, front_long, at_place, played_more, line_ended}
 use Rattle.alp_cluster.specs.Stations.{course_of}
 use Rattle.alp_cluster.proofs.cluster.Cluster.play.Goals as goal
 
 pub loop-line-init : goal.loop-line-init
-loop-line-init g c = record { played = c.requires.new; gone = gone_none g.V.Vault (StopNone c.args.lines.now) c.args.self.now.parties.stations (tt {0}); openings = refl }
+loop-line-init g c = record { played = c.requires.new; gone = gone_none g.V.Vault (StopNone c.args.lines.now) c.args.self.now.parties.stations (tt {0}); openings = refl; calm = calm_none g.V.Vault c.args.self.now.parties.stations }
 
 pub play_step-requires-clause-step : goal.play_step-requires-clause-step
 play_step-requires-clause-step g c = c.loop-line.invariant.played.step
@@ -69,6 +69,18 @@ returns-in_err-play_step-clause-left g c =
     end_opened g.V.Vault f (course_of g.V.Vault some.at_end) some.due some.at_end c.play_step.new.self.parties.stations some.ends some.left ∙ some.goes.later.openings ∙ c.loop-line.invariant.openings)
     c.in_err-play_step.ensures.ended
 
+pub returns-in_err-play_step-clause-calm_left : goal.returns-in_err-play_step-clause-calm_left
+returns-in_err-play_step-clause-calm_left g c =
+    let a = c.args.self.now.parties.stations in
+    let q = c.loop-line.self.parties.stations in
+    let z = c.play_step.new.self.parties.stations in
+    end_on c.in_err-play_step.field-0.0 c.from_residual.result _ _ (handed_on c.in_err-play_step.field-0.0 c.from_residual.result c.from_residual.ensures.0 c.from_residual.ensures.1)
+    (λ f h.
+    let (known, some) = h in
+    calm_both g.V.Vault a q z c.loop-line.invariant.calm
+    (calm_both g.V.Vault q some.at_end z some.goes.later.calm (end_calm g.V.Vault f (course_of g.V.Vault some.at_end) some.due some.at_end z some.ends some.left)))
+    c.in_err-play_step.ensures.ended
+
 pub loop-line-preserved : goal.loop-line-preserved
 loop-line-preserved g c =
     let i : ℕ = c.loop-line.line-index in
@@ -87,6 +99,7 @@ loop-line-preserved g c =
       gone = gone_both g.V.Vault (StopNone ls) a q.parties.stations z.parties.stations (tt {0}) (Ok (tt {0})) c.loop-line.invariant.played.step.on c.loop-line.invariant.gone
           (all_where g.V.Vault (is_stop_line l.line ≡ false) (StopNone ls) q.parties.stations z.parties.stations (Ok (tt {0})) none c.in_ok-play_step.ensures.gone);
       openings = more.goes.later.openings ∙ c.loop-line.invariant.openings;
+      calm = calm_both g.V.Vault a q.parties.stations z.parties.stations c.loop-line.invariant.calm more.goes.later.calm;
     }
 
 pub returns-clause-played : goal.returns-clause-played

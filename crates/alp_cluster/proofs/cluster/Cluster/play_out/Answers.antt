@@ -7,9 +7,9 @@ use Rattle.alp_script.specs.Accepted.{servers_said}
 use Rattle.alp_course.specs.Settles.{IsSettling}
 use Rattle.alp_cluster.specs.Runs.{HasPlayedOut, StopNone}
 use Rattle.alp_cluster.specs.Stations.{course_of}
-use Rattle.alp_cluster.proofs.DidLemmas.{gone_both, all_where, all_handed}
+use Rattle.alp_cluster.proofs.DidLemmas.{calm_both, gone_both, all_where, all_handed}
 use Rattle.alp_cluster.proofs.GoneLemmas.{end_on, end_map, handed_on}
-use Rattle.alp_cluster.proofs.LeftLemmas.{end_opened}
+use Rattle.alp_cluster.proofs.LeftLemmas.{end_opened, end_calm}
 use Rattle.alp_cluster.proofs.LoopLemmas.{did_count, some_count}
 use Rattle.alp_cluster.proofs.RunLemmas.{end_ended, played_out}
 use Rattle.alp_cluster.proofs.cluster.Cluster.play_out.Goals as goal
@@ -26,6 +26,10 @@ returns-in_err-play-clause-ended g c =
 pub returns-in_err-play-clause-left : goal.returns-in_err-play-clause-left
 returns-in_err-play-clause-left g c =
     end_on c.in_err-play.field-0.0 c.from_residual.result _ _ (handed_on c.in_err-play.field-0.0 c.from_residual.result c.from_residual.ensures.0 c.from_residual.ensures.1) (λ f h. h) c.in_err-play.ensures.left
+
+pub returns-in_err-play-clause-calm_left : goal.returns-in_err-play-clause-calm_left
+returns-in_err-play-clause-calm_left g c =
+    end_on c.in_err-play.field-0.0 c.from_residual.result _ _ (handed_on c.in_err-play.field-0.0 c.from_residual.result c.from_residual.ensures.0 c.from_residual.ensures.1) (λ f h. h) c.in_err-play.ensures.calm_left
 
 pub settle-requires : goal.settle-requires
 settle-requires g c = record { on = c.in_ok-play.ensures.played.step.on }
@@ -51,6 +55,19 @@ pub returns-clause-left : goal.returns-clause-left
 returns-clause-left g c =
     end_map c.settle.result _ _
     (λ f d. end_opened g.V.Vault f (course_of g.V.Vault d.at_end) d.due d.at_end c.settle.new.self.parties.stations d.ends d.left ∙ d.goes.later.openings ∙ c.in_ok-play.ensures.openings) c.settle.ensures.ended
+
+pub returns-clause-calm_left : goal.returns-clause-calm_left
+returns-clause-calm_left g c =
+    let a = c.args.self.now.parties.stations in
+    let b = c.play.new.self.parties.stations in
+    let z = c.settle.new.self.parties.stations in
+    end_map c.settle.result _ _
+    (λ f d. calm_both g.V.Vault a b z c.in_ok-play.ensures.calm
+    (calm_both g.V.Vault b d.at_end z d.goes.later.calm (end_calm g.V.Vault f (course_of g.V.Vault d.at_end) d.due d.at_end z d.ends d.left))) c.settle.ensures.ended
+
+pub returns-clause-calm : goal.returns-clause-calm
+returns-clause-calm g c =
+    on_ok_weaker c.settle.result (λ d. calm_both g.V.Vault c.args.self.now.parties.stations c.play.new.self.parties.stations c.settle.new.self.parties.stations c.in_ok-play.ensures.calm d.goes.later.calm) c.settle.ensures.settled
 
 pub returns-clause-openings : goal.returns-clause-openings
 returns-clause-openings g c = on_ok_weaker c.settle.result (λ d. d.goes.later.openings ∙ c.in_ok-play.ensures.openings) c.settle.ensures.settled

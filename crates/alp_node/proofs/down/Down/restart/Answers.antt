@@ -38,4 +38,4 @@ returns-in-Err g c =
     let G = g.V.Vault in
     let d : DownState g.row.V.Denot = record { opening = c.self.inside.opening; vault = c.self.inside.vault; journal = c.self.inside.journal; server = c.self.inside.server; servers = c.self.inside.servers; epoch = c.self.inside.epoch } in
     subst (λ (x : DownState g.row.V.Denot). IsStillDown G x (record d { vault = c.in-Err.vault; journal = c.enter_epoch.new.journal }) c.in-Err.fault) c.self.view_is
-    (still_down G d c.in-Err.vault c.enter_epoch.new.journal c.in-Err.fault c.in-Err.ensures.journal c.self.invariant c.in-Err.ensures.epoch c.in-Err.ensures.end c.knows.ensures.server c.knows.ensures.limits.area_least)
+    (still_down G d c.in-Err.vault c.enter_epoch.new.journal c.in-Err.fault c.in-Err.ensures.journal c.self.invariant c.in-Err.ensures.epoch c.in-Err.ensures.end)

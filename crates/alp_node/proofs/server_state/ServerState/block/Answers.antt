@@ -102,7 +102,7 @@ returns g c =
     let few : too_locked k.sizes.area l.part.counts.cells (counts_then l.locks (holding k.locks.held t) ns call).made ≡ None = ap (λ (n : LockCounts). too_locked k.sizes.area l.part.counts.cells n.made) (sym counts_are) ∙ c.requires.few l mine.there in
     let blocked : blocker k.locks.held t (plan_of k.locks t ns).rises ≡ Some c.args.holder = ap (λ (w : Waiter). blocker k.locks.held t w.rises) (sym c.requires.plan) ∙ c.requires.blocked in
     let files : AreGiven k.server k.epoch k.given ns = asked_given k.server k.epoch k.given (G.tells k.vault) (G.held k.vault).cells (holding k.locks.held t) l.part call ns (c.requires.asked l mine.there) (ready.opened t l mine.there)
-    (shape_given k.server k.epoch k.given (length l.part.opens.items) call (c.requires.shape l mine.there)) in
+    (shape_given k.server k.epoch k.given (length l.part.opens.items) call (c.requires.shape l mine.there)) c.requires.some in
     let cloned : c.in_ok-copy_of.field-0 ≡ call = c.in_ok-copy_of.ensures in
     let waits_are : c.push.new.self ≡ k.waits ++ new_call k turn t l call ns ∷ [] =
     c.in_ok-push.ensures.ok ∙ (λ i. k.waits ++ (record { client = turn.client; number = turn.number; trans = t; call = cloned i; counts = Some (counts_are i); is_granted = false }) ∷ []) in

@@ -53,6 +53,7 @@ use Rattle.alp_node.proofs.TotalLemmas.{few_totals}
 use Rattle.alp_node.proofs.TurnLemmas.{counts_on, run_told, asks_its_own}
 use Rattle.alp_node.proofs.WithinLemmas.{MayLock, within_then}
 use Rattle.alp_node.proofs.server_state.ServerState.lock_call.Goals as goal
+use Rattle.alp_node.proofs.HeldHere.{tidy_asks}
 
 pub perform-requires-clause-new : goal.perform-requires-clause-new
 perform-requires-clause-new g c told l there =
@@ -209,7 +210,7 @@ returns-in-Ok g c =
     let left = c.in-Ok.ensures.looked.0 in
     let shape = c.requires.shape l there in
     let of_file = shape_given k.server k.epoch k.given (length l.part.opens.items) call shape in
-    let files : AreGiven k.server k.epoch k.given ns = asked_given k.server k.epoch k.given (G.tells k.vault) (G.held k.vault).cells (holding k.locks.held t) l.part call ns asked (c.requires.ready.2.opened t l there) of_file in
+    let files : AreGiven k.server k.epoch k.given ns = asked_given k.server k.epoch k.given (G.tells k.vault) (G.held k.vault).cells (holding k.locks.held t) l.part call ns asked (c.requires.ready.2.opened t l there) of_file c.requires.some in
     let keeps : IsKeepable k.clock r = answered_keeps k.clock (G.tells k.vault) (G.held k.vault).cells l.part did.part (name_in l.who) (next_file k) call did.room r given in
     let made_is : c.is_made.result ≡ is_made r = c.is_made.ensures in
     let taken : plan_for c.is_made.result c.in_ok-asked.asked c.in_ok-made.made ≡ plan_of k.locks t (asks_given (next_file k) call ns r) =
@@ -250,7 +251,7 @@ returns-in-Ok g c =
     let opens = opens_then k.server k.epoch k.given h.raised call r of_file only l.part.opens.items did.part.opens.items given.opens (h.opened t l there) in
     let granted = granted_ready (m + 1) (G.serves k.vault) (record k { sessions = counted_in k.sessions turn r }) (plan_of k.locks t (asks_given (next_file k) call ns r)) (count_after k.given r)
     (count_grows k.given r) fewer refl (free_given m (G.serves k.vault) k t call ns r h free_asked)
-    (idle_in k.server k.epoch k.given k.lives k.waits t k.locks.waiting (asks_none t k.waits away.others) h.waits.queued) (λ high_id high. given_below k.server k.epoch k.given high_id call ns r files high) (counted_ready m (G.serves k.vault) k turn r c.requires.turn keeps h) in
+    (idle_in k.server k.epoch k.given k.lives k.waits t k.locks.waiting (asks_none t k.waits away.others) h.waits.queued) (λ high_id high. given_below k.server k.epoch k.given high_id call ns r files high) (tidy_asks k.server k.epoch k.given call ns r files) (counted_ready m (G.serves k.vault) k turn r c.requires.turn keeps h) in
     subst (λ (y : Sessions). IsReady (m + 1) (G.serves M.vault) (record M { sessions = y })) (sym c.count.ensures)
     (subst (λ (y : ServerState _). IsReady (m + 1) (G.serves y.vault) (record y { sessions = counted_in y.sessions turn r })) (sym kept_is)
     (part_ready (m + 1) (G.serves k.vault) serves (record k { sessions = counted_in k.sessions turn r; given = count_after k.given r; locks = with_plan k.locks (plan_of k.locks t (asks_given (next_file k) call ns r)) })

@@ -23,7 +23,7 @@ call_in_turn-requires-clause-turn g c =
     let there : session_at k.sessions c.args.client ≡ Some told = sym c.get.ensures ∙ ap option_copied c.in-Some.is ∙ (λ i. Some (sym c.session.view_is i)) in
     let one : Some next.session ≡ Some told = sym next.there ∙ there in
     let same : next.session ≡ told = cc in
-    record { client = c.requires.client; last = w.last; kept = w.reply; session = there; number = next.number_is ∙ ap (λ (x : Session). x.last + 1) same }
+    record { client = c.requires.client; some = c.requires.some; last = w.last; kept = w.reply; session = there; number = next.number_is ∙ ap (λ (x : Session). x.last + 1) same }
 
 pub call_in_turn-requires-clause-asked : goal.call_in_turn-requires-clause-asked
 call_in_turn-requires-clause-asked g c =
