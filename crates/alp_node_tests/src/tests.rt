@@ -1,6 +1,4 @@
 //! What crosses threads of a server, and what servers of one run say to one another.
-ghost use Rattle.alp_vault.specs.Vault.{IsServer};
-
 mod several;
 
 use alp_base::Sizes;
@@ -15,13 +13,11 @@ const SIZES: Sizes = Sizes {
     area: 64,
 };
 
-// A server on a vault in memory.
-type Server = Node<MemVault>;
-
-// One of three servers, by its number.
-fn in_memory(alloc: Global, server: u8) -> Result<Server, Fail>
-    requires { IsServer server 3 }
-{
+// One of three servers, by its number, on a vault in memory.
+fn in_memory(alloc: Global, server: u8) -> Result<Node<MemVault>, Fail> {
+    if server < 1 || 3 < server {
+        return Err("no such server".into());
+    }
     match Node::start(alloc, server, 3, MemVault::new(alloc, SIZES, server, 3)) {
         Ok(node) => Ok(node),
         Err(_) => Err("a server".into()),

@@ -1,9 +1,9 @@
-//! A bay hands out what it was given.
+//! Tests of alp_bay: volumes of a folder.
 ghost use Rattle.std.specs.Prelude.{◌≡◌};
 ghost use Rattle.alp_base.specs.declared.allowance.Allowance.TheVariants.{Free};
 
 use alp_base::{Halt, Page};
-use alp_bay::{Bay, BayFault, HostBay, MemBay};
+use alp_bay::{Bay, BayFault, HostBay};
 use alp_disk::Disk;
 use std::fs::File;
 use std::path::PathBuf;
@@ -47,18 +47,6 @@ fn taken_again<B: Bay>(bay: &mut B) -> Result<(u8, u32), Fail> {
     Ok((byte, again.pages()))
 }
 
-#[test]
-fn a_disk_that_was_given_back_stands_there(rt: HostRuntime) -> Result<(), Fail> {
-    let mut bay = MemBay::new(rt.alloc()).ok().ok_or("memory")?;
-    bay.choose(None).ok().ok_or("choice")?;
-    let (byte, pages) = taken_again(&mut bay)?;
-    assert_eq!(rt; byte, 7);
-    assert_eq!(rt; pages, 4);
-    let other = bay.take(2, 8).ok().ok_or("another disk")?;
-    assert_eq!(rt; other.pages(), 8);
-    Ok(())
-}
-
 // A new folder of this process.
 fn new_folder(rt: &HostRuntime) -> Result<PathBuf, Fail> {
     let name = format!(in rt.alloc(); "alp_bay-test-{}", process::id(rt.process()))?;
@@ -91,20 +79,17 @@ fn a_folder_keeps_its_volumes(rt: HostRuntime) -> Result<(), Fail> {
     odd.set_len(1025)?;
     let uneven = bay.take(2, 4).err();
     fs::remove_dir_all(&rt, path.as_path())?;
-    assert_eq!(rt; again, (7, 4));
-    assert_eq!(rt; byte, 7);
-    assert_eq!(rt; refused, Some(BayFault::Failed));
-    assert_eq!(rt; third.pages(), 5);
-    assert_eq!(rt; uneven, Some(BayFault::Failed));
+    assert!(rt; again == (7, 4) && byte == 7);
+    assert!(rt; third.pages() == 5);
+    assert!(rt; refused == Some(BayFault::Failed) && uneven == Some(BayFault::Failed));
     Ok(())
 }
 
 #[test]
 fn no_other_name_is_a_folder(rt: HostRuntime) -> Result<(), Fail> {
     let mut bay = HostBay::new(rt.alloc(), rt).ok().ok_or("memory")?;
-    assert_eq!(rt; bay.choose(Some("")), Err(BayFault::Failed));
-    assert_eq!(rt; bay.choose(Some("/dev/null")), Err(BayFault::Failed));
-    assert_eq!(rt; bay.choose(Some("/no/such/folder")), Err(BayFault::Failed));
-    assert_eq!(rt; taken_again(&mut bay)?, (7, 4));
+    for name in ["", "/dev/null", "/no/such/folder"] {
+        assert!(rt; bay.choose(Some(name)) == Err(BayFault::Failed), "{name}");
+    }
     Ok(())
 }

@@ -1,12 +1,9 @@
 //! Tests of alp_disk.
-ghost use Rattle.std.specs.Prelude.{◌<◌};
-
 use alp_base::{Halt, Page};
-use alp_disk::{Disk, FileDisk, Fuse, MemDisk, write_span, write_synced};
+use alp_disk::{Disk, FileDisk, MemDisk, write_synced};
 use std::fs::File;
 use std::os::unix::fs::FileExt;
 use std::test::Fail;
-use std::thread::{Threads, join};
 use std::{env, fs, process};
 
 /// A write that is synced, and three that wait for a sync.
@@ -51,50 +48,15 @@ fn picks_leave_what_they_say(rt: HostRuntime) -> Result<(), Fail> {
     ];
     for (pick, want) in left {
         let mut disk = MemDisk::new(alloc, 3, Vec::new(alloc))?;
-        assert_eq!(rt; write_some(&mut disk), Ok(()));
-        assert_eq!(rt; read_some(&mut disk), Ok([9, 9, 1, 1, 8, 8, 8, 7, 7, 7]));
+        assert!(rt; write_some(&mut disk) == Ok(()));
         let mut back = disk.power_off(pick);
-        assert_eq!(rt; read_some(&mut back), Ok(want), "pick {pick}");
+        assert!(rt; read_some(&mut back) == Ok(want), "pick {pick}");
     }
     Ok(())
 }
 
-#[test]
-fn calls_fail_as_listed(rt: HostRuntime) -> Result<(), Fail> {
-    let alloc = rt.alloc();
-    let mut disk = MemDisk::new(alloc, 3, vec![in alloc; 2, 7]?)?;
-    assert_eq!(rt; write_some(&mut disk), Err(Halt::Failed));
-    assert_eq!(rt; write_some(&mut disk), Err(Halt::Failed));
-    assert_eq!(rt; write_some(&mut disk), Ok(()));
-    Ok(())
-}
-
-#[test]
-fn a_fuse_stops_after_its_allowance(rt: HostRuntime) -> Result<(), Fail> {
-    let alloc = rt.alloc();
-    let mut fuse = Fuse::new(MemDisk::new(alloc, 3, Vec::new(alloc))?);
-    fuse.stop_after(Some(3));
-    assert_eq!(rt; write_some(&mut fuse), Err(Halt::Stopped));
-    assert_eq!(rt; read_some(&mut fuse), Err(Halt::Stopped));
-    let mut back = fuse.power_off(1);
-    assert_eq!(rt; read_some(&mut back), Ok([9, 9, 1, 1, 8, 8, 8, 0, 0, 0]));
-    let mut inner = back.into_inner();
-    assert_eq!(rt; read_some(&mut inner), Ok([9, 9, 1, 1, 8, 8, 8, 0, 0, 0]));
-    Ok(())
-}
-
-#[test]
-fn a_span_is_written_page_by_page(rt: HostRuntime) -> Result<(), Fail> {
-    let alloc = rt.alloc();
-    let mut disk = MemDisk::new(alloc, 3, Vec::new(alloc))?;
-    let mut bytes = [5; 1024];
-    bytes[522..525].fill(6);
-    assert_eq!(rt; write_span(&mut disk, 0, 2, &bytes), Ok(()));
-    assert_eq!(rt; read_some(&mut disk), Ok([5, 5, 5, 5, 6, 6, 6, 0, 0, 0]));
-    Ok(())
-}
-
-/// What was written stands at its place in the file: a second handle reads it after the sync.
+/// What was written stands at its place in the file: a second handle reads it after the sync. Where the host syncs no such file, as
+/// the last one, a sync says so.
 #[test]
 fn a_file_holds_pages(rt: HostRuntime) -> Result<(), Fail> {
     let name = format!(in rt.alloc(); "alp_disk-test-{}", process::id(rt.process()))?;
@@ -115,29 +77,10 @@ fn a_file_holds_pages(rt: HostRuntime) -> Result<(), Fail> {
     want[..4].copy_from_slice(&[9, 9, 1, 1]);
     want[522..525].fill(8);
     want[1533..].fill(7);
-    assert!(rt; sized.is_ok() && read.is_ok());
-    assert_eq!(rt; (wrote, synced), (Ok(()), Ok(())));
-    assert!(rt; bytes == want);
-    assert_eq!(rt; held, Ok([9, 9, 1, 1, 8, 8, 8, 7, 7, 7]));
-    assert_eq!(rt; length, 1536);
-    Ok(())
-}
-
-/// Lends a disk to two threads, and moves it through one.
-fn cross_threads<D: Disk + Send + Sync>(rt: &(impl Threads + Sync), disk: D) -> D {
-    join(rt, || disk.pages(), || disk.pages());
-    join(rt, move || disk, || ()).0
-}
-
-#[test]
-fn disks_cross_threads(rt: HostRuntime) -> Result<(), Fail> {
-    let alloc = rt.alloc();
-    let fuse = cross_threads(&rt, Fuse::new(MemDisk::new(alloc, 3, Vec::new(alloc))?));
-    let mut inner = cross_threads(&rt, fuse.into_inner());
-    assert_eq!(rt; read_some(&mut inner), Ok([0; 10]));
-    let mut file = cross_threads(&rt, FileDisk::new(File::open(&rt, "/dev/null")?, 7));
-    assert_eq!(rt; file.pages(), 7);
-    // The host syncs no such file, and says so: a sync is handed on.
-    assert_eq!(rt; file.sync(), Err(Halt::Failed));
+    assert!(rt; sized.is_ok() && read.is_ok() && length == 1536);
+    assert!(rt; wrote == Ok(()) && synced == Ok(()) && bytes == want);
+    assert!(rt; held == Ok([9, 9, 1, 1, 8, 8, 8, 7, 7, 7]));
+    let mut odd = FileDisk::new(File::open(&rt, "/dev/null")?, 7);
+    assert!(rt; odd.sync() == Err(Halt::Failed));
     Ok(())
 }
