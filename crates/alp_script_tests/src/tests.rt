@@ -1,4 +1,3 @@
 //! One module for each crate.
 mod lines;
-mod tokens;
 mod words;
