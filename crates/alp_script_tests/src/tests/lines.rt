@@ -243,7 +243,7 @@ const SAID: [(&[u8], Line); 17] = [
 #[test]
 fn says_what_happens(rt: HostRuntime) -> Result<(), Fail> {
     for (text, line) in SAID.iter() {
-        assert!(rt; matches!(text_in(rt.alloc(), *text)?, Some(said) if said == *line));
+        assert!(rt; matches!(&text_in(rt.alloc(), *text)?, Some(said) if said == line));
     }
     Ok(())
 }
