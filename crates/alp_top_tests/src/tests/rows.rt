@@ -33,6 +33,12 @@ const NO_HOME: [&[u8]; 2] = [
     b"4 ok trans 1.1.1\n5 ok\n6 ok file 1.1.1 open 1\n7 ok\n8 ok\n9 ok\n10 ok\n11 ok\n12 ok\n13 ok\n14 ok\n15 ok\n16 ok\n17 ok\n18 ok\n19 ok\n20 ok\n21 ok\n22 ok\n23 refused 13 left 0 asked 1\n24 ok stamp 1 1.1.1\n26 refused 2 epoch 2\n27 ok trans 1.2.1\n28 ok open 1\n29 ok x -\n30 ok stamp 2 1.2.1\nserver 1 epoch 2 clock 2 files 1 pages 300\nowner 1 ann charge 300 quota 400\ncommitted 2 aborted 0\n",
 ];
 
+// What a file gave back is there for two others, to the last page.
+const FILLED_AGAIN: [&[u8]; 2] = [
+    b"servers 1\nvolume 1 512 2048\nclient 1 Admin\n1 begin 1\n1 mkowner 1 ann 400 World\n1 create 1 A ann 252 World World\n1 write A 0 16 x\n1 write A 16 16 x\n1 write A 32 16 x\n1 write A 48 16 x\n1 write A 64 16 x\n1 write A 80 16 x\n1 write A 96 16 x\n1 write A 112 16 x\n1 write A 128 16 x\n1 write A 144 16 x\n1 write A 160 16 x\n1 write A 176 16 x\n1 write A 192 16 x\n1 write A 208 16 x\n1 write A 224 16 x\n1 write A 240 12 x\n1 commit\n1 begin 1\n1 open A change w\n1 delete A\n1 commit\n1 begin 1\n1 create 1 B ann 126 World World\n1 create 1 C ann 126 World World\n1 write B 0 16 x\n1 write B 16 16 x\n1 write B 32 16 x\n1 write B 48 16 x\n1 write B 64 16 x\n1 write B 80 16 x\n1 write B 96 16 x\n1 write B 112 14 x\n1 write C 0 16 x\n1 write C 16 16 x\n1 write C 32 16 x\n1 write C 48 16 x\n1 write C 64 16 x\n1 write C 80 16 x\n1 write C 96 16 x\n1 write C 112 13 x\n1 write C 125 1 x\n1 commit\n",
+    b"4 ok trans 1.1.1\n5 ok\n6 ok file 1.1.1 open 1\n7 ok\n8 ok\n9 ok\n10 ok\n11 ok\n12 ok\n13 ok\n14 ok\n15 ok\n16 ok\n17 ok\n18 ok\n19 ok\n20 ok\n21 ok\n22 ok\n23 ok stamp 1 1.1.1\n24 ok trans 1.1.2\n25 ok open 1\n26 ok\n27 ok stamp 2 1.1.2\n28 ok trans 1.1.3\n29 ok file 1.1.2 open 1\n30 ok file 1.1.3 open 2\n31 ok\n32 ok\n33 ok\n34 ok\n35 ok\n36 ok\n37 ok\n38 ok\n39 ok\n40 ok\n41 ok\n42 ok\n43 ok\n44 ok\n45 ok\n46 ok\n47 refused 13 left 0 asked 1\n48 ok stamp 3 1.1.3\nserver 1 epoch 1 clock 3 files 2 pages 252\nowner 1 ann charge 252 quota 400\ncommitted 3 aborted 0\n",
+];
+
 // Each call of a session is answered once; a frame that is sent again gets the same reply while it is the last one, and then
 // nothing.
 const AGAIN_AND_OLD: [&[u8]; 2] = [
@@ -213,6 +219,7 @@ fn plays_whole_scripts(rt: HostRuntime) -> Result<(), Fail> {
         LEFT,
         NO_LOG,
         NO_HOME,
+        FILLED_AGAIN,
         AGAIN_AND_OLD,
         OUTCOMES,
         CLOCK_END,
