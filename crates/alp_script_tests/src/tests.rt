@@ -1,3 +1,6 @@
 //! One module for each crate.
+mod drill;
 mod lines;
+mod report;
+mod script;
 mod words;
