@@ -6,7 +6,7 @@ use alp_base::{Halt, Page};
 use alp_bay::{Bay, BayFault, HostBay};
 use alp_disk::Disk;
 use std::fs::File;
-use std::path::{Path, PathBuf};
+use std::path::PathBuf;
 use std::test::Fail;
 use std::{env, fs, process};
 
@@ -70,15 +70,15 @@ fn is_kept<B: Bay>(other: &mut B, bay: &mut B) -> Result<bool, Fail> {
 }
 
 // Whether the bay refuses a file of no whole number of pages.
-fn refuses_uneven<B: Bay>(rt: &HostRuntime, path: Path<'_>, bay: &mut B) -> Result<bool, Fail> {
+fn refuses_uneven<B: Bay>(rt: &HostRuntime, path: &PathBuf, bay: &mut B) -> Result<bool, Fail> {
     let odd = File::create(rt, path.join(rt.alloc(), "server2.vol")?.as_path())?;
     odd.set_len(1025)?;
     Ok(bay.take(2, 4).err() == Some(BayFault::Failed))
 }
 
 // Whether all this is so of bays of the folder.
-fn keeps_volumes(rt: HostRuntime, path: Path<'_>) -> Result<bool, Fail> {
-    let folder = path.to_str().ok_or("a name")?;
+fn keeps_volumes(rt: HostRuntime, path: &PathBuf) -> Result<bool, Fail> {
+    let folder = path.as_path().to_str().ok_or("a name")?;
     let mut bay = bay_of(rt, folder)?;
     let mut other = bay_of(rt, folder)?;
     let again = taken_again(&mut bay)?;
@@ -91,7 +91,7 @@ fn keeps_volumes(rt: HostRuntime, path: Path<'_>) -> Result<bool, Fail> {
 #[test]
 fn a_folder_keeps_its_volumes(rt: HostRuntime) -> Result<(), Fail> {
     let path = new_folder(&rt)?;
-    let kept = keeps_volumes(rt, path.as_path())?;
+    let kept = keeps_volumes(rt, &path)?;
     fs::remove_dir_all(&rt, path.as_path())?;
     assert!(rt; kept);
     Ok(())

@@ -3,7 +3,7 @@ use alp_base::{Halt, Page};
 use alp_disk::{Disk, FileDisk, MemDisk, write_synced};
 use std::fs::File;
 use std::os::unix::fs::FileExt;
-use std::path::{Path, PathBuf};
+use std::path::PathBuf;
 use std::test::Fail;
 use std::{env, fs, process};
 
@@ -63,15 +63,15 @@ fn new_path(rt: &HostRuntime) -> Result<PathBuf, Fail> {
 }
 
 // A disk of three pages in a new file.
-fn new_disk(rt: &HostRuntime, path: Path<'_>) -> Result<FileDisk, Fail> {
-    let file = File::create_new(rt, path)?;
+fn new_disk(rt: &HostRuntime, path: &PathBuf) -> Result<FileDisk, Fail> {
+    let file = File::create_new(rt, path.as_path())?;
     file.set_len(1536)?;
     Ok(FileDisk::new(file, 3))
 }
 
 // What the file holds by another handle.
-fn bytes_in(rt: &HostRuntime, path: Path<'_>) -> Result<[u8; 1536], Fail> {
-    let file = File::open(rt, path)?;
+fn bytes_in(rt: &HostRuntime, path: &PathBuf) -> Result<[u8; 1536], Fail> {
+    let file = File::open(rt, path.as_path())?;
     let mut bytes = [0; 1536];
     file.read_exact_at(&mut bytes, 0)?;
     Ok(bytes)
@@ -89,9 +89,9 @@ fn wanted() -> [u8; 1536] {
 #[test]
 fn a_file_holds_pages(rt: HostRuntime) -> Result<(), Fail> {
     let path = new_path(&rt)?;
-    let mut disk = new_disk(&rt, path.as_path())?;
+    let mut disk = new_disk(&rt, &path)?;
     let wrote = write_some(&mut disk).is_ok() && disk.sync().is_ok();
-    let bytes = bytes_in(&rt, path.as_path())?;
+    let bytes = bytes_in(&rt, &path)?;
     fs::remove_file(&rt, path.as_path())?;
     assert!(rt; wrote && bytes == wanted());
     let mut back = disk.power_off(0);
