@@ -1,6 +1,6 @@
 //! Tests of alp_batch.
 use alp_base::Page;
-use alp_batch::decode;
+use alp_batch::{Batch, decode};
 use std::alloc::Global;
 use std::test::*;
 
@@ -31,21 +31,31 @@ fn dump(alloc: Global) -> Result<Vec<u8>, Fail> {
     Ok(out)
 }
 
-/// A note gets a value, and another ends.
+fn has_images(batch: &Batch) -> bool {
+    let [first, second] = batch.images.as_slice() else {
+        return false;
+    };
+    first.at == 300
+        && first.page.bytes() == Page::beginning(b"A").bytes()
+        && second.at == 4097
+        && second.page.bytes() == Page::beginning(b"B").bytes()
+}
+
+// A note gets a value, and another ends.
+fn has_notes(batch: &Batch) -> bool {
+    let [clock, decision] = batch.notes.as_slice() else {
+        return false;
+    };
+    matches!(&clock.value, Some(value) if value.as_slice() == CLOCK)
+        && clock.name.as_slice() == b"C".as_slice()
+        && decision.name.as_slice() == b"DA".as_slice()
+        && decision.value.is_none()
+}
+
 #[test]
 fn a_batch_is_its_dump(rt: HostRuntime) -> Result<(), Fail> {
     let bytes = dump(rt.alloc())?;
     let batch = decode(rt.alloc(), bytes.as_slice())?.ok_or("a batch")?;
-    let [first, second] = batch.images.as_slice() else {
-        return Err("two images".into());
-    };
-    assert!(rt; first.at == 300 && first.page.bytes() == Page::beginning(b"A").bytes());
-    assert!(rt; second.at == 4097 && second.page.bytes() == Page::beginning(b"B").bytes());
-    let [clock, decision] = batch.notes.as_slice() else {
-        return Err("two notes".into());
-    };
-    assert!(rt; clock.name.as_slice() == b"C".as_slice());
-    assert!(rt; matches!(&clock.value, Some(value) if value.as_slice() == CLOCK));
-    assert!(rt; decision.name.as_slice() == b"DA".as_slice() && decision.value.is_none());
+    assert!(rt; has_images(&batch) && has_notes(&batch));
     Ok(())
 }

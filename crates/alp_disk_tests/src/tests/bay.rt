@@ -62,26 +62,38 @@ fn bay_of(rt: HostRuntime, folder: &str) -> Result<HostBay<HostRuntime>, Fail> {
     Ok(bay)
 }
 
+// Whether another bay of the folder meets what was synced there, and the bay has no disk while the other has it.
+fn is_kept<B: Bay>(other: &mut B, bay: &mut B) -> Result<bool, Fail> {
+    let mut disk = other.take(1, 9).ok().ok_or("the disk again")?;
+    let byte = last_of(&mut disk).ok().ok_or("a read")?;
+    Ok(byte == 7 && bay.take(1, 4).err() == Some(BayFault::Failed))
+}
+
+// Whether the bay refuses a file of no whole number of pages.
+fn refuses_uneven<B: Bay>(rt: &HostRuntime, path: &PathBuf, bay: &mut B) -> Result<bool, Fail> {
+    let odd = File::create(rt, path.join(rt.alloc(), "server2.vol")?.as_path())?;
+    odd.set_len(1025)?;
+    Ok(bay.take(2, 4).err() == Some(BayFault::Failed))
+}
+
+// Whether all this is so of bays of the folder.
+fn keeps_volumes(rt: HostRuntime, path: &PathBuf) -> Result<bool, Fail> {
+    let folder = path.as_path().to_str().ok_or("a name")?;
+    let mut bay = bay_of(rt, folder)?;
+    let mut other = bay_of(rt, folder)?;
+    let again = taken_again(&mut bay)?;
+    let kept = is_kept(&mut other, &mut bay)?;
+    let refused = refuses_uneven(&rt, path, &mut bay)?;
+    let third = bay.take(3, 5).ok().ok_or("a disk of another server")?;
+    Ok(again == (7, 4) && kept && refused && third.pages() == 5)
+}
+
 #[test]
 fn a_folder_keeps_its_volumes(rt: HostRuntime) -> Result<(), Fail> {
     let path = new_folder(&rt)?;
-    let folder = path.as_path().to_str().ok_or("a name")?;
-    let mut bay = bay_of(rt, folder)?;
-    let again = taken_again(&mut bay)?;
-    // Another bay meets what was synced there; while it has the disk, no other bay does.
-    let mut second = bay_of(rt, folder)?;
-    let mut disk = second.take(1, 9).ok().ok_or("the disk again")?;
-    let byte = last_of(&mut disk).ok().ok_or("a read")?;
-    let refused = bay.take(1, 4).err();
-    drop(disk);
-    let third = bay.take(3, 5).ok().ok_or("a disk of another server")?;
-    let odd = File::create(&rt, path.join(rt.alloc(), "server2.vol")?.as_path())?;
-    odd.set_len(1025)?;
-    let uneven = bay.take(2, 4).err();
+    let kept = keeps_volumes(rt, &path)?;
     fs::remove_dir_all(&rt, path.as_path())?;
-    assert!(rt; again == (7, 4) && byte == 7);
-    assert!(rt; third.pages() == 5);
-    assert!(rt; refused == Some(BayFault::Failed) && uneven == Some(BayFault::Failed));
+    assert!(rt; kept);
     Ok(())
 }
 

@@ -257,18 +257,25 @@ fn falls<V: Vault>(
     Ok(node.is_down())
 }
 
+// Whether that server falls so.
+fn server_falls(alloc: Global, server: u8, deeds: [&[Deed]; 3], writes: u32) -> Result<bool, Fail> {
+    let mut node = in_memory(alloc, server)?;
+    Ok(falls(alloc, &mut node, deeds, writes)?)
+}
+
+// A server and its deeds, of which the last is a vote, a decision, an application.
+const WRITES: [(u8, [&[Deed]; 3]); 3] = [
+    (2, [NOTHING, WORKS, VOTES]),
+    (1, [BEGINS, FINISHES, IS_READY]),
+    (2, [WORKS, VOTES, APPLIES]),
+];
+
 /// In each a server falls where no write may pass, and another does not where one may.
 #[test]
 fn a_vote_a_decision_and_an_application_are_one_write_each(rt: HostRuntime) -> Result<(), Fail> {
-    let alloc = rt.alloc();
-    for (server, deeds) in [
-        (2u8, [NOTHING, WORKS, VOTES]),
-        (1, [BEGINS, FINISHES, IS_READY]),
-        (2, [WORKS, VOTES, APPLIES]),
-    ] {
-        let (mut none, mut one) = (in_memory(alloc, server)?, in_memory(alloc, server)?);
-        assert!(rt; falls(alloc, &mut none, deeds, 0)?);
-        assert!(rt; !falls(alloc, &mut one, deeds, 1)?);
+    for (server, deeds) in WRITES {
+        assert!(rt; server_falls(rt.alloc(), server, deeds, 0)?);
+        assert!(rt; !server_falls(rt.alloc(), server, deeds, 1)?);
     }
     Ok(())
 }
@@ -398,6 +405,36 @@ fn stands<V: Vault>(
     Ok(true)
 }
 
+const AS_COORDINATOR: [(&[Deed], Told, &[Deed]); 5] = [
+    (BEGINS, Told::Anything, STRANGERS),
+    (FINISHES, Told::NotYet, STRANGERS),
+    (LOOKS_AT_FIRST, Told::IsLocked, NOTHING),
+    (IS_READY, Told::Anything, STRANGERS),
+    (FINDS_AT_FIRST, Told::Owner, LATE),
+];
+
+// Whether the first server stands. What the part says last is heeded.
+fn coordinator_stands(alloc: Global) -> Result<bool, Fail> {
+    let mut node = in_memory(alloc, 1)?;
+    let is_firm = stands(alloc, &mut node, &AS_COORDINATOR)?;
+    let _ = meet_all(alloc, &mut node, IS_DONE)?;
+    Ok(is_firm && !has_said_only(node.journal().entries()))
+}
+
+const AS_PART: [(&[Deed], Told, &[Deed]); 5] = [
+    (WORKS, Told::Plain, OTHERS),
+    (VOTES, Told::Anything, OTHERS),
+    (LOOKS_AT_SECOND, Told::IsLocked, NOTHING),
+    (APPLIES, Told::Anything, OTHERS),
+    (FINDS_AT_SECOND, Told::Owner, NOTHING),
+];
+
+// Whether the second server does.
+fn part_stands(alloc: Global) -> Result<bool, Fail> {
+    let mut node = in_memory(alloc, 2)?;
+    Ok(stands(alloc, &mut node, &AS_PART)?)
+}
+
 /// Each of these is heard where nothing may be written, and nothing comes of it but an answer: files, intents, locks and notes are
 /// as they were.
 ///
@@ -413,26 +450,7 @@ fn stands<V: Vault>(
 /// | `Ready`, `Register`, `No`, `Done` | another server, or the coordinator | the same |
 #[test]
 fn strangers_change_nothing(rt: HostRuntime) -> Result<(), Fail> {
-    let alloc = rt.alloc();
-    let coordinates = [
-        (BEGINS, Told::Anything, STRANGERS),
-        (FINISHES, Told::NotYet, STRANGERS),
-        (LOOKS_AT_FIRST, Told::IsLocked, NOTHING),
-        (IS_READY, Told::Anything, STRANGERS),
-        (FINDS_AT_FIRST, Told::Owner, LATE),
-    ];
-    let takes_part = [
-        (WORKS, Told::Plain, OTHERS),
-        (VOTES, Told::Anything, OTHERS),
-        (LOOKS_AT_SECOND, Told::IsLocked, NOTHING),
-        (APPLIES, Told::Anything, OTHERS),
-        (FINDS_AT_SECOND, Told::Owner, NOTHING),
-    ];
-    let (mut first, mut second) = (in_memory(alloc, 1)?, in_memory(alloc, 2)?);
-    assert!(rt; stands(alloc, &mut first, &coordinates)?);
-    assert!(rt; stands(alloc, &mut second, &takes_part)?);
-    // What the part says last is heeded.
-    let _ = meet_all(alloc, &mut first, IS_DONE)?;
-    assert!(rt; !has_said_only(first.journal().entries()));
+    assert!(rt; coordinator_stands(rt.alloc())?);
+    assert!(rt; part_stands(rt.alloc())?);
     Ok(())
 }

@@ -41,22 +41,30 @@ fn ask(
     Ok(Some(grant))
 }
 
+// Two read; then another wants to write, and then one of them.
+const ASKS: [(u32, Mode, Choice, Grant); 4] = [
+    (1, Mode::Read, Choice::Fail, Grant::Granted),
+    (2, Mode::Read, Choice::Fail, Grant::Granted),
+    (3, Mode::Write, Choice::Wait, Grant::Queued),
+    (2, Mode::Write, Choice::Wait, Grant::Queued),
+];
+
+fn asked(alloc: Global, table: &mut LockTable) -> Result<bool, OutOfMemory> {
+    for (by, mode, choice, grant) in ASKS {
+        if ask(alloc, table, by, mode, choice)? != Some(grant) {
+            return Ok(false);
+        }
+    }
+    Ok(true)
+}
+
 #[test]
 fn conversions_come_before_arrivals(rt: HostRuntime) -> Result<(), Fail> {
     let mut table = LockTable::new(rt.alloc());
-    for (by, mode, choice, grant) in [
-        (1, Mode::Read, Choice::Fail, Grant::Granted),
-        (2, Mode::Read, Choice::Fail, Grant::Granted),
-        (3, Mode::Write, Choice::Wait, Grant::Queued),
-        (2, Mode::Write, Choice::Wait, Grant::Queued),
-    ] {
-        assert!(rt; ask(rt.alloc(), &mut table, by, mode, choice)? == Some(grant));
-    }
+    assert!(rt; asked(rt.alloc(), &mut table)?);
     table.release_all(trans(1));
     assert!(rt; table.take_woken() == Some(trans(2)) && table.take_woken() == None);
-    assert!(rt; table.is_granted(trans(2)) && !table.is_granted(trans(3)));
     assert!(rt; table.mode_of(trans(2), &Resource::Whole(FILE)) == Some(Mode::Write));
-    table.release_all(trans(2));
-    assert!(rt; table.take_woken() == Some(trans(3)));
+    assert!(rt; table.is_granted(trans(2)) && !table.is_granted(trans(3)));
     Ok(())
 }

@@ -75,12 +75,18 @@ fn is_given(part: &ReadyPart) -> bool {
 
 #[test]
 fn a_ready_part(rt: HostRuntime) -> Result<(), Fail> {
-    let bytes = ready_bytes(rt.alloc()).ok().ok_or("memory")?;
-    let found = read_ready(rt.alloc(), &bytes).ok().ok_or("memory")?;
-    assert!(rt; is_given(&found.ok_or("a part")?));
-    let name = ready_note_name(rt.alloc(), JOIN).ok().ok_or("memory")?;
-    assert!(rt; name.as_slice() == b"R\x02\x00\x00\x00\x03\x00\x00\x00\x05".as_slice());
-    assert!(rt; read_ready_name(name.as_slice()) == Some(JOIN));
+    let bytes = ready_bytes(rt.alloc())?;
+    let found = read_ready(rt.alloc(), &bytes)?;
+    assert!(rt; matches!(&found, Some(part) if is_given(part)));
+    Ok(())
+}
+
+const READY_NAME: &[u8] = b"R\x02\x00\x00\x00\x03\x00\x00\x00\x05";
+
+#[test]
+fn the_name_of_a_ready_part(rt: HostRuntime) -> Result<(), Fail> {
+    let name = ready_note_name(rt.alloc(), JOIN)?;
+    assert!(rt; name.as_slice() == READY_NAME && read_ready_name(READY_NAME) == Some(JOIN));
     Ok(())
 }
 
@@ -90,15 +96,28 @@ const DECISION: &[u8] = b"\
 \x02\x00\x00\x00\x03\x00\x00\x00\x05\
 \x03\x00\x00\x00\x01\x00\x00\x00\x01";
 
+// Whether what was read is what the bytes were spelled for.
+fn is_decided(decision: &Decision) -> bool {
+    match decision.joins.as_slice() {
+        [first, _] => decision.ts == 259 && *first == JOIN,
+        _ => false,
+    }
+}
+
 #[test]
 fn a_decision(rt: HostRuntime) -> Result<(), Fail> {
-    let found = read_decision(rt.alloc(), DECISION).ok().ok_or("memory")?;
-    let decision = found.ok_or("a decision")?;
+    let found = read_decision(rt.alloc(), DECISION)?;
+    assert!(rt; matches!(&found, Some(decision) if is_decided(decision)));
+    Ok(())
+}
+
+const DECISION_NAME: &[u8] = b"D\x01\x00\x00\x00\x01\x00\x00\x00\x07";
+
+#[test]
+fn the_name_of_a_decision(rt: HostRuntime) -> Result<(), Fail> {
+    let name = decision_note_name(rt.alloc(), TRANS)?;
     assert!(rt;
-        decision.ts == 259 && matches!(decision.joins.as_slice(), [first, _] if *first == JOIN)
+        name.as_slice() == DECISION_NAME && read_decision_name(DECISION_NAME) == Some(TRANS)
     );
-    let name = decision_note_name(rt.alloc(), TRANS).ok().ok_or("memory")?;
-    assert!(rt; name.as_slice() == b"D\x01\x00\x00\x00\x01\x00\x00\x00\x07".as_slice());
-    assert!(rt; read_decision_name(name.as_slice()) == Some(TRANS));
     Ok(())
 }

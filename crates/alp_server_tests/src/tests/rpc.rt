@@ -1,5 +1,6 @@
 //! Tests of alp_rpc.
 ghost use Rattle.std.specs.Prelude.{◌≡◌, IfOk, length};
+ghost use Rattle.alp_rpc.specs.Frames.{IsSendable};
 
 use super::bytes_of;
 use alp_base::{Choice, OutOfMemory, Page, PageList, PageRef, Run, TransId};
@@ -190,10 +191,11 @@ fn one_page(alloc: Global) -> Result<PageList, OutOfMemory>
     Ok(PageList::new(pages))
 }
 
-#[test]
-fn frames_as_built(rt: HostRuntime) -> Result<(), Fail> {
-    let pages = one_page(rt.alloc()).ok().ok_or("memory")?;
-    let write = Request {
+fn write_of(pages: PageList) -> Request
+    requires { length pages ≡ 1 }
+    ensures { IsSendable result }
+{
+    Request {
         client: 16,
         epoch: 1,
         number: 9,
@@ -211,13 +213,22 @@ fn frames_as_built(rt: HostRuntime) -> Result<(), Fail> {
             pages,
             choice: Choice::Wait,
         },
-    };
-    let bytes = encode_request(rt.alloc(), &write)?;
+    }
+}
+
+#[test]
+fn a_write_as_built(rt: HostRuntime) -> Result<(), Fail> {
+    let bytes = encode_request(rt.alloc(), &write_of(one_page(rt.alloc())?))?;
     let want = bytes_of(
         rt.alloc(),
         "5110000000010000000909 010000000100000002 00000001 0000000a01 01 41 00*511 01",
     )?;
     assert!(rt; bytes.as_slice() == want.as_slice());
+    Ok(())
+}
+
+#[test]
+fn a_welcome_as_built(rt: HostRuntime) -> Result<(), Fail> {
     let welcome = ReplyFrame {
         client: 2,
         epoch: 1,

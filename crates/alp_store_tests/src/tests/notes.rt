@@ -74,11 +74,13 @@ fn noted(alloc: Global, count: u8, notes: &[u8]) -> Result<Option<usize>, Fail> 
     }
 }
 
+const NOTES: [&[u8]; 3] = [CLOCK, DECISION, READY];
+
 #[test]
 fn notes_of_the_server(rt: HostRuntime) -> Result<(), Fail> {
     let alloc = rt.alloc();
     let mut all = Vec::new(alloc);
-    for note in [CLOCK, DECISION, READY] {
+    for note in NOTES {
         assert!(rt; noted(alloc, 1, note)? == Some(1));
         put_bytes(&mut all, note)?;
     }
@@ -96,22 +98,24 @@ fn is_refused(alloc: Global, note: &[u8], at: usize, to: u8) -> Result<bool, Fai
     Ok(noted(alloc, 1, &bytes)?.is_none())
 }
 
-/// Another letter, a clock that is too late; a decision of another server, with parts here, on no server of the run, or with more
-/// than it counts; a part on another server, of a transaction from here, from no server of the run, or with a time that is too late.
+// Another letter, a clock that is too late; a decision of another server, with parts here, on no server of the run, or with more
+// than it counts; a part on another server, of a transaction from here, from no server of the run, or with a time that is too late.
+const WRONG: [(&[u8], usize, u8); 10] = [
+    (CLOCK, 2, b'E'),
+    (CLOCK, 11, 0x41),
+    (DECISION, 3, 2),
+    (DECISION, 25, 1),
+    (DECISION, 34, 4),
+    (DECISION, 24, 1),
+    (READY, 3, 2),
+    (READY, 16, 1),
+    (READY, 16, 4),
+    (READY, 25, 0x41),
+];
+
 #[test]
 fn notes_of_no_such_server(rt: HostRuntime) -> Result<(), Fail> {
-    for (note, at, to) in [
-        (CLOCK, 2usize, b'E'),
-        (CLOCK, 11, 0x41),
-        (DECISION, 3, 2),
-        (DECISION, 25, 1),
-        (DECISION, 34, 4),
-        (DECISION, 24, 1),
-        (READY, 3, 2),
-        (READY, 16, 1),
-        (READY, 16, 4),
-        (READY, 25, 0x41),
-    ] {
+    for (note, at, to) in WRONG {
         assert!(rt; is_refused(rt.alloc(), note, at, to)?, "{at} {to}");
     }
     Ok(())

@@ -93,9 +93,12 @@ fn is_whole(alloc: Global, commit: Commit, server: u8) -> Result<bool, Fail> {
     Ok(has_fallen && has_stood && is_over)
 }
 
+// Each with the server whose disk stops.
+const STOPS: [(Commit, u8); 3] = [(OF_ONE, 1), (OF_TWO, 1), (OF_TWO, 2)];
+
 #[test]
 fn a_commit_stands_whole_or_not_at_all(rt: HostRuntime) -> Result<(), Fail> {
-    for (commit, server) in [(OF_ONE, 1), (OF_TWO, 1), (OF_TWO, 2)] {
+    for (commit, server) in STOPS {
         assert!(rt; is_whole(rt.alloc(), commit, server)?, "{server}");
     }
     Ok(())

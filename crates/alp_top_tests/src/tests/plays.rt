@@ -1,5 +1,6 @@
 //! What a client is answered behind what another one did.
 use super::{SOUND, run};
+use std::alloc::Global;
 use std::io::Write;
 use std::test::Fail;
 
@@ -81,15 +82,19 @@ fn put_deed(script: &mut Vec<u8>, client: u8, lines: &[&[u8]]) -> Result<(), Fai
     Ok(())
 }
 
+// The run in which client 1 does the one, and client 2 then the other.
+fn played(alloc: Global, first: &[&[u8]], second: &[&[u8]]) -> Result<super::Told, Fail> {
+    let mut script = Vec::from_slice(alloc, BOTH_BEGUN)?;
+    put_deed(&mut script, 1, first)?;
+    put_deed(&mut script, 2, second)?;
+    run(alloc, &["play"], script.as_slice(), &SOUND)
+}
+
 #[test]
 fn answers_each_pair_of_calls(rt: HostRuntime) -> Result<(), Fail> {
-    let alloc = rt.alloc();
     for (first, answers) in DEEDS.iter().zip(ANSWERS.iter()) {
         for (second, answer) in DEEDS.iter().zip(answers.iter()) {
-            let mut script = Vec::from_slice(alloc, BOTH_BEGUN)?;
-            put_deed(&mut script, 1, *first)?;
-            put_deed(&mut script, 2, *second)?;
-            let told = run(alloc, &["play"], script.as_slice(), &SOUND)?;
+            let told = played(rt.alloc(), *first, *second)?;
             assert!(rt; told.code == 0 && last_answer(told.written.as_slice()) == *answer);
         }
     }

@@ -211,48 +211,50 @@ fn first_other(
     Ok(None)
 }
 
+const WHOLE: [[&[u8]; 2]; 11] = [
+    REFUSING,
+    SHARED,
+    LEFT,
+    NO_LOG,
+    NO_HOME,
+    FILLED_AGAIN,
+    AGAIN_AND_OLD,
+    OUTCOMES,
+    CLOCK_END,
+    SETTLED,
+    CARRIED,
+];
+
 #[test]
 fn plays_whole_scripts(rt: HostRuntime) -> Result<(), Fail> {
-    let rows = [
-        REFUSING,
-        SHARED,
-        LEFT,
-        NO_LOG,
-        NO_HOME,
-        FILLED_AGAIN,
-        AGAIN_AND_OLD,
-        OUTCOMES,
-        CLOCK_END,
-        SETTLED,
-        CARRIED,
-    ];
-    assert_eq!(rt; first_other(rt.alloc(), b"", b"", &rows)?, None);
+    assert_eq!(rt; first_other(rt.alloc(), b"", b"", &WHOLE)?, None);
     Ok(())
 }
 
+const LINES: [[&[u8]; 2]; 18] = [
+    WAIT,
+    WAITING,
+    CONVERSIONS,
+    DEADLOCK,
+    TIMEOUT,
+    SIZES,
+    CHARGES,
+    DELETIONS,
+    DENIALS,
+    PAGES_LIMIT,
+    PROPERTIES,
+    CLOSING,
+    GIVEN,
+    LOCKS,
+    UPDATE,
+    RUNS,
+    ACCESS,
+    REPEATS,
+];
+
 #[test]
 fn plays_lines_behind_a_set_up(rt: HostRuntime) -> Result<(), Fail> {
-    let rows = [
-        WAIT,
-        WAITING,
-        CONVERSIONS,
-        DEADLOCK,
-        TIMEOUT,
-        SIZES,
-        CHARGES,
-        DELETIONS,
-        DENIALS,
-        PAGES_LIMIT,
-        PROPERTIES,
-        CLOSING,
-        GIVEN,
-        LOCKS,
-        UPDATE,
-        RUNS,
-        ACCESS,
-        REPEATS,
-    ];
-    assert_eq!(rt; first_other(rt.alloc(), SET_UP, SET_UP_TOLD, &rows)?, None);
+    assert_eq!(rt; first_other(rt.alloc(), SET_UP, SET_UP_TOLD, &LINES)?, None);
     Ok(())
 }
 

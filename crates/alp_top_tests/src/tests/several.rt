@@ -17,10 +17,12 @@ const NEXT_DAY: &[u8] =
 const NEXT_DAY_TOLD: &[u8] =
     b"3 ok trans 1.2.1\n4 ok owner ann charge 0 quota 9 create World\n5 ok owner ann charge 0 quota 5 create World\n6 ok stamp 4 1.2.1\nserver 1 epoch 2 clock 4 files 0 pages 0\nserver 2 epoch 2 clock 4 files 0 pages 0\nowner 1 ann charge 0 quota 9\nowner 2 ann charge 0 quota 5\ncommitted 1 aborted 0\n";
 
+const DAYS: [[&[u8]; 2]; 2] = [[CROSSED, CROSSED_TOLD], [NEXT_DAY, NEXT_DAY_TOLD]];
+
 #[test]
 fn a_run_goes_on_where_another_ended(rt: HostRuntime) -> Result<(), Fail> {
     let mut bay = MemBay::new(rt.alloc())?;
-    for (script, report) in [(CROSSED, CROSSED_TOLD), (NEXT_DAY, NEXT_DAY_TOLD)] {
+    for [script, report] in DAYS {
         let told = run_in(rt.alloc(), &["play"], script, &SOUND, &mut bay)?;
         assert!(rt; told.code == 0 && told.written.as_slice() == report);
     }
