@@ -276,6 +276,38 @@ fn says_what_changes(rt: HostRuntime) -> Result<(), Fail> {
     Ok(())
 }
 
+// What a line on pages names that does not wait.
+fn pages_of(line: &Line) -> Option<(Run, Mode)> {
+    match line {
+        Line::ReadPages {
+            run,
+            mode,
+            choice: Choice::Fail,
+            ..
+        } => Some((*run, *mode)),
+        Line::LockPages {
+            run,
+            mode,
+            choice: Choice::Fail,
+            ..
+        } => Some((*run, *mode)),
+        _ => None,
+    }
+}
+
+// How a line opens a file that does not wait.
+fn opening_of(line: &Line) -> Option<(Access, Mode)> {
+    match line {
+        Line::OpenFile {
+            access,
+            mode,
+            choice: Choice::Fail,
+            ..
+        } => Some((*access, *mode)),
+        _ => None,
+    }
+}
+
 const OPENS: [(&[u8], Access, Mode); 7] = [
     (b"1 open F read ir", Access::ReadOnly, Mode::IntendRead),
     (
@@ -296,48 +328,35 @@ const OPENS: [(&[u8], Access, Mode); 7] = [
 
 #[test]
 fn opens_in_each_mode(rt: HostRuntime) -> Result<(), Fail> {
-    for (text, purpose, lock) in OPENS {
-        let said = text_in(rt.alloc(), text)?;
-        assert!(rt;
-            matches!(said, Some(Line::OpenFile { access, mode, choice: Choice::Fail, .. }) if access == purpose && mode == lock)
-        );
+    for (text, access, mode) in OPENS {
+        let said = text_in(rt.alloc(), text)?.ok_or("a line")?;
+        assert!(rt; opening_of(&said) == Some((access, mode)));
     }
     Ok(())
 }
 
-const READS: [(&[u8], Mode); 6] = [
+const SOME: Run = Run {
+    first: 7,
+    count: 255,
+};
+
+const PAGES: [(&[u8], Mode); 9] = [
     (b"1 read F 7 255", Mode::Read),
     (b"1 read F 7 255 fail", Mode::Read),
     (b"1 read F 7 255 r", Mode::Read),
     (b"1 read F 7 255 u", Mode::Update),
     (b"1 read F 7 255 u fail", Mode::Update),
     (b"1 read F 7 255 w fail", Mode::Write),
+    (b"1 lock F 7 255 r", Mode::Read),
+    (b"1 lock F 7 255 u fail", Mode::Update),
+    (b"1 lock F 7 255 w", Mode::Write),
 ];
 
 #[test]
-fn reads_pages_in_three_modes(rt: HostRuntime) -> Result<(), Fail> {
-    for (text, lock) in READS {
-        let said = text_in(rt.alloc(), text)?;
-        assert!(rt;
-            matches!(said, Some(Line::ReadPages { run: Run { first: 7, count: 255 }, mode, choice: Choice::Fail, .. }) if mode == lock)
-        );
-    }
-    Ok(())
-}
-
-const LOCKS: [(&[u8], Mode); 3] = [
-    (b"1 lock F 0 1 r", Mode::Read),
-    (b"1 lock F 0 1 u fail", Mode::Update),
-    (b"1 lock F 0 1 w", Mode::Write),
-];
-
-#[test]
-fn locks_pages_in_three_modes(rt: HostRuntime) -> Result<(), Fail> {
-    for (text, lock) in LOCKS {
-        let said = text_in(rt.alloc(), text)?;
-        assert!(rt;
-            matches!(said, Some(Line::LockPages { run: Run { first: 0, count: 1 }, mode, choice: Choice::Fail, .. }) if mode == lock)
-        );
+fn takes_pages_in_three_modes(rt: HostRuntime) -> Result<(), Fail> {
+    for (text, mode) in PAGES {
+        let said = text_in(rt.alloc(), text)?.ok_or("a line")?;
+        assert!(rt; pages_of(&said) == Some((SOME, mode)));
     }
     Ok(())
 }
