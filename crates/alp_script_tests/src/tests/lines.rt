@@ -335,7 +335,7 @@ fn opens_in_each_mode(rt: HostRuntime) -> Result<(), Fail> {
     Ok(())
 }
 
-const SOME: Run = Run {
+const MANY: Run = Run {
     first: 7,
     count: 255,
 };
@@ -356,7 +356,7 @@ const PAGES: [(&[u8], Mode); 9] = [
 fn takes_pages_in_three_modes(rt: HostRuntime) -> Result<(), Fail> {
     for (text, mode) in PAGES {
         let said = text_in(rt.alloc(), text)?.ok_or("a line")?;
-        assert!(rt; pages_of(&said) == Some((SOME, mode)));
+        assert!(rt; pages_of(&said) == Some((MANY, mode)));
     }
     Ok(())
 }
