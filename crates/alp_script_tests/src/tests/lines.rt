@@ -177,73 +177,55 @@ fn refuses_wrong_lines(rt: HostRuntime) -> Result<(), Fail> {
     Ok(())
 }
 
+// What a line says that is no call of a file or an owner, with its numbers.
+fn event_of(line: &Line) -> (&'static str, u64, u64) {
+    match line {
+        Line::Repeat { client } => ("repeat", u64::from(*client), 0),
+        Line::Old { client } => ("old", u64::from(*client), 0),
+        Line::Collect { client } => ("collect", u64::from(*client), 0),
+        Line::Outcome { client } => ("outcome", u64::from(*client), 0),
+        Line::Timeout { server, client } => ("timeout", u64::from(*server), u64::from(*client)),
+        Line::Tick { server } => ("tick", u64::from(*server), 0),
+        Line::Force { server } => ("force", u64::from(*server), 0),
+        Line::Stop { server, calls } => ("stop", u64::from(*server), u64::from(*calls)),
+        Line::Restart { server, pick } => ("restart", u64::from(*server), *pick),
+        Line::Settle => ("settle", 0, 0),
+        Line::Carry { from, to } => ("carry", u64::from(*from), u64::from(*to)),
+        Line::Lose { from, to } => ("lose", u64::from(*from), u64::from(*to)),
+        Line::Again { from, to } => ("again", u64::from(*from), u64::from(*to)),
+        _ => ("call", 0, 0),
+    }
+}
+
 // The count of a stop has four bytes, and none of them is lost. A line on messages names the one that sends them, and then the other.
-const SAID: [(&[u8], Line); 17] = [
-    (b"1 repeat", Line::Repeat { client: 1 }),
-    (b"16  old", Line::Old { client: 16 }),
-    (b"7 collect", Line::Collect { client: 7 }),
-    (
-        b"timeout 1 7",
-        Line::Timeout {
-            server: 1,
-            client: 7,
-        },
-    ),
-    (b"tick 8", Line::Tick { server: 8 }),
-    (b"force 1", Line::Force { server: 1 }),
-    (
-        b"stop 1 0",
-        Line::Stop {
-            server: 1,
-            calls: 0,
-        },
-    ),
-    (
-        b"stop 1 255",
-        Line::Stop {
-            server: 1,
-            calls: 255,
-        },
-    ),
-    (
-        b"stop 1 256",
-        Line::Stop {
-            server: 1,
-            calls: 256,
-        },
-    ),
-    (
-        b"stop 1 65536",
-        Line::Stop {
-            server: 1,
-            calls: 65536,
-        },
-    ),
-    (
-        b"stop 2 4294967295",
-        Line::Stop {
-            server: 2,
-            calls: 4294967295,
-        },
-    ),
+const SAID: [(&[u8], (&str, u64, u64)); 17] = [
+    (b"1 repeat", ("repeat", 1, 0)),
+    (b"16  old", ("old", 16, 0)),
+    (b"7 collect", ("collect", 7, 0)),
+    (b"3 outcome", ("outcome", 3, 0)),
+    (b"timeout 1 7", ("timeout", 1, 7)),
+    (b"tick 8", ("tick", 8, 0)),
+    (b"force 1", ("force", 1, 0)),
+    (b"stop 1 0", ("stop", 1, 0)),
+    (b"stop 1 255", ("stop", 1, 255)),
+    (b"stop 1 256", ("stop", 1, 256)),
+    (b"stop 1 65536", ("stop", 1, 65536)),
+    (b"stop 2 4294967295", ("stop", 2, 4294967295)),
     (
         b"restart 1 18446744073709551615",
-        Line::Restart {
-            server: 1,
-            pick: 18446744073709551615,
-        },
+        ("restart", 1, 18446744073709551615),
     ),
-    (b"settle", Line::Settle),
-    (b"carry 1 8", Line::Carry { from: 1, to: 8 }),
-    (b"lose  2 1", Line::Lose { from: 2, to: 1 }),
-    (b"again 3 3", Line::Again { from: 3, to: 3 }),
-    (b"3 outcome", Line::Outcome { client: 3 }),
+    (b"settle", ("settle", 0, 0)),
+    (b"carry 1 8", ("carry", 1, 8)),
+    (b"lose  2 1", ("lose", 2, 1)),
+    (b"again 3 3", ("again", 3, 3)),
 ];
 
 #[test]
 fn says_what_happens(rt: HostRuntime) -> Result<(), Fail> {
-    for (text, line) in SAID.iter() {
-        assert!(rt; matches!(&text_in(rt.alloc(), *text)?, Some(said) if said == line));
+    for (text, wanted) in SAID {
+        let said = text_in(rt.alloc(), text)?.ok_or("a line")?;
+        assert!(rt; event_of(&said) == wanted);
     }
     Ok(())
 }
@@ -294,6 +276,38 @@ fn says_what_changes(rt: HostRuntime) -> Result<(), Fail> {
     Ok(())
 }
 
+// What a line on pages names that does not wait.
+fn pages_of(line: &Line) -> Option<(Run, Mode)> {
+    match line {
+        Line::ReadPages {
+            run,
+            mode,
+            choice: Choice::Fail,
+            ..
+        } => Some((*run, *mode)),
+        Line::LockPages {
+            run,
+            mode,
+            choice: Choice::Fail,
+            ..
+        } => Some((*run, *mode)),
+        _ => None,
+    }
+}
+
+// How a line opens a file that does not wait.
+fn opening_of(line: &Line) -> Option<(Access, Mode)> {
+    match line {
+        Line::OpenFile {
+            access,
+            mode,
+            choice: Choice::Fail,
+            ..
+        } => Some((*access, *mode)),
+        _ => None,
+    }
+}
+
 const OPENS: [(&[u8], Access, Mode); 7] = [
     (b"1 open F read ir", Access::ReadOnly, Mode::IntendRead),
     (
@@ -314,48 +328,35 @@ const OPENS: [(&[u8], Access, Mode); 7] = [
 
 #[test]
 fn opens_in_each_mode(rt: HostRuntime) -> Result<(), Fail> {
-    for (text, purpose, lock) in OPENS {
-        let said = text_in(rt.alloc(), text)?;
-        assert!(rt;
-            matches!(said, Some(Line::OpenFile { access, mode, choice: Choice::Fail, .. }) if access == purpose && mode == lock)
-        );
+    for (text, access, mode) in OPENS {
+        let said = text_in(rt.alloc(), text)?.ok_or("a line")?;
+        assert!(rt; opening_of(&said) == Some((access, mode)));
     }
     Ok(())
 }
 
-const READS: [(&[u8], Mode); 6] = [
+const MANY: Run = Run {
+    first: 7,
+    count: 255,
+};
+
+const PAGES: [(&[u8], Mode); 9] = [
     (b"1 read F 7 255", Mode::Read),
     (b"1 read F 7 255 fail", Mode::Read),
     (b"1 read F 7 255 r", Mode::Read),
     (b"1 read F 7 255 u", Mode::Update),
     (b"1 read F 7 255 u fail", Mode::Update),
     (b"1 read F 7 255 w fail", Mode::Write),
+    (b"1 lock F 7 255 r", Mode::Read),
+    (b"1 lock F 7 255 u fail", Mode::Update),
+    (b"1 lock F 7 255 w", Mode::Write),
 ];
 
 #[test]
-fn reads_pages_in_three_modes(rt: HostRuntime) -> Result<(), Fail> {
-    for (text, lock) in READS {
-        let said = text_in(rt.alloc(), text)?;
-        assert!(rt;
-            matches!(said, Some(Line::ReadPages { run: Run { first: 7, count: 255 }, mode, choice: Choice::Fail, .. }) if mode == lock)
-        );
-    }
-    Ok(())
-}
-
-const LOCKS: [(&[u8], Mode); 3] = [
-    (b"1 lock F 0 1 r", Mode::Read),
-    (b"1 lock F 0 1 u fail", Mode::Update),
-    (b"1 lock F 0 1 w", Mode::Write),
-];
-
-#[test]
-fn locks_pages_in_three_modes(rt: HostRuntime) -> Result<(), Fail> {
-    for (text, lock) in LOCKS {
-        let said = text_in(rt.alloc(), text)?;
-        assert!(rt;
-            matches!(said, Some(Line::LockPages { run: Run { first: 0, count: 1 }, mode, choice: Choice::Fail, .. }) if mode == lock)
-        );
+fn takes_pages_in_three_modes(rt: HostRuntime) -> Result<(), Fail> {
+    for (text, mode) in PAGES {
+        let said = text_in(rt.alloc(), text)?.ok_or("a line")?;
+        assert!(rt; pages_of(&said) == Some((MANY, mode)));
     }
     Ok(())
 }
