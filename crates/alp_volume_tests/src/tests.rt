@@ -252,7 +252,7 @@ fn wrong_byte(
 // By docs/FORMATS.md: a page, its bytes from one on and before another, and which page is damaged where one of them has one more.
 // Pages are looked at in this order: the header, the directory, the owners' pages, with the charge of each owner by the leaders
 // that are one, the leaders, and their index pages.
-const DAMAGE: [(u32, usize, usize, Option<u32>); 35] = [
+static DAMAGE: [(u32, usize, usize, Option<u32>); 35] = [
     // The header.
     (0, 0, 512, Some(0)),
     // The directory: the file's id, zeros, the place of its leader, and entries that are not used.

@@ -7,7 +7,7 @@ use alp_tokens::LineFault;
 use std::alloc::Global;
 use std::test::Fail;
 
-const LINES: [&[u8]; 42] = [
+static LINES: [&[u8]; 42] = [
     b"1 create 1 G ann 0",
     b"1 create 1 G ann 4294967295 fail",
     b"1 create 1 G ann 70000 - World,eve,bob,bob",
@@ -61,7 +61,7 @@ fn reads_lines(rt: HostRuntime) -> Result<(), Fail> {
 }
 
 // Lines on files, then on locks, on what waits, on events and messages, and on bytes.
-const OUTSIDE: [&[u8]; 105] = [
+static OUTSIDE: [&[u8]; 105] = [
     b"1 create 1 G ann",
     b"1 create 1 G ann 4294967296",
     b"1 create 1 G ann 1 World",
@@ -198,7 +198,7 @@ fn event_of(line: &Line) -> (&'static str, u64, u64) {
 }
 
 // The count of a stop has four bytes, and none of them is lost. A line on messages names the one that sends them, and then the other.
-const SAID: [(&[u8], (&str, u64, u64)); 17] = [
+static SAID: [(&[u8], (&str, u64, u64)); 17] = [
     (b"1 repeat", ("repeat", 1, 0)),
     (b"16  old", ("old", 16, 0)),
     (b"7 collect", ("collect", 7, 0)),
@@ -340,7 +340,7 @@ const MANY: Run = Run {
     count: 255,
 };
 
-const PAGES: [(&[u8], Mode); 9] = [
+static PAGES: [(&[u8], Mode); 9] = [
     (b"1 read F 7 255", Mode::Read),
     (b"1 read F 7 255 fail", Mode::Read),
     (b"1 read F 7 255 r", Mode::Read),

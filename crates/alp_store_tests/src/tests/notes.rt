@@ -100,7 +100,7 @@ fn is_refused(alloc: Global, note: &[u8], at: usize, to: u8) -> Result<bool, Fai
 
 // Another letter, a clock that is too late; a decision of another server, with parts here, on no server of the run, or with more
 // than it counts; a part on another server, of a transaction from here, from no server of the run, or with a time that is too late.
-const WRONG: [(&[u8], usize, u8); 10] = [
+static WRONG: [(&[u8], usize, u8); 10] = [
     (CLOCK, 2, b'E'),
     (CLOCK, 11, 0x41),
     (DECISION, 3, 2),

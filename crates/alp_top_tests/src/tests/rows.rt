@@ -211,7 +211,7 @@ fn first_other(
     Ok(None)
 }
 
-const WHOLE: [[&[u8]; 2]; 11] = [
+static WHOLE: [[&[u8]; 2]; 11] = [
     REFUSING,
     SHARED,
     LEFT,
@@ -231,7 +231,7 @@ fn plays_whole_scripts(rt: HostRuntime) -> Result<(), Fail> {
     Ok(())
 }
 
-const LINES: [[&[u8]; 2]; 18] = [
+static LINES: [[&[u8]; 2]; 18] = [
     WAIT,
     WAITING,
     CONVERSIONS,
