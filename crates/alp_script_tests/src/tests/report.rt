@@ -38,7 +38,7 @@ fn line_of(alloc: Global, reply: Reply) -> Result<Vec<u8>, OutOfMemory> {
     Ok(text)
 }
 
-const REFUSALS: [(Refusal, &str); 39] = [
+static REFUSALS: [(Refusal, &str); 39] = [
     (Refusal::BadFrame, "3 refused 1\n"),
     (Refusal::UnknownTrans, "3 refused 3\n"),
     (Refusal::Finishing, "3 refused 4\n"),

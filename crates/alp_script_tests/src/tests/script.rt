@@ -12,7 +12,7 @@ fn count(alloc: Global, text: &[u8]) -> Result<usize, ScriptFault> {
     Ok(lines.len())
 }
 
-const SCRIPTS: [(&[u8], usize); 8] = [
+static SCRIPTS: [(&[u8], usize); 8] = [
     (
         b"servers 1\npatience 3\nclient 1 bob\npatience 1\nclient 2 ann\n2 begin 1\npatience 2\n",
         7,
@@ -53,7 +53,7 @@ fn reads_scripts(rt: HostRuntime) -> Result<(), Fail> {
 }
 
 // Scripts, and the number of the first line that is outside: of the language, of what was declared, or of its place.
-const OUTSIDE: [(&[u8], u32); 51] = [
+static OUTSIDE: [(&[u8], u32); 51] = [
     (b"", 1),
     (b"\n# none\n", 3),
     (b" \n", 1),
@@ -135,7 +135,7 @@ const WITH_FILE: &[u8] = b"servers 1\nclient 1 Admin\n1 create 1 F ann 1 World W
 
 // A line with that number behind others, and whether it may stand there: each server that it names is one of the run, also by the
 // id of a file, and its client and its word of a file are declared.
-const BEHIND: [(&[u8], u32, &[u8], bool); 38] = [
+static BEHIND: [(&[u8], u32, &[u8], bool); 38] = [
     (OF_THREE, 3, b"volume 3 512 64", true),
     (OF_THREE, 3, b"volume 4 512 64", false),
     (OF_THREE, 3, b"1 begin 3", true),
