@@ -10,7 +10,7 @@ use alp_pages::{
     Entry, Leader, PageReader, Places, clear_entry, encode_leader, new_header, set_entry,
 };
 use alp_tables::FileSlot;
-use alp_volume::read_volume;
+use alp_volume::{Catalog, read_volume};
 use std::alloc::Global;
 use std::test::*;
 
@@ -159,7 +159,7 @@ fn is_dumped(at: u32, page: &Page) -> bool {
 
 #[test]
 fn pages_are_those_of_the_dump(rt: HostRuntime) -> Result<(), Fail> {
-    let leader = leader(rt.alloc()).ok().ok_or("memory")?;
+    let leader = leader(rt.alloc())?;
     if leader.props.size > PAGES_PER_FILE {
         return Err("a file".into());
     }
@@ -180,20 +180,34 @@ fn volume(alloc: Global) -> Result<Option<MemPages>, OutOfMemory> {
     Ok(Some(MemPages { pages }))
 }
 
-#[test]
-fn reads_a_volume(rt: HostRuntime) -> Result<(), Fail> {
-    let alloc = rt.alloc();
-    let mut pages = volume(alloc).ok().ok_or("memory")?.ok_or("a volume")?;
-    let catalog = read_volume(alloc, &mut pages, HOME).ok().ok_or("a volume")?;
+// Whether the catalog has the file and the owner of the volume.
+fn has_both(catalog: &Catalog) -> bool {
     let kept = FileSlot {
         slot: 0,
         place: 257,
         blocks: 1,
     };
-    assert!(rt; catalog.files.len() == 1 && catalog.files.get(FILE) == Some(kept));
-    assert!(rt; catalog.owners.len() == 1 && catalog.owners.get(&Name::spelled(b"ann")) == Some(0));
-    assert!(rt; catalog.places.is_taken(260) && !catalog.places.is_taken(261));
-    assert!(rt; catalog.has_block(FILE, 0) && !catalog.has_block(FILE, 1));
+    catalog.files.len() == 1
+        && catalog.files.get(FILE) == Some(kept)
+        && catalog.owners.len() == 1
+        && catalog.owners.get(&Name::spelled(b"ann")) == Some(0)
+}
+
+// Whether it has their pages, and no other.
+fn has_their_pages(catalog: &Catalog) -> bool {
+    catalog.places.is_taken(260)
+        && !catalog.places.is_taken(261)
+        && catalog.has_block(FILE, 0)
+        && !catalog.has_block(FILE, 1)
+}
+
+#[test]
+fn reads_a_volume(rt: HostRuntime) -> Result<(), Fail> {
+    let mut pages = volume(rt.alloc())?.ok_or("a volume")?;
+    let catalog = read_volume(rt.alloc(), &mut pages, HOME)
+        .ok()
+        .ok_or("a volume")?;
+    assert!(rt; has_both(&catalog) && has_their_pages(&catalog));
     Ok(())
 }
 
@@ -301,10 +315,11 @@ static DAMAGE: [(u32, usize, usize, Option<u32>); 35] = [
 
 #[test]
 fn each_changed_byte_is_read_as_the_format_says(rt: HostRuntime) -> Result<(), Fail> {
-    let alloc = rt.alloc();
-    let mut pages = volume(alloc).ok().ok_or("memory")?.ok_or("a volume")?;
+    let mut pages = volume(rt.alloc())?.ok_or("a volume")?;
     for row in DAMAGE {
-        let wrong = wrong_byte(alloc, &mut pages, row).ok().ok_or("memory")?;
+        let wrong = wrong_byte(rt.alloc(), &mut pages, row)
+            .ok()
+            .ok_or("memory")?;
         assert!(rt; wrong.is_none(), "{wrong:?}");
     }
     Ok(())

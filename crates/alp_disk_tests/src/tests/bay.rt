@@ -69,6 +69,12 @@ fn is_kept<B: Bay>(other: &mut B, bay: &mut B) -> Result<bool, Fail> {
     Ok(byte == 7 && bay.take(1, 4).err() == Some(BayFault::Failed))
 }
 
+// Whether the disk of another server is a new one.
+fn has_new<B: Bay>(bay: &mut B) -> Result<bool, Fail> {
+    let disk = bay.take(3, 5).ok().ok_or("a disk of another server")?;
+    Ok(disk.pages() == 5)
+}
+
 // Whether the bay refuses a file of no whole number of pages.
 fn refuses_uneven<B: Bay>(rt: &HostRuntime, path: &PathBuf, bay: &mut B) -> Result<bool, Fail> {
     let odd = File::create(rt, path.join(rt.alloc(), "server2.vol")?.as_path())?;
@@ -76,22 +82,31 @@ fn refuses_uneven<B: Bay>(rt: &HostRuntime, path: &PathBuf, bay: &mut B) -> Resu
     Ok(bay.take(2, 4).err() == Some(BayFault::Failed))
 }
 
-// Whether all this is so of bays of the folder.
-fn keeps_volumes(rt: HostRuntime, path: &PathBuf) -> Result<bool, Fail> {
+// Whether two bays of the folder do all this.
+fn keep_volumes<B: Bay>(
+    rt: &HostRuntime,
+    path: &PathBuf,
+    bay: &mut B,
+    other: &mut B,
+) -> Result<bool, Fail> {
+    let again = taken_again(bay)? == (7, 4);
+    let kept = is_kept(other, bay)?;
+    let refused = refuses_uneven(rt, path, bay)?;
+    let new = has_new(bay)?;
+    Ok(again && kept && refused && new)
+}
+
+// So of bays of the host.
+fn host_keeps(rt: HostRuntime, path: &PathBuf) -> Result<bool, Fail> {
     let folder = path.as_path().to_str().ok_or("a name")?;
-    let mut bay = bay_of(rt, folder)?;
-    let mut other = bay_of(rt, folder)?;
-    let again = taken_again(&mut bay)?;
-    let kept = is_kept(&mut other, &mut bay)?;
-    let refused = refuses_uneven(&rt, path, &mut bay)?;
-    let third = bay.take(3, 5).ok().ok_or("a disk of another server")?;
-    Ok(again == (7, 4) && kept && refused && third.pages() == 5)
+    let (mut bay, mut other) = (bay_of(rt, folder)?, bay_of(rt, folder)?);
+    keep_volumes(&rt, path, &mut bay, &mut other)
 }
 
 #[test]
 fn a_folder_keeps_its_volumes(rt: HostRuntime) -> Result<(), Fail> {
     let path = new_folder(&rt)?;
-    let kept = keeps_volumes(rt, &path)?;
+    let kept = host_keeps(rt, &path)?;
     fs::remove_dir_all(&rt, path.as_path())?;
     assert!(rt; kept);
     Ok(())
