@@ -258,9 +258,14 @@ fn falls<V: Vault>(
 }
 
 // Whether that server falls so.
-fn server_falls(alloc: Global, server: u8, deeds: [&[Deed]; 3], writes: u32) -> Result<bool, Fail> {
+fn server_falls(
+    alloc: Global,
+    server: u8,
+    deeds: [&[Deed]; 3],
+    writes: u32,
+) -> Result<bool, OutOfMemory> {
     let mut node = in_memory(alloc, server)?;
-    Ok(falls(alloc, &mut node, deeds, writes)?)
+    falls(alloc, &mut node, deeds, writes)
 }
 
 // A server and its deeds, of which the last is a vote, a decision, an application.
@@ -413,12 +418,16 @@ const AS_COORDINATOR: [(&[Deed], Told, &[Deed]); 5] = [
     (FINDS_AT_FIRST, Told::Owner, LATE),
 ];
 
-// Whether the first server stands. What the part says last is heeded.
-fn coordinator_stands(alloc: Global) -> Result<bool, Fail> {
-    let mut node = in_memory(alloc, 1)?;
-    let is_firm = stands(alloc, &mut node, &AS_COORDINATOR)?;
-    let _ = meet_all(alloc, &mut node, IS_DONE)?;
+// Whether a coordinator stands. What the part says last is heeded.
+fn stands_until_done<V: Vault>(alloc: Global, node: &mut Node<V>) -> Result<bool, OutOfMemory> {
+    let is_firm = stands(alloc, node, &AS_COORDINATOR)?;
+    let _ = meet_all(alloc, node, IS_DONE)?;
     Ok(is_firm && !has_said_only(node.journal().entries()))
+}
+
+fn coordinator_stands(alloc: Global) -> Result<bool, OutOfMemory> {
+    let mut node = in_memory(alloc, 1)?;
+    stands_until_done(alloc, &mut node)
 }
 
 const AS_PART: [(&[Deed], Told, &[Deed]); 5] = [
@@ -429,10 +438,10 @@ const AS_PART: [(&[Deed], Told, &[Deed]); 5] = [
     (FINDS_AT_SECOND, Told::Owner, NOTHING),
 ];
 
-// Whether the second server does.
-fn part_stands(alloc: Global) -> Result<bool, Fail> {
+// Whether a part does.
+fn part_stands(alloc: Global) -> Result<bool, OutOfMemory> {
     let mut node = in_memory(alloc, 2)?;
-    Ok(stands(alloc, &mut node, &AS_PART)?)
+    stands(alloc, &mut node, &AS_PART)
 }
 
 /// Each of these is heard where nothing may be written, and nothing comes of it but an answer: files, intents, locks and notes are

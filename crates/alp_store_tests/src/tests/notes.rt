@@ -58,15 +58,19 @@ fn recorded<D: Disk>(disk: QuietDisk<D>, batch: &[u8]) -> Result<QuietDisk<D>, F
         .sync()
 }
 
+// The disk of a new volume.
+fn new_volume(alloc: Global) -> Result<QuietDisk<Silent>, Fail> {
+    let disk = MemDisk::new(alloc, PAGES, Vec::new(alloc))?;
+    match QuietDisk::new(Silent { disk })?.start_among(alloc, SERVERS, SIZES) {
+        Ok(store) => store.into_disk(),
+        Err(_) => Err("a new disk".into()),
+    }
+}
+
 // How many notes a store has that starts on a disk with these; nothing where it is refused for what is no page.
 fn noted(alloc: Global, count: u8, notes: &[u8]) -> Result<Option<usize>, Fail> {
-    let disk = MemDisk::new(alloc, PAGES, Vec::new(alloc))?;
-    let disk = QuietDisk::new(Silent { disk })?;
-    let Ok(store) = disk.start_among(alloc, SERVERS, SIZES) else {
-        return Err("a new disk".into());
-    };
     let batch = batch_of(alloc, count, notes)?;
-    let disk = recorded(store.into_disk()?, &batch)?;
+    let disk = recorded(new_volume(alloc)?, &batch)?;
     match disk.start_among(alloc, SERVERS, SIZES) {
         Ok(store) => Ok(Some(store.note_count())),
         Err(VaultFault::Damaged { place: 0 }) => Ok(None),
