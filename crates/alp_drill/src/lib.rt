@@ -11,6 +11,3 @@ mod setup;
 mod words;
 
 pub use script::{DRILL_SIZE_MOST, drill};
-
-#[cfg(test)]
-mod tests;

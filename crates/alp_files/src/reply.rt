@@ -12,7 +12,7 @@ pub enum Ended {
 }
 
 /// What a server answers.
-#[derive(Clone, Drop, PartialEq, Eq)]
+#[derive(Drop)]
 pub enum Reply {
     Welcome { epoch: u32 },
     Begun { trans: TransId },

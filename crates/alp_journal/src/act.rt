@@ -3,7 +3,7 @@ use crate::{Message, Parts, Stamps};
 use alp_base::{JoinNo, Stamp, TransId};
 
 /// One thing that took effect in a step.
-#[derive(Clone, Drop)]
+#[derive(Drop)]
 pub enum Act {
     Sent {
         to: u8,

@@ -4,7 +4,7 @@ use alp_base::TransId;
 use alp_files::Call;
 
 /// One thing that a server answers in one step.
-#[derive(Clone, Drop, PartialEq, Eq)]
+#[derive(Drop)]
 pub enum Event {
     /// A client's call, with the epoch and the number that it gave.
     Call {

@@ -14,7 +14,7 @@ pub enum FileWord {
 }
 
 /// What a line says: a declaration, an event, or what a client is to do.
-#[derive(Clone, Drop, PartialEq, Eq)]
+#[derive(Drop, PartialEq, Eq)]
 pub enum Line {
     Servers {
         count: u8,

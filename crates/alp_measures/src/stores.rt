@@ -230,19 +230,33 @@ fn fetch_often<C: Clock, V: Vault>(clock: &C, vault: &mut V, pages: u32) -> Resu
     rate_since(clock, start, u64::from(FETCHES))
 }
 
-// Commits a second, and fetches.
+// Commits a second behind that of the cells, and fetches.
+fn rates_of<C: Clock, V: Vault>(
+    clock: &C,
+    alloc: Global,
+    vault: &mut V,
+    cells: &CellMap,
+    plan: &Plan<'_>,
+) -> Result<(u128, u128), Trouble>
+    requires serves { IsTrue (V.serves vault.old) }
+    requires silent { V.tells vault.old ≡ false }
+{
+    commit(alloc, vault, cells, 1)?;
+    let commits = commit_often(clock, alloc, vault, plan)?;
+    let fetches = fetch_often(clock, vault, plan.pages)?;
+    Ok((commits, fetches))
+}
+
+// The same of a store on a new volume in the file.
 fn store_rates<C: Clock>(
     clock: &C,
     alloc: Global,
     file: File,
     plan: &Plan<'_>,
 ) -> Result<(u128, u128), Trouble> {
-    let mut store = new_store(alloc, file)?;
     let cells = new_file_cells(alloc, MOST_PAGES)?;
-    commit(alloc, &mut store, &cells, 1)?;
-    let commits = commit_often(clock, alloc, &mut store, plan)?;
-    let fetches = fetch_often(clock, &mut store, plan.pages)?;
-    Ok((commits, fetches))
+    let mut store = new_store(alloc, file)?;
+    rates_of(clock, alloc, &mut store, &cells, plan)
 }
 
 // The same of as many bytes that are appended.

@@ -371,6 +371,42 @@ fn read_all(alloc: Global, pages: &mut MemPages, home: u32) -> Result<Catalog, T
     }
 }
 
+// Fetches a second of all files and of few, and changed pages, once the files are put.
+fn rates_of<C: Clock>(
+    clock: &C,
+    alloc: Global,
+    pages: &mut MemPages,
+    catalog: &mut Catalog,
+    files: u32,
+) -> Result<(u128, u128, u128, u128), Trouble>
+    requires some { 0 < files }
+    requires head { 257 ≤ pages.old.home }
+    requires sized { IsCatalog pages.old.home catalog.old }
+    ensures home { pages.new.home ≡ pages.old.home }
+{
+    put_files(alloc, pages, catalog, files)?;
+    let fetches = fetch_rate(clock, alloc, pages, catalog, files, files)?;
+    let few_fetches = fetch_rate(clock, alloc, pages, catalog, FEW, files)?;
+    let changes = put_rate(clock, alloc, pages, catalog, files, files)?;
+    let few_changes = put_rate(clock, alloc, pages, catalog, FEW, files)?;
+    Ok((fetches, few_fetches, changes, few_changes))
+}
+
+// The microseconds to read it whole.
+fn reading_time<C: Clock>(
+    clock: &C,
+    alloc: Global,
+    pages: &mut MemPages,
+    home: u32,
+) -> Result<u128, Trouble>
+    requires head { 257 < home }
+    requires home { pages.old.home ≡ home }
+{
+    let start = Instant::now(clock)?;
+    let _ = read_all(alloc, pages, home)?;
+    Ok(start.elapsed(clock)?.as_micros())
+}
+
 /// How fast a volume of so many files and home pages is.
 pub fn measure<C: Clock>(
     clock: &C,
@@ -383,14 +419,9 @@ pub fn measure<C: Clock>(
     }
     let mut pages = new_volume(alloc, home)?;
     let mut catalog = read_all(alloc, &mut pages, home)?;
-    put_files(alloc, &mut pages, &mut catalog, files)?;
-    let fetches = fetch_rate(clock, alloc, &mut pages, &catalog, files, files)?;
-    let few_fetches = fetch_rate(clock, alloc, &mut pages, &catalog, FEW, files)?;
-    let changes = put_rate(clock, alloc, &mut pages, &mut catalog, files, files)?;
-    let few_changes = put_rate(clock, alloc, &mut pages, &mut catalog, FEW, files)?;
-    let start = Instant::now(clock)?;
-    let _ = read_all(alloc, &mut pages, home)?;
-    let whole = start.elapsed(clock)?.as_micros();
+    let rates = rates_of(clock, alloc, &mut pages, &mut catalog, files)?;
+    let (fetches, few_fetches, changes, few_changes) = rates;
+    let whole = reading_time(clock, alloc, &mut pages, home)?;
     Ok(Rates {
         files,
         home,

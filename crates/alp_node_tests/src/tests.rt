@@ -1,9 +1,7 @@
 //! What crosses threads of a server, and what servers of one run say to one another.
-ghost use Rattle.alp_vault.specs.Vault.{IsServer};
-
 mod several;
 
-use alp_base::Sizes;
+use alp_base::{OutOfMemory, Sizes};
 use alp_journal::Journal;
 use alp_node::{Down, Node};
 use alp_vault::MemVault;
@@ -15,16 +13,15 @@ const SIZES: Sizes = Sizes {
     area: 64,
 };
 
-// A server on a vault in memory.
-type Server = Node<MemVault>;
-
-// One of three servers, by its number.
-fn in_memory(alloc: Global, server: u8) -> Result<Server, Fail>
-    requires { IsServer server 3 }
-{
+// One of three servers, by its number, on a vault in memory. Whoever has it lets go of it at one place: each other place where it may
+// end costs much to prove.
+fn in_memory(alloc: Global, server: u8) -> Result<Node<MemVault>, OutOfMemory> {
+    if server < 1 || 3 < server {
+        return Err(OutOfMemory);
+    }
     match Node::start(alloc, server, 3, MemVault::new(alloc, SIZES, server, 3)) {
         Ok(node) => Ok(node),
-        Err(_) => Err("a server".into()),
+        Err(_) => Err(OutOfMemory),
     }
 }
 

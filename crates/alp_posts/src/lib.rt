@@ -4,8 +4,6 @@
 mod find;
 mod laws;
 mod posts;
-#[cfg(test)]
-mod tests;
 mod walk;
 
 pub use laws::{longer_journals_fit, messages_are_sent, messages_stay, pairs_stand_apart};

@@ -6,8 +6,6 @@ mod pages;
 mod refusals;
 mod replies;
 mod summary;
-#[cfg(test)]
-mod tests;
 
 pub use lines::put_line;
 pub use summary::{Held, Summary, put_summary};

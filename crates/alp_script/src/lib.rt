@@ -20,6 +20,3 @@ pub use numbers::numbers_are_fixed;
 pub use read::{accepted_lines, read_script};
 pub use servers::servers_of;
 pub use sizes::{NEW_AREA, NEW_HOME, sizes_of};
-
-#[cfg(test)]
-mod tests;

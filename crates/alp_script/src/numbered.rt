@@ -5,7 +5,7 @@ use alp_lines::Line;
 pub const SCRIPT_LINES_MOST: u32 = 200_000;
 
 /// A line of a script, and which line of it, counted from 1.
-#[derive(Clone, Drop, PartialEq, Eq)]
+#[derive(Drop, PartialEq, Eq)]
 pub struct NumberedLine {
     pub number: u32,
     pub line: Line,

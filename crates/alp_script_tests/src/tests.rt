@@ -1,4 +1,6 @@
 //! One module for each crate.
+mod drill;
 mod lines;
-mod tokens;
+mod report;
+mod script;
 mod words;

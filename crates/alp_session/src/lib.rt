@@ -23,6 +23,3 @@ pub use memory::{Opens, Words};
 pub use sessions::Sessions;
 pub use waiting::{Next, Purpose, Settings, Waiting};
 pub use waits::Waits;
-
-#[cfg(test)]
-mod tests;

@@ -95,6 +95,15 @@ fn commit_often<R: Runtime, V: Vault>(
     Ok(())
 }
 
+// Makes two files, and commits to them so often.
+fn serve<R: Runtime, V: Vault>(rt: &R, caller: &mut Caller<V>, commits: u32) -> Result<(), Failed>
+    requires { InStep caller.old }
+{
+    let (ledger, stamp) = Ledger::make(caller)?;
+    print_files(rt, ledger, stamp)?;
+    commit_often(rt, caller, ledger, commits)
+}
+
 /// Makes two files on the volume in the folder, and commits to them so often.
 pub(crate) fn commit<R: Runtime + Files<File = File>>(
     rt: &R,
@@ -104,7 +113,5 @@ pub(crate) fn commit<R: Runtime + Files<File = File>>(
     let disk = volume_in(rt, alloc, plan.folder)?;
     let node = start(alloc, disk, SIZES)?;
     let mut caller = Caller::greet(alloc, node)?;
-    let (ledger, stamp) = Ledger::make(&mut caller)?;
-    print_files(rt, ledger, stamp)?;
-    commit_often(rt, &mut caller, ledger, plan.commits)
+    serve(rt, &mut caller, plan.commits)
 }

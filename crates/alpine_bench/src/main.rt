@@ -37,6 +37,115 @@ fn said<R: Runtime>(rt: &R, alloc: Global) -> Result<Vec<String<R::A>>, Trouble>
     Ok(words)
 }
 
+fn lock_rates<R: Runtime>(rt: &R, alloc: Global) -> Result<(), Failed> {
+    for held in locks::SIZES {
+        let rates = locks::measure(rt, alloc, held)?;
+        print!(rt; "{rates}")?;
+    }
+    Ok(())
+}
+
+fn waiting_times<R: Runtime>(rt: &R, alloc: Global) -> Result<(), Failed> {
+    for held in waiting::SIZES {
+        let times = waiting::measure(rt, alloc, held)?;
+        print!(rt; "{times}")?;
+    }
+    Ok(())
+}
+
+fn checkpoint_paces<R: Runtime>(rt: &R, alloc: Global) -> Result<(), Failed> {
+    for home in checkpoints::SIZES {
+        let pace = checkpoints::measure(rt, alloc, home)?;
+        print!(rt; "{pace}")?;
+    }
+    Ok(())
+}
+
+fn volume_rates<R: Runtime>(rt: &R, alloc: Global) -> Result<(), Failed> {
+    for (files, home) in volumes::SIZES {
+        let rates = volumes::measure(rt, alloc, files, home)?;
+        print!(rt; "{rates}")?;
+    }
+    Ok(())
+}
+
+// First without checkpoints, then with those of some areas.
+fn log_rates<R: Runtime + Files<File = File>>(
+    rt: &R,
+    alloc: Global,
+    plan: &commits::Plan<'_>,
+) -> Result<(), Failed> {
+    for pages in commits::SIZES {
+        let rates = commits::measure(rt, alloc, plan, pages, commits::WIDE)?;
+        print!(rt; "{rates}")?;
+    }
+    area_rates(rt, alloc, plan)
+}
+
+fn area_rates<R: Runtime + Files<File = File>>(
+    rt: &R,
+    alloc: Global,
+    plan: &commits::Plan<'_>,
+) -> Result<(), Failed> {
+    for area in commits::AREAS {
+        let rates = commits::measure(rt, alloc, plan, 16, area)?;
+        print!(rt; "{rates}")?;
+    }
+    Ok(())
+}
+
+fn monitor_rates<R: Runtime + Threads + Wait + Sync>(
+    rt: &R,
+    alloc: Global,
+    threads: u32,
+) -> Result<(), Failed> {
+    let rates = monitor::measure(rt, alloc, threads)?;
+    Ok(print!(rt; "{rates}")?)
+}
+
+fn frame_rates<R: Runtime>(rt: &R, alloc: Global) -> Result<(), Failed> {
+    let rates = frames::measure(rt, alloc)?;
+    Ok(print!(rt; "{rates}")?)
+}
+
+fn store_rates<R: Runtime + Files<File = File>>(
+    rt: &R,
+    alloc: Global,
+    plan: &stores::Plan<'_>,
+) -> Result<(), Failed> {
+    let rates = stores::measure(rt, alloc, plan)?;
+    Ok(print!(rt; "{rates}")?)
+}
+
+fn node_rates<R: Runtime + Files<File = File>>(
+    rt: &R,
+    alloc: Global,
+    plan: &nodes::Plan<'_>,
+) -> Result<(), Failed> {
+    let rates = nodes::measure(rt, alloc, plan)?;
+    Ok(print!(rt; "{rates}")?)
+}
+
+fn obey<R: Runtime + Files<File = File> + Threads + Wait + Sync>(
+    rt: &R,
+    alloc: Global,
+    command: &Command<'_>,
+) -> Result<(), Failed> {
+    match command {
+        Command::Usage => Ok(print!(rt; "{USAGE}")?),
+        Command::Monitor { threads } => monitor_rates(rt, alloc, *threads),
+        Command::Locks => lock_rates(rt, alloc),
+        Command::Waiting => waiting_times(rt, alloc),
+        Command::Frames => frame_rates(rt, alloc),
+        Command::Checkpoint => checkpoint_paces(rt, alloc),
+        Command::Volume => volume_rates(rt, alloc),
+        Command::Log { plan } => log_rates(rt, alloc, plan),
+        Command::Store { plan } => store_rates(rt, alloc, plan),
+        Command::Node { plan } => node_rates(rt, alloc, plan),
+        Command::Acknowledge { plan } => acknowledge::commit(rt, alloc, plan),
+    }
+}
+
 fn run<R: Runtime + Files<File = File> + Threads + Wait + Sync>(
     rt: &R,
     alloc: Global,
@@ -45,63 +154,7 @@ fn run<R: Runtime + Files<File = File> + Threads + Wait + Sync>(
     let shown: Vec<&str> = words.iter().map(|word| word.as_str()).collect(alloc)?;
     match read_words(shown.as_slice()) {
         None => Err(Failed::Measure(Trouble::Words)),
-        Some(Command::Usage) => Ok(print!(rt; "{USAGE}")?),
-        Some(Command::Monitor { threads }) => {
-            let rates = monitor::measure(rt, alloc, threads)?;
-            Ok(print!(rt; "{rates}")?)
-        }
-        Some(Command::Locks) => {
-            for held in locks::SIZES {
-                let rates = locks::measure(rt, alloc, held)?;
-                print!(rt; "{rates}")?;
-            }
-            Ok(())
-        }
-        Some(Command::Waiting) => {
-            for held in waiting::SIZES {
-                let times = waiting::measure(rt, alloc, held)?;
-                print!(rt; "{times}")?;
-            }
-            Ok(())
-        }
-        Some(Command::Frames) => {
-            let rates = frames::measure(rt, alloc)?;
-            Ok(print!(rt; "{rates}")?)
-        }
-        Some(Command::Checkpoint) => {
-            for home in checkpoints::SIZES {
-                let pace = checkpoints::measure(rt, alloc, home)?;
-                print!(rt; "{pace}")?;
-            }
-            Ok(())
-        }
-        Some(Command::Volume) => {
-            for (files, home) in volumes::SIZES {
-                let rates = volumes::measure(rt, alloc, files, home)?;
-                print!(rt; "{rates}")?;
-            }
-            Ok(())
-        }
-        Some(Command::Log { plan }) => {
-            for pages in commits::SIZES {
-                let rates = commits::measure(rt, alloc, &plan, pages, commits::WIDE)?;
-                print!(rt; "{rates}")?;
-            }
-            for area in commits::AREAS {
-                let rates = commits::measure(rt, alloc, &plan, 16, area)?;
-                print!(rt; "{rates}")?;
-            }
-            Ok(())
-        }
-        Some(Command::Store { plan }) => {
-            let rates = stores::measure(rt, alloc, &plan)?;
-            Ok(print!(rt; "{rates}")?)
-        }
-        Some(Command::Node { plan }) => {
-            let rates = nodes::measure(rt, alloc, &plan)?;
-            Ok(print!(rt; "{rates}")?)
-        }
-        Some(Command::Acknowledge { plan }) => acknowledge::commit(rt, alloc, &plan),
+        Some(command) => obey(rt, alloc, &command),
     }
 }
 

@@ -194,11 +194,22 @@ fn rounds<C: Clock, V: Vault>(
     })
 }
 
-/// The times on a server in memory where each transaction that asks has so many resources locked.
+// The times at such a server, where each transaction that asks has so many resources locked.
+fn times_at<C: Clock, V: Vault>(
+    clock: &C,
+    alloc: Global,
+    desk: &mut Desk<V>,
+    file: FileId,
+    held: u32,
+) -> Result<Times, Failed> {
+    let mut askers = askers(alloc, desk, file, held)?;
+    rounds(clock, desk, &mut askers, file, held)
+}
+
+/// The same on a server in memory.
 pub(crate) fn measure<C: Clock>(clock: &C, alloc: Global, held: u32) -> Result<Times, Failed> {
     let disk = MemDisk::new(alloc, VOLUME_PAGES, Vec::new(alloc))?;
     let node = start(alloc, Silent { disk }, VOLUME)?;
     let (mut desk, file) = Desk::open(alloc, node)?;
-    let mut askers = askers(alloc, &mut desk, file, held)?;
-    rounds(clock, &mut desk, &mut askers, file, held)
+    times_at(clock, alloc, &mut desk, file, held)
 }

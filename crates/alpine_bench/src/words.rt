@@ -62,77 +62,83 @@ pub(crate) enum Command<'a> {
     Acknowledge { plan: acknowledge::Plan<'a> },
 }
 
+fn monitor_of<'a>(count: &str) -> Option<Command<'a>> {
+    let threads = count.parse().ok()?;
+    if threads == 0 || MOST_THREADS < threads {
+        return None;
+    }
+    Some(Command::Monitor { threads })
+}
+
+fn log_of<'a>(folder: &'a str, count: &str, pages: &str) -> Option<Command<'a>> {
+    let commits = count.parse().ok()?;
+    let home = pages.parse().ok()?;
+    if commits < 4 || MOST_COMMITS < commits || home < 512 || 65536 < home {
+        return None;
+    }
+    Some(Command::Log {
+        plan: commits::Plan {
+            folder,
+            commits,
+            home,
+        },
+    })
+}
+
+fn store_of<'a>(folder: &'a str, count: &str, pages: &str) -> Option<Command<'a>> {
+    let commits = count.parse().ok()?;
+    let pages = pages.parse().ok()?;
+    if commits == 0 || MOST_STORED < commits || pages == 0 || stores::MOST_PAGES < pages {
+        return None;
+    }
+    Some(Command::Store {
+        plan: stores::Plan {
+            folder,
+            commits,
+            pages,
+        },
+    })
+}
+
+fn node_of<'a>(folder: &'a str, count: &str, pages: &str) -> Option<Command<'a>> {
+    let commits = count.parse().ok()?;
+    let pages = pages.parse().ok()?;
+    if commits == 0 || nodes::MOST_COMMITS < commits || pages == 0 || nodes::MOST_PAGES < pages {
+        return None;
+    }
+    Some(Command::Node {
+        plan: nodes::Plan {
+            folder,
+            commits,
+            pages,
+        },
+    })
+}
+
+fn acknowledge_of<'a>(folder: &'a str, count: &str) -> Option<Command<'a>> {
+    let commits = count.parse().ok()?;
+    if commits == 0 || MOST_ACKNOWLEDGED < commits {
+        return None;
+    }
+    Some(Command::Acknowledge {
+        plan: acknowledge::Plan { folder, commits },
+    })
+}
+
 /// The command that the words after the program's name are, if they are one.
 pub(crate) fn read_words<'a>(words: &[&'a str]) -> Option<Command<'a>> {
     match words {
         [] => Some(Command::Usage),
-        ["monitor", count] => {
-            let threads = count.parse().ok()?;
-            if threads == 0 || MOST_THREADS < threads {
-                return None;
-            }
-            Some(Command::Monitor { threads })
-        }
+        ["monitor", count] => monitor_of(*count),
         ["locks"] => Some(Command::Locks),
         ["waiting"] => Some(Command::Waiting),
         ["frames"] => Some(Command::Frames),
         ["checkpoint"] => Some(Command::Checkpoint),
         ["volume"] => Some(Command::Volume),
-        ["log", folder, count, pages] => {
-            let commits = count.parse().ok()?;
-            let home = pages.parse().ok()?;
-            if commits < 4 || MOST_COMMITS < commits || home < 512 || 65536 < home {
-                return None;
-            }
-            Some(Command::Log {
-                plan: commits::Plan {
-                    folder,
-                    commits,
-                    home,
-                },
-            })
-        }
-        ["store", folder, count, pages] => {
-            let commits = count.parse().ok()?;
-            let pages = pages.parse().ok()?;
-            let are_within = 0 < commits && commits <= MOST_STORED;
-            if !are_within || pages == 0 || stores::MOST_PAGES < pages {
-                return None;
-            }
-            Some(Command::Store {
-                plan: stores::Plan {
-                    folder,
-                    commits,
-                    pages,
-                },
-            })
-        }
-        ["node", folder, count, pages] => {
-            let commits = count.parse().ok()?;
-            let pages = pages.parse().ok()?;
-            if commits == 0 || nodes::MOST_COMMITS < commits {
-                return None;
-            }
-            if pages == 0 || nodes::MOST_PAGES < pages {
-                return None;
-            }
-            Some(Command::Node {
-                plan: nodes::Plan {
-                    folder,
-                    commits,
-                    pages,
-                },
-            })
-        }
-        ["acknowledge", folder, count] => {
-            let commits = count.parse().ok()?;
-            if commits == 0 || MOST_ACKNOWLEDGED < commits {
-                return None;
-            }
-            Some(Command::Acknowledge {
-                plan: acknowledge::Plan { folder, commits },
-            })
-        }
+        ["log", folder, count, pages] => log_of(*folder, *count, *pages),
+        ["store", folder, count, pages] => store_of(*folder, *count, *pages),
+        ["node", folder, count, pages] => node_of(*folder, *count, *pages),
+        ["acknowledge", folder, count] => acknowledge_of(*folder, *count),
         _ => None,
     }
 }

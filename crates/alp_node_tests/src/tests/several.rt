@@ -1,13 +1,14 @@
 //! A transaction that the first of three servers coordinates, with a part at the second: each of its writes, and messages that no
 //! server of the run sends, or sends so late.
-ghost use Rattle.std.specs.Prelude.{◌≡◌, ◌≤◌};
 ghost use Rattle.alp_node.specs.Halts.{IsTimelyMessage};
-ghost use Rattle.alp_node.specs.Served.{IsAskable};
+ghost use Rattle.alp_node.specs.Served.{IsAskable, IsServed};
 
-use super::{Server, in_memory};
+use super::in_memory;
 use alp_base::{AccessList, Choice, JoinNo, Name, OutOfMemory, Stamp, TransId};
 use alp_files::{Call, Cause, Refusal, Reply, Why};
-use alp_journal::{Act, Event, Message};
+use alp_journal::{Act, Entry, Event, Message};
+use alp_node::Node;
+use alp_vault::Vault;
 use std::alloc::Global;
 use std::test::*;
 
@@ -65,73 +66,305 @@ const OTHER_AT_SECOND: TransId = TransId {
     counter: 1,
 };
 
-// ---- clients
+// ---- what comes to a server
 
-fn hello() -> Call
+// What a client calls for: in the transaction, but for a look at its owner in another one.
+#[derive(Clone, Copy)]
+enum Ask {
+    Hello,
+    Begin,
+    Join,
+    Collect,
+    MakeOwner,
+    Finish,
+    ReadOwner(TransId),
+}
+
+// What a server says of the transaction and a join.
+#[derive(Clone, Copy)]
+enum Word {
+    Register,
+    Joined,
+    Ask,
+    Ready,
+    No,
+    Commit,
+    Abort,
+    Done,
+}
+
+// The call with that number of the first client or of the second, or the word of a server about a join.
+#[derive(Clone, Copy)]
+enum Deed {
+    First(u32, Ask),
+    Second(u32, Ask),
+    Hear(u8, Word, JoinNo),
+}
+
+fn call_of(alloc: Global, ask: &Ask) -> Call
     ensures { IsAskable result }
 {
-    Call::Hello {
-        name: Name::spelled(b"Admin"),
+    match ask {
+        Ask::Hello => Call::Hello {
+            name: Name::spelled(b"Admin"),
+        },
+        Ask::Begin => Call::Begin { seen: NO_STAMP },
+        Ask::Join => Call::Join { trans: TRANS },
+        Ask::Collect => Call::Collect { number: 2 },
+        Ask::MakeOwner => Call::MakeOwner {
+            trans: TRANS,
+            owner: Name::spelled(b"ann"),
+            quota: 9,
+            create: AccessList::new(Vec::new(alloc)),
+            choice: Choice::Fail,
+        },
+        Ask::Finish => Call::Finish {
+            trans: TRANS,
+            commit: true,
+        },
+        Ask::ReadOwner(trans) => Call::ReadOwner {
+            trans: *trans,
+            owner: Name::spelled(b"ann"),
+            choice: Choice::Fail,
+        },
     }
 }
 
-fn begin() -> Call
-    ensures { IsAskable result }
+fn message_of(word: &Word, join: JoinNo) -> Message
+    ensures { IsTimelyMessage result }
 {
-    Call::Begin { seen: NO_STAMP }
-}
-
-fn new_owner(alloc: Global) -> Call
-    ensures { IsAskable result }
-{
-    Call::MakeOwner {
-        trans: TRANS,
-        owner: Name::spelled(b"ann"),
-        quota: 9,
-        create: AccessList::new(Vec::new(alloc)),
-        choice: Choice::Fail,
+    let trans = TRANS;
+    match word {
+        Word::Register => Message::Register {
+            trans,
+            join,
+            client: 1,
+        },
+        Word::Joined => Message::Joined { trans, join },
+        Word::Ask => Message::Ask { trans, join },
+        Word::Ready => Message::Ready { trans, join, ts: 1 },
+        Word::No => Message::No {
+            trans,
+            join,
+            why: Why::UnknownJoin,
+        },
+        Word::Commit => Message::Commit {
+            trans,
+            join,
+            stamp: STAMP,
+        },
+        Word::Abort => Message::Abort {
+            trans,
+            join,
+            cause: Cause::Asked,
+        },
+        Word::Done => Message::Done { trans, join },
     }
 }
 
-fn read_owner(trans: TransId) -> Call
-    ensures { IsAskable result }
+// The first call of a client is of no epoch yet, as it greets.
+fn event_of(alloc: Global, deed: &Deed) -> Event
+    ensures { IsServed result }
 {
-    Call::ReadOwner {
-        trans,
-        owner: Name::spelled(b"ann"),
-        choice: Choice::Fail,
+    match deed {
+        Deed::First(number, ask) => Event::Call {
+            client: 1,
+            epoch: (*number).min(2).saturating_sub(1),
+            number: *number,
+            call: call_of(alloc, ask),
+        },
+        Deed::Second(number, ask) => Event::Call {
+            client: 2,
+            epoch: (*number).min(2).saturating_sub(1),
+            number: *number,
+            call: call_of(alloc, ask),
+        },
+        Deed::Hear(from, word, join) => Event::Arrive {
+            from: *from,
+            message: message_of(word, *join),
+        },
     }
 }
 
-// What the client is answered to its call of that number; the first is a greeting.
-fn ask(node: &mut Server, client: u8, number: u32, call: Call) -> Result<Reply, Fail>
-    requires client { (1 ≤ client) × (client ≤ 16) }
-    requires call { IsAskable call }
-{
-    let epoch = number.min(2).saturating_sub(1);
-    match node.step(Event::Call {
-        client,
-        epoch,
-        number,
-        call,
-    })? {
-        Some(reply) => Ok(reply),
-        None => Err("a reply".into()),
-    }
+fn meet<V: Vault>(
+    alloc: Global,
+    node: &mut Node<V>,
+    deed: &Deed,
+) -> Result<Option<Reply>, OutOfMemory> {
+    node.step(event_of(alloc, deed))
 }
 
-// ---- messages
+// What is answered to the last of these.
+fn meet_all<V: Vault>(
+    alloc: Global,
+    node: &mut Node<V>,
+    deeds: &[Deed],
+) -> Result<Option<Reply>, OutOfMemory> {
+    let mut last = None;
+    for deed in deeds {
+        last = meet(alloc, node, deed)?;
+    }
+    Ok(last)
+}
 
-fn hear(node: &mut Server, from: u8, message: Message) -> Result<(), OutOfMemory>
-    requires { IsTimelyMessage message }
-{
-    let _ = node.step(Event::Arrive { from, message })?;
+// ---- the transaction
+
+const NOTHING: &[Deed] = &[];
+
+// At the first server it makes an owner, and its part elsewhere is registered.
+const BEGINS: &[Deed] = &[
+    Deed::First(1, Ask::Hello),
+    Deed::First(2, Ask::Begin),
+    Deed::First(3, Ask::MakeOwner),
+    Deed::Hear(2, Word::Register, JOIN),
+];
+
+// It is asked to commit.
+const FINISHES: &[Deed] = &[Deed::First(4, Ask::Finish)];
+
+// The vote comes, and what its part says last.
+const IS_READY: &[Deed] = &[Deed::Hear(2, Word::Ready, JOIN)];
+
+const IS_DONE: &[Deed] = &[Deed::Hear(2, Word::Done, JOIN)];
+
+// At the second server its part makes an owner.
+const WORKS: &[Deed] = &[
+    Deed::First(1, Ask::Hello),
+    Deed::First(2, Ask::Join),
+    Deed::Hear(1, Word::Joined, JOIN),
+    Deed::First(3, Ask::Collect),
+    Deed::First(4, Ask::MakeOwner),
+];
+
+const VOTES: &[Deed] = &[Deed::Hear(1, Word::Ask, JOIN)];
+
+const APPLIES: &[Deed] = &[Deed::Hear(1, Word::Commit, JOIN)];
+
+// ---- writes
+
+// Whether the server falls in the last of these, of which its vault does so many writes.
+fn falls<V: Vault>(
+    alloc: Global,
+    node: &mut Node<V>,
+    deeds: [&[Deed]; 3],
+    writes: u32,
+) -> Result<bool, OutOfMemory> {
+    let [first, second, last] = deeds;
+    let _ = meet_all(alloc, node, first)?;
+    let _ = meet_all(alloc, node, second)?;
+    node.stop_after(Some(writes));
+    let _ = meet_all(alloc, node, last)?;
+    Ok(node.is_down())
+}
+
+// Whether that server falls so.
+fn server_falls(
+    alloc: Global,
+    server: u8,
+    deeds: [&[Deed]; 3],
+    writes: u32,
+) -> Result<bool, OutOfMemory> {
+    let mut node = in_memory(alloc, server)?;
+    falls(alloc, &mut node, deeds, writes)
+}
+
+// A server and its deeds, of which the last is a vote, a decision, an application.
+const WRITES: [(u8, [&[Deed]; 3]); 3] = [
+    (2, [NOTHING, WORKS, VOTES]),
+    (1, [BEGINS, FINISHES, IS_READY]),
+    (2, [WORKS, VOTES, APPLIES]),
+];
+
+/// In each a server falls where no write may pass, and another does not where one may.
+#[test]
+fn a_vote_a_decision_and_an_application_are_one_write_each(rt: HostRuntime) -> Result<(), Fail> {
+    for (server, deeds) in WRITES {
+        assert!(rt; server_falls(rt.alloc(), server, deeds, 0)?);
+        assert!(rt; !server_falls(rt.alloc(), server, deeds, 1)?);
+    }
     Ok(())
 }
 
+// ---- messages of strangers
+
+// What the coordinator is told of a server that is not registered, of a second join of one that is, of joins that it does not know,
+// and in words that only a coordinator says.
+const STRANGERS: &[Deed] = &[
+    Deed::Hear(3, Word::Ready, STRANGE),
+    Deed::Hear(2, Word::Ready, NEVER),
+    Deed::Hear(2, Word::Register, NEVER),
+    Deed::Hear(2, Word::Register, JOIN),
+    Deed::Hear(3, Word::No, STRANGE),
+    Deed::Hear(2, Word::No, NEVER),
+    Deed::Hear(3, Word::Done, STRANGE),
+    Deed::Hear(2, Word::Done, NEVER),
+    Deed::Hear(2, Word::Commit, JOIN),
+    Deed::Hear(2, Word::Abort, JOIN),
+];
+
+// What comes late, behind a decision.
+const LATE: &[Deed] = &[
+    Deed::Hear(2, Word::No, JOIN),
+    Deed::Hear(2, Word::Ready, JOIN),
+];
+
+// What the part is told of a join that was never drawn, or of another server, and in words that only a part says.
+const OTHERS: &[Deed] = &[
+    Deed::Hear(1, Word::Commit, NEVER),
+    Deed::Hear(1, Word::Abort, NEVER),
+    Deed::Hear(1, Word::Commit, STRANGE),
+    Deed::Hear(1, Word::Abort, STRANGE),
+    Deed::Hear(1, Word::Ask, NEVER),
+    Deed::Hear(1, Word::Joined, NEVER),
+    Deed::Hear(3, Word::Ready, STRANGE),
+    Deed::Hear(3, Word::Register, STRANGE),
+    Deed::Hear(1, Word::No, JOIN),
+    Deed::Hear(1, Word::Done, JOIN),
+];
+
+// Another client looks for the owner, in the next transaction of the first server or of the second.
+const LOOKS_AT_FIRST: &[Deed] = &[
+    Deed::Second(1, Ask::Hello),
+    Deed::Second(2, Ask::Begin),
+    Deed::Second(3, Ask::ReadOwner(OTHER_AT_FIRST)),
+];
+
+const FINDS_AT_FIRST: &[Deed] = &[Deed::Second(4, Ask::ReadOwner(OTHER_AT_FIRST))];
+
+const LOOKS_AT_SECOND: &[Deed] = &[
+    Deed::Second(1, Ask::Hello),
+    Deed::Second(2, Ask::Begin),
+    Deed::Second(3, Ask::ReadOwner(OTHER_AT_SECOND)),
+];
+
+const FINDS_AT_SECOND: &[Deed] = &[Deed::Second(4, Ask::ReadOwner(OTHER_AT_SECOND))];
+
+// What is answered, as far as anybody looks.
+#[derive(Clone, Copy)]
+enum Told {
+    Anything,
+    NotYet,
+    Plain,
+    IsLocked,
+    Owner,
+}
+
+fn is_told(reply: &Option<Reply>, told: &Told) -> bool {
+    match (told, reply) {
+        (Told::Anything, _) => true,
+        (Told::NotYet, Some(Reply::Refused(Refusal::NotYet))) => true,
+        (Told::Plain, Some(Reply::Plain)) => true,
+        (Told::IsLocked, Some(Reply::Refused(Refusal::LockConflict { holder }))) => {
+            *holder == TRANS
+        }
+        (Told::Owner, Some(Reply::Owner(_))) => true,
+        _ => false,
+    }
+}
+
 // Whether the last step did nothing but say something, or not even that.
-fn has_said_only(node: &Server) -> bool {
-    match node.journal().entries() {
+fn has_said_only(entries: &[Entry]) -> bool {
+    match entries {
         [.., last] => last
             .acts
             .as_slice()
@@ -141,240 +374,74 @@ fn has_said_only(node: &Server) -> bool {
     }
 }
 
-// Whether the message leaves all as it was: it is not written down, and nothing comes of it but an answer.
-fn is_vain(node: &mut Server, from: u8, message: Message) -> Result<bool, OutOfMemory>
-    requires { IsTimelyMessage message }
-{
+// Whether the deed leaves all as it was: it is not written down, and nothing comes of it but an answer.
+fn is_vain<V: Vault>(alloc: Global, node: &mut Node<V>, deed: &Deed) -> Result<bool, OutOfMemory> {
     node.stop_after(Some(0));
-    hear(node, from, message)?;
+    let _ = meet(alloc, node, deed)?;
     node.stop_after(None);
-    Ok(!node.is_down() && has_said_only(node))
+    Ok(!node.is_down() && has_said_only(node.journal().entries()))
 }
 
-// ---- the servers
-
-fn register(join: JoinNo) -> Message
-    ensures { IsTimelyMessage result }
-{
-    Message::Register {
-        trans: TRANS,
-        join,
-        client: 1,
+fn are_vain<V: Vault>(
+    alloc: Global,
+    node: &mut Node<V>,
+    deeds: &[Deed],
+) -> Result<bool, OutOfMemory> {
+    for deed in deeds {
+        if !is_vain(alloc, node, deed)? {
+            return Ok(false);
+        }
     }
+    Ok(true)
 }
 
-fn ready(join: JoinNo) -> Message
-    ensures { IsTimelyMessage result }
-{
-    Message::Ready {
-        trans: TRANS,
-        join,
-        ts: 1,
+// Whether the last deed of each row is answered so, and those that follow it are vain.
+fn stands<V: Vault>(
+    alloc: Global,
+    node: &mut Node<V>,
+    rows: &[(&[Deed], Told, &[Deed])],
+) -> Result<bool, OutOfMemory> {
+    for (deeds, told, strangers) in rows {
+        let reply = meet_all(alloc, node, *deeds)?;
+        if !is_told(&reply, told) || !are_vain(alloc, node, *strangers)? {
+            return Ok(false);
+        }
     }
+    Ok(true)
 }
 
-fn commit(join: JoinNo) -> Message
-    ensures { IsTimelyMessage result }
-{
-    Message::Commit {
-        trans: TRANS,
-        join,
-        stamp: STAMP,
-    }
+const AS_COORDINATOR: [(&[Deed], Told, &[Deed]); 5] = [
+    (BEGINS, Told::Anything, STRANGERS),
+    (FINISHES, Told::NotYet, STRANGERS),
+    (LOOKS_AT_FIRST, Told::IsLocked, NOTHING),
+    (IS_READY, Told::Anything, STRANGERS),
+    (FINDS_AT_FIRST, Told::Owner, LATE),
+];
+
+// Whether a coordinator stands. What the part says last is heeded.
+fn stands_until_done<V: Vault>(alloc: Global, node: &mut Node<V>) -> Result<bool, OutOfMemory> {
+    let is_firm = stands(alloc, node, &AS_COORDINATOR)?;
+    let _ = meet_all(alloc, node, IS_DONE)?;
+    Ok(is_firm && !has_said_only(node.journal().entries()))
 }
 
-fn abort(join: JoinNo) -> Message
-    ensures { IsTimelyMessage result }
-{
-    Message::Abort {
-        trans: TRANS,
-        join,
-        cause: Cause::Asked,
-    }
-}
-
-fn no(join: JoinNo) -> Message
-    ensures { IsTimelyMessage result }
-{
-    Message::No {
-        trans: TRANS,
-        join,
-        why: Why::UnknownJoin,
-    }
-}
-
-fn done(join: JoinNo) -> Message
-    ensures { IsTimelyMessage result }
-{
-    Message::Done { trans: TRANS, join }
-}
-
-fn vote(join: JoinNo) -> Message
-    ensures { IsTimelyMessage result }
-{
-    Message::Ask { trans: TRANS, join }
-}
-
-fn joined(join: JoinNo) -> Message
-    ensures { IsTimelyMessage result }
-{
-    Message::Joined { trans: TRANS, join }
-}
-
-// The first server, where the transaction made an owner, and its part elsewhere is registered.
-fn coordinator(alloc: Global) -> Result<Server, Fail> {
+fn coordinator_stands(alloc: Global) -> Result<bool, OutOfMemory> {
     let mut node = in_memory(alloc, 1)?;
-    let _ = ask(&mut node, 1, 1, hello())?;
-    let _ = ask(&mut node, 1, 2, begin())?;
-    let _ = ask(&mut node, 1, 3, new_owner(alloc))?;
-    hear(&mut node, 2, register(JOIN))?;
-    Ok(node)
+    stands_until_done(alloc, &mut node)
 }
 
-// It is asked to commit, and waits for the vote.
-fn finishing(alloc: Global) -> Result<Server, Fail> {
-    let mut node = coordinator(alloc)?;
-    let finish = Call::Finish {
-        trans: TRANS,
-        commit: true,
-    };
-    match ask(&mut node, 1, 4, finish)? {
-        Reply::Refused(Refusal::NotYet) => Ok(node),
-        _ => Err("a vote that is awaited".into()),
-    }
-}
+const AS_PART: [(&[Deed], Told, &[Deed]); 5] = [
+    (WORKS, Told::Plain, OTHERS),
+    (VOTES, Told::Anything, OTHERS),
+    (LOOKS_AT_SECOND, Told::IsLocked, NOTHING),
+    (APPLIES, Told::Anything, OTHERS),
+    (FINDS_AT_SECOND, Told::Owner, NOTHING),
+];
 
-// The second server, where the part made an owner.
-fn worker(alloc: Global) -> Result<Server, Fail> {
+// Whether a part does.
+fn part_stands(alloc: Global) -> Result<bool, OutOfMemory> {
     let mut node = in_memory(alloc, 2)?;
-    let _ = ask(&mut node, 1, 1, hello())?;
-    let _ = ask(&mut node, 1, 2, Call::Join { trans: TRANS })?;
-    hear(&mut node, 1, joined(JOIN))?;
-    let _ = ask(&mut node, 1, 3, Call::Collect { number: 2 })?;
-    match ask(&mut node, 1, 4, new_owner(alloc))? {
-        Reply::Plain => Ok(node),
-        _ => Err("an owner".into()),
-    }
-}
-
-// Its part voted for the commit.
-fn promised(alloc: Global) -> Result<Server, Fail> {
-    let mut node = worker(alloc)?;
-    hear(&mut node, 1, vote(JOIN))?;
-    Ok(node)
-}
-
-// ---- writes
-
-// Whether the message brings just one write: a server is stopped where none may pass, and another is not where one may.
-fn writes_once(
-    none: &mut Server,
-    one: &mut Server,
-    from: u8,
-    message: Message,
-) -> Result<bool, OutOfMemory>
-    requires { IsTimelyMessage message }
-{
-    none.stop_after(Some(0));
-    hear(none, from, message)?;
-    one.stop_after(Some(1));
-    hear(one, from, message)?;
-    Ok(none.is_down() && !one.is_down())
-}
-
-#[test]
-fn a_vote_a_decision_and_an_application_are_one_write_each(rt: HostRuntime) -> Result<(), Fail> {
-    let alloc = rt.alloc();
-    let (mut none, mut one) = (worker(alloc)?, worker(alloc)?);
-    assert!(rt; writes_once(&mut none, &mut one, 1, vote(JOIN))?);
-    let (mut none, mut one) = (finishing(alloc)?, finishing(alloc)?);
-    assert!(rt; writes_once(&mut none, &mut one, 2, ready(JOIN))?);
-    let (mut none, mut one) = (promised(alloc)?, promised(alloc)?);
-    assert!(rt; writes_once(&mut none, &mut one, 1, commit(JOIN))?);
-    Ok(())
-}
-
-// ---- messages of strangers
-
-// Whether all these leave the coordinator as it was: a vote of a server that is not registered, a second join of one that is, words
-// of joins that it does not know, and words that only a coordinator says.
-fn heeds_no_stranger(node: &mut Server) -> Result<bool, OutOfMemory> {
-    let voted = is_vain(node, 3, ready(STRANGE))? && is_vain(node, 2, ready(NEVER))?;
-    let registered = is_vain(node, 2, register(NEVER))? && is_vain(node, 2, register(JOIN))?;
-    let against = is_vain(node, 3, no(STRANGE))? && is_vain(node, 2, no(NEVER))?;
-    let done = is_vain(node, 3, done(STRANGE))? && is_vain(node, 2, done(NEVER))?;
-    let told = is_vain(node, 2, commit(JOIN))? && is_vain(node, 2, abort(JOIN))?;
-    Ok(voted && registered && against && done && told)
-}
-
-// Whether a decision stands against what comes late.
-fn keeps_its_decision(node: &mut Server) -> Result<bool, OutOfMemory> {
-    let strangers = heeds_no_stranger(node)?;
-    let late = is_vain(node, 2, no(JOIN))? && is_vain(node, 2, ready(JOIN))?;
-    Ok(strangers && late)
-}
-
-// Whether these leave a part as it was: the end of a join that was never drawn, and words that only a part says.
-fn heeds_no_other_end(node: &mut Server) -> Result<bool, OutOfMemory> {
-    let never = is_vain(node, 1, commit(NEVER))? && is_vain(node, 1, abort(NEVER))?;
-    let strange = is_vain(node, 1, commit(STRANGE))? && is_vain(node, 1, abort(STRANGE))?;
-    let asked = is_vain(node, 1, vote(NEVER))? && is_vain(node, 1, joined(NEVER))?;
-    let voted = is_vain(node, 3, ready(STRANGE))? && is_vain(node, 3, register(STRANGE))?;
-    let done = is_vain(node, 1, no(JOIN))? && is_vain(node, 1, done(JOIN))?;
-    Ok(never && strange && asked && voted && done)
-}
-
-// What another client, in the server's next transaction, is told of the owner.
-fn asks_for_owner(node: &mut Server, trans: TransId) -> Result<Reply, Fail> {
-    let _ = ask(node, 2, 1, hello())?;
-    let _ = ask(node, 2, 2, begin())?;
-    ask(node, 2, 3, read_owner(trans))
-}
-
-// Whether the transaction has it locked.
-fn is_locked(node: &mut Server, trans: TransId) -> Result<bool, Fail> {
-    match asks_for_owner(node, trans)? {
-        Reply::Refused(Refusal::LockConflict { holder }) => Ok(holder == TRANS),
-        _ => Ok(false),
-    }
-}
-
-// Whether the other client finds the owner now.
-fn has_owner(node: &mut Server, trans: TransId) -> Result<bool, Fail> {
-    Ok(matches!(ask(node, 2, 4, read_owner(trans))?, Reply::Owner(_)))
-}
-
-// Whether strangers change nothing at a coordinator while its transaction runs, while its votes come, and once it is decided.
-fn stands_as_a_coordinator(alloc: Global) -> Result<bool, Fail> {
-    let mut running = coordinator(alloc)?;
-    let mut node = finishing(alloc)?;
-    if !heeds_no_stranger(&mut running)? || !heeds_no_stranger(&mut node)? {
-        return Ok(false);
-    }
-    if !is_locked(&mut node, OTHER_AT_FIRST)? {
-        return Ok(false);
-    }
-    hear(&mut node, 2, ready(JOIN))?;
-    if !keeps_its_decision(&mut node)? || !has_owner(&mut node, OTHER_AT_FIRST)? {
-        return Ok(false);
-    }
-    // What its part says last is heeded.
-    hear(&mut node, 2, done(JOIN))?;
-    Ok(!has_said_only(&node))
-}
-
-// Whether they change nothing at a part while it works, once it voted, and once it is applied.
-fn stands_as_a_part(alloc: Global) -> Result<bool, Fail> {
-    let mut node = worker(alloc)?;
-    if !heeds_no_other_end(&mut node)? {
-        return Ok(false);
-    }
-    hear(&mut node, 1, vote(JOIN))?;
-    if !heeds_no_other_end(&mut node)? || !is_locked(&mut node, OTHER_AT_SECOND)? {
-        return Ok(false);
-    }
-    hear(&mut node, 1, commit(JOIN))?;
-    Ok(heeds_no_other_end(&mut node)? && has_owner(&mut node, OTHER_AT_SECOND)?)
+    stands(alloc, &mut node, &AS_PART)
 }
 
 /// Each of these is heard where nothing may be written, and nothing comes of it but an answer: files, intents, locks and notes are
@@ -392,7 +459,7 @@ fn stands_as_a_part(alloc: Global) -> Result<bool, Fail> {
 /// | `Ready`, `Register`, `No`, `Done` | another server, or the coordinator | the same |
 #[test]
 fn strangers_change_nothing(rt: HostRuntime) -> Result<(), Fail> {
-    assert!(rt; stands_as_a_coordinator(rt.alloc())?);
-    assert!(rt; stands_as_a_part(rt.alloc())?);
+    assert!(rt; coordinator_stands(rt.alloc())?);
+    assert!(rt; part_stands(rt.alloc())?);
     Ok(())
 }

@@ -1,13 +1,21 @@
 //! Disks of server 1 of three, with notes that a run before left there, spelled by hand.
-use super::fixtures::{SIZES, mem_disk};
 use super::quiet_disk::QuietDisk;
-use alp_base::{Page, VaultFault};
-use alp_disk::Disk;
+use alp_base::{Page, Sizes, VaultFault};
+use alp_disk::{Disk, MemDisk};
 use alp_fields::put_bytes;
+use alp_silent::Silent;
 use std::alloc::Global;
 use std::test::*;
 
 const SERVERS: u8 = 3;
+
+const SIZES: Sizes = Sizes {
+    home: 512,
+    area: 64,
+};
+
+// The pages of a disk of these sizes.
+const PAGES: u32 = 642;
 
 // The page behind the one record of a new volume, with its first home page.
 const FREE: u32 = 5;
@@ -50,14 +58,19 @@ fn recorded<D: Disk>(disk: QuietDisk<D>, batch: &[u8]) -> Result<QuietDisk<D>, F
         .sync()
 }
 
+// The disk of a new volume.
+fn new_volume(alloc: Global) -> Result<QuietDisk<Silent>, Fail> {
+    let disk = MemDisk::new(alloc, PAGES, Vec::new(alloc))?;
+    match QuietDisk::new(Silent { disk })?.start_among(alloc, SERVERS, SIZES) {
+        Ok(store) => store.into_disk(),
+        Err(_) => Err("a new disk".into()),
+    }
+}
+
 // How many notes a store has that starts on a disk with these; nothing where it is refused for what is no page.
 fn noted(alloc: Global, count: u8, notes: &[u8]) -> Result<Option<usize>, Fail> {
-    let disk = mem_disk(alloc, SIZES, Vec::new(alloc))?;
-    let Ok(store) = disk.start_among(alloc, SERVERS, SIZES) else {
-        return Err("a new disk".into());
-    };
     let batch = batch_of(alloc, count, notes)?;
-    let disk = recorded(store.into_disk()?, &batch)?;
+    let disk = recorded(new_volume(alloc)?, &batch)?;
     match disk.start_among(alloc, SERVERS, SIZES) {
         Ok(store) => Ok(Some(store.note_count())),
         Err(VaultFault::Damaged { place: 0 }) => Ok(None),
@@ -65,17 +78,17 @@ fn noted(alloc: Global, count: u8, notes: &[u8]) -> Result<Option<usize>, Fail> 
     }
 }
 
+const NOTES: [&[u8]; 3] = [CLOCK, DECISION, READY];
+
 #[test]
 fn notes_of_the_server(rt: HostRuntime) -> Result<(), Fail> {
     let alloc = rt.alloc();
-    assert_eq!(rt; noted(alloc, 1, CLOCK)?, Some(1));
-    assert_eq!(rt; noted(alloc, 1, DECISION)?, Some(1));
-    assert_eq!(rt; noted(alloc, 1, READY)?, Some(1));
     let mut all = Vec::new(alloc);
-    for note in [CLOCK, DECISION, READY] {
+    for note in NOTES {
+        assert!(rt; noted(alloc, 1, note)? == Some(1));
         put_bytes(&mut all, note)?;
     }
-    assert_eq!(rt; noted(alloc, 3, &all)?, Some(3));
+    assert!(rt; noted(alloc, 3, &all)? == Some(3));
     Ok(())
 }
 
@@ -89,20 +102,25 @@ fn is_refused(alloc: Global, note: &[u8], at: usize, to: u8) -> Result<bool, Fai
     Ok(noted(alloc, 1, &bytes)?.is_none())
 }
 
+// Another letter, a clock that is too late; a decision of another server, with parts here, on no server of the run, or with more
+// than it counts; a part on another server, of a transaction from here, from no server of the run, or with a time that is too late.
+static WRONG: [(&[u8], usize, u8); 10] = [
+    (CLOCK, 2, b'E'),
+    (CLOCK, 11, 0x41),
+    (DECISION, 3, 2),
+    (DECISION, 25, 1),
+    (DECISION, 34, 4),
+    (DECISION, 24, 1),
+    (READY, 3, 2),
+    (READY, 16, 1),
+    (READY, 16, 4),
+    (READY, 25, 0x41),
+];
+
 #[test]
 fn notes_of_no_such_server(rt: HostRuntime) -> Result<(), Fail> {
-    let alloc = rt.alloc();
-    // Another letter, a clock that is too late.
-    for (at, to) in [(2usize, b'E'), (11, 0x41)] {
-        assert!(rt; is_refused(alloc, CLOCK, at, to)?, "C at {at}");
-    }
-    // A decision of another server, with parts here, on no server of the run, or with more than it counts.
-    for (at, to) in [(3usize, 2u8), (25, 1), (34, 4), (24, 1)] {
-        assert!(rt; is_refused(alloc, DECISION, at, to)?, "D at {at}");
-    }
-    // A part on another server, of a transaction from here, from no server of the run, or with a time that is too late.
-    for (at, to) in [(3usize, 2u8), (16, 1), (16, 4), (25, 0x41)] {
-        assert!(rt; is_refused(alloc, READY, at, to)?, "R at {at} to {to}");
+    for (note, at, to) in WRONG {
+        assert!(rt; is_refused(rt.alloc(), note, at, to)?, "{at} {to}");
     }
     Ok(())
 }

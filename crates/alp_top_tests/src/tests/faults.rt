@@ -2,16 +2,10 @@
 ghost use Rattle.std.specs.Prelude.{◌≡◌, ◌≤◌, length, IfOk};
 ghost use Rattle.alp_base.specs.declared.allowance.Allowance.TheVariants.{Free};
 
-use super::{
-    AGAIN, AGAIN_TOLD, Failing, IDLE, REFUSALS, REFUSED, SCRIPT, SOUND, calls, expected, run,
-    run_in, words,
-};
-use alp_base::{MemSource, WriteSink};
+use super::{AGAIN, AGAIN_TOLD, ANSWERED, Failing, REFUSALS, REFUSED, SCRIPT, SOUND, run, run_in};
 use alp_bay::{Bay, HostBay, MemBay};
 use alp_disk::{Disk, MemDisk};
-use alp_top::run_alpine;
 use std::alloc::Global;
-use std::io::{self, Write};
 use std::path::PathBuf;
 use std::test::Fail;
 use std::{env, fs, process};
@@ -29,25 +23,29 @@ fn disk_with(alloc: Global, pages: u32, failing: Vec<u64>, begins: &[u8]) -> Res
     Ok(disk)
 }
 
+const WORDS: [&[&str]; 5] = [
+    &[],
+    &["play", "now"],
+    &["Play"],
+    &["play", "--folder"],
+    &["--help"],
+];
+
 #[test]
-fn refuses_other_words_and_scripts(rt: HostRuntime) -> Result<(), Fail> {
-    let alloc = rt.alloc();
-    for asked in [
-        &[] as &[&str],
-        &["play", "now"],
-        &["Play"],
-        &["play", "--folder"],
-        &["--help"],
-    ] {
-        let told = run(alloc, asked, SCRIPT, &SOUND)?;
-        assert_eq!(rt; told.code, 1);
-        assert_eq!(rt; told.said.as_str(), "alpine: bad words");
-        assert_eq!(rt; told.written.len(), 0);
+fn refuses_other_words(rt: HostRuntime) -> Result<(), Fail> {
+    for asked in WORDS {
+        let told = run(rt.alloc(), asked, SCRIPT, &SOUND)?;
+        assert!(rt; told.code == 1 && told.said.as_str() == "alpine: bad words");
+        assert!(rt; told.written.is_empty());
     }
-    let told = run(alloc, &["play"], b"servers 9\n", &SOUND)?;
-    assert_eq!(rt; told.code, 2);
-    assert_eq!(rt; told.said.as_str(), "alpine: bad script line 1");
-    assert_eq!(rt; told.written.len(), 0);
+    Ok(())
+}
+
+#[test]
+fn refuses_other_scripts(rt: HostRuntime) -> Result<(), Fail> {
+    let told = run(rt.alloc(), &["play"], b"servers 9\n", &SOUND)?;
+    assert!(rt; told.code == 2 && told.said.as_str() == "alpine: bad script line 1");
+    assert!(rt; told.written.is_empty());
     Ok(())
 }
 
@@ -59,175 +57,110 @@ fn new_folder(rt: &HostRuntime) -> Result<PathBuf, Fail> {
     Ok(path)
 }
 
+// The run of a script with these words in a new bay of the host.
+fn run_on_host(rt: HostRuntime, asked: &[&str], script: &[u8]) -> Result<super::Told, Fail> {
+    let mut bay = HostBay::new(rt.alloc(), rt)?;
+    run_in(rt.alloc(), asked, script, &SOUND, &mut bay)
+}
+
+const DAYS: [[&[u8]; 2]; 2] = [[SCRIPT, ANSWERED], [AGAIN, AGAIN_TOLD]];
+
+// Whether each day of the folder goes on with what the day before left.
+fn goes_on(rt: HostRuntime, folder: &str) -> Result<bool, Fail> {
+    for [script, report] in DAYS {
+        let told = run_on_host(rt, &["play", "--folder", folder], script)?;
+        if told.code != 0 || told.written.as_slice() != report {
+            return Ok(false);
+        }
+    }
+    Ok(true)
+}
+
 #[test]
 fn plays_on_the_volume_of_a_folder(rt: HostRuntime) -> Result<(), Fail> {
-    let alloc = rt.alloc();
     let path = new_folder(&rt)?;
     let folder = path.as_path().to_str().ok_or("a name")?;
-    for (script, report) in [
-        (SCRIPT, expected(alloc, 8)?.as_slice()),
-        (AGAIN, AGAIN_TOLD),
-    ] {
-        let mut bay = HostBay::new(alloc, rt)?;
-        let told = run_in(
-            alloc,
-            &["play", "--folder", folder],
-            script,
-            &SOUND,
-            &mut bay,
-        )?;
-        assert_eq!(rt; told.code, 0);
-        assert_eq!(rt; told.written.as_slice(), report);
-    }
-    let mut bay = HostBay::new(alloc, rt)?;
-    let told = run_in(alloc, &["play", "--folder="], SCRIPT, &SOUND, &mut bay)?;
-    assert_eq!(rt; told.said.as_str(), "alpine: disk fault server 0");
+    let kept = goes_on(rt, folder)?;
     fs::remove_dir_all(&rt, path.as_path())?;
+    assert!(rt; kept);
+    let told = run_on_host(rt, &["play", "--folder="], SCRIPT)?;
+    assert!(rt; told.said.as_str() == "alpine: disk fault server 0");
     Ok(())
 }
 
-#[test]
-fn tells_what_is_wrong_with_a_disk(rt: HostRuntime) -> Result<(), Fail> {
-    let alloc = rt.alloc();
+// How a script ends on such a disk of the first server.
+fn run_on(alloc: Global, disk: MemDisk, script: &[u8]) -> Result<super::Told, Fail>
+    requires long { 2 ≤ ⟦<MemDisk as Disk>⟧.size disk }
+    requires free { ⟦<MemDisk as Disk>⟧.allowance disk ≡ Free }
+{
     let mut bay = MemBay::new(alloc)?;
-    bay.give(1, disk_with(alloc, 2, Vec::new(alloc), b"hello")?);
-    let told = run_in(alloc, &["play"], SCRIPT, &SOUND, &mut bay)?;
-    assert_eq!(rt; told.code, 8);
-    assert_eq!(rt; told.said.as_str(), "alpine: not a volume server 1");
-    assert_eq!(rt; told.written.len(), 0);
-    bay.give(1, disk_with(alloc, 2, calls(alloc, 1)?, b"")?);
-    let told = run_in(alloc, &["play"], SCRIPT, &SOUND, &mut bay)?;
-    assert_eq!(rt; told.code, 5);
-    assert_eq!(rt; told.said.as_str(), "alpine: disk fault server 1");
-    Ok(())
+    bay.give(1, disk);
+    run_in(alloc, &["play"], script, &SOUND, &mut bay)
 }
 
 #[test]
-fn tells_each_failing_read(rt: HostRuntime) -> Result<(), Fail> {
-    let alloc = rt.alloc();
+fn tells_what_is_no_volume(rt: HostRuntime) -> Result<(), Fail> {
+    let disk = disk_with(rt.alloc(), 2, Vec::new(rt.alloc()), b"hello")?;
+    let told = run_on(rt.alloc(), disk, SCRIPT)?;
+    assert!(rt; told.code == 8 && told.said.as_str() == "alpine: not a volume server 1");
+    assert!(rt; told.written.is_empty());
+    Ok(())
+}
+
+// A script that is read in some pieces, and whose report goes out in one.
+fn long(alloc: Global) -> Result<Vec<u8>, Fail> {
     let mut text = Vec::from_slice(alloc, REFUSALS)?;
     for _line in 0..250u8 {
         text.extend_from_slice(b"# forty bytes of a line that is skipped\n")?;
     }
-    for each in 1..6u64 {
+    Ok(text)
+}
+
+// Each so many-th read and write fails, and the sink has room for so many bytes: the status, and what is said.
+const FAULTS: [(u64, u64, u32, u8, &str); 8] = [
+    (1, 0, 4096, 3, "alpine: read fault"),
+    (2, 0, 4096, 3, "alpine: read fault"),
+    (3, 0, 4096, 3, "alpine: read fault"),
+    (4, 0, 4096, 3, "alpine: read fault"),
+    (5, 0, 4096, 0, ""),
+    (0, 1, 4096, 4, "alpine: write fault"),
+    (0, 2, 4096, 0, ""),
+    (0, 0, 100, 4, "alpine: write fault"),
+];
+
+#[test]
+fn tells_each_failing_read_and_write(rt: HostRuntime) -> Result<(), Fail> {
+    let text = long(rt.alloc())?;
+    for (reads, writes, room, code, said) in FAULTS {
         let failing = Failing {
-            reads: each,
-            writes: 0,
-            room: 4096,
+            reads,
+            writes,
+            room,
         };
-        let told = run(alloc, &["play"], text.as_slice(), &failing)?;
-        let (code, said, written) = if each < 5 {
-            (3, "alpine: read fault", b"".as_slice())
-        } else {
-            (0, "", REFUSED)
-        };
-        assert_eq!(rt; told.code, code);
-        assert_eq!(rt; told.said.as_str(), said);
-        assert_eq!(rt; told.written.as_slice(), written);
+        let told = run(rt.alloc(), &["play"], text.as_slice(), &failing)?;
+        let written = if code == 0 { REFUSED } else { b"".as_slice() };
+        assert!(rt; told.code == code && told.said.as_str() == said);
+        assert!(rt; told.written.as_slice() == written);
     }
     Ok(())
 }
 
-#[test]
-fn tells_each_failing_write(rt: HostRuntime) -> Result<(), Fail> {
-    let alloc = rt.alloc();
-    for each in 1..4u64 {
-        let failing = Failing {
-            reads: 0,
-            writes: each,
-            room: 4096,
-        };
-        let told = run(alloc, &["play"], b"servers 1", &failing)?;
-        let (code, said, written) = if each == 1 {
-            (4, "alpine: write fault", b"".as_slice())
-        } else {
-            (0, "", IDLE)
-        };
-        assert_eq!(rt; told.code, code);
-        assert_eq!(rt; told.said.as_str(), said);
-        assert_eq!(rt; told.written.as_slice(), written);
-    }
-    let narrow = Failing {
-        reads: 0,
-        writes: 0,
-        room: 100,
-    };
-    let told = run(alloc, &["play"], REFUSALS, &narrow)?;
-    assert_eq!(rt; told.code, 4);
-    assert_eq!(rt; told.written.len(), 0);
-    Ok(())
-}
-
-#[test]
-fn tells_a_script_of_too_many_lines(rt: HostRuntime) -> Result<(), Fail> {
-    let alloc = rt.alloc();
+fn most_lines(alloc: Global) -> Result<Vec<u8>, Fail> {
     let mut script = Vec::from_slice(alloc, b"servers 1\n")?;
     for _line in 0..199_999u32 {
         script.extend_from_slice(b"#\n")?;
     }
-    let told = run(alloc, &["play"], script.as_slice(), &SOUND)?;
-    assert_eq!(rt; told.code, 0);
-    script.extend_from_slice(b"no line at all\n")?;
-    let more = run(alloc, &["play"], script.as_slice(), &SOUND)?;
-    assert_eq!(rt; more.code, 7);
-    assert_eq!(rt; more.said.as_str(), "alpine: too long 200000");
-    assert_eq!(rt; more.written.len(), 0);
-    Ok(())
-}
-
-// A writer that takes at most fifty bytes at a time, and fails at the call with this number.
-#[derive(Drop)]
-struct Narrow {
-    taken: Vec<u8>,
-    calls: u32,
-    fails: u32,
-}
-
-impl Write for Narrow {
-    fn write(&mut self, buf: &[u8]) -> io::Result<usize> {
-        self.calls = self.calls.saturating_add(1);
-        if self.calls == self.fails {
-            return Err(io::Error::from(io::ErrorKind::Other));
-        }
-        let most = buf.len().min(50);
-        self.taken.extend_from_slice(&buf[..most])?;
-        Ok(most)
-    }
-
-    fn flush(&mut self) -> io::Result<()> {
-        Ok(())
-    }
-}
-
-// How a script ends whose writer fails at the call with this number, and what the writer took.
-fn with_failing_write(alloc: Global, fails: u32) -> Result<(u8, Vec<u8>), Fail> {
-    let mut writer = Narrow {
-        taken: Vec::new(alloc),
-        calls: 0,
-        fails,
-    };
-    let words = words(alloc, &["play"])?;
-    let mut script = MemSource::new(Vec::from_slice(alloc, REFUSALS)?, Vec::new(alloc));
-    let mut out = WriteSink::new(&mut writer);
-    let mut bay = MemBay::new(alloc)?;
-    let code = run_alpine(alloc, &words, &mut script, &mut out, &mut bay).code();
-    drop(out);
-    Ok((code, writer.taken))
+    Ok(script)
 }
 
 #[test]
-fn writes_a_prefix_before_a_failing_write(rt: HostRuntime) -> Result<(), Fail> {
-    let mut fails = 1u32;
-    let mut before = 0usize;
-    for piece in REFUSED.chunks(50) {
-        let (code, taken) = with_failing_write(rt.alloc(), fails)?;
-        assert_eq!(rt; code, 4);
-        assert!(rt; taken.len() == before && REFUSED.starts_with(taken.as_slice()));
-        fails = fails.saturating_add(1);
-        before = before.saturating_add(piece.len());
-    }
-    let (code, taken) = with_failing_write(rt.alloc(), fails)?;
-    assert!(rt; before > 50 && code == 0 && taken.as_slice() == REFUSED);
+fn tells_a_script_of_too_many_lines(rt: HostRuntime) -> Result<(), Fail> {
+    let mut script = most_lines(rt.alloc())?;
+    let told = run(rt.alloc(), &["play"], script.as_slice(), &SOUND)?;
+    assert!(rt; told.code == 0);
+    script.extend_from_slice(b"no line at all\n")?;
+    let more = run(rt.alloc(), &["play"], script.as_slice(), &SOUND)?;
+    assert!(rt; more.code == 7 && more.said.as_str() == "alpine: too long 200000");
     Ok(())
 }
 
@@ -242,9 +175,8 @@ const PAGES: u32 = 642;
 fn with_failing_call(alloc: Global, number: u64) -> Result<super::Told, Fail> {
     let mut failing = Vec::new(alloc);
     failing.push(number)?;
-    let mut bay = MemBay::new(alloc)?;
-    bay.give(1, disk_with(alloc, PAGES, failing, b"")?);
-    run_in(alloc, &["play"], TWO_CLIENTS, &SOUND, &mut bay)
+    let disk = disk_with(alloc, PAGES, failing, b"")?;
+    run_on(alloc, disk, TWO_CLIENTS)
 }
 
 #[test]
@@ -256,8 +188,7 @@ fn tells_each_failing_call_of_a_disk(rt: HostRuntime) -> Result<(), Fail> {
         if told.code == 0 {
             break;
         }
-        assert_eq!(rt; told.code, 5);
-        assert_eq!(rt; told.said.as_str(), "alpine: disk fault server 1");
+        assert!(rt; told.code == 5 && told.said.as_str() == "alpine: disk fault server 1");
         met = number;
     }
     assert!(rt; met > 10 && met < 1999);

@@ -1,8 +1,8 @@
-//! A whole script against its text.
+//! Tests of alp_drill: a whole script against its text.
 mod expected;
 
-use crate::drill;
 use alp_base::MemSource;
+use alp_drill::drill;
 use alp_script::read_script;
 use expected::EXPECTED;
 use std::test::Fail;

@@ -1,5 +1,0 @@
-use Rattle.std.proofs.Common.{arith}
-use Rattle.alp_posts.proofs.tests.Pair.take.Goals as goal
-
-pub take-requires-clause-grown : goal.take-requires-clause-grown
-take-requires-clause-grown c = c.self.invariant.shown 1 c.args.to ((omega arith, omega arith), c.requires.1)
