@@ -69,6 +69,7 @@ module _ {V : Type 0} (G : Ghosts V) where
   server_or (Some o) = o
 
   server_as : (xs : List (Station V)) (i : ℕ) → server_in (slice_get xs i) ≡ server_or (slice_get (list_map (λ (x : Station V). x.server) xs) i)
+  unfolding server_or
   server_as [] zero = refl
   server_as [] (suc i) = refl
   server_as (x ∷ xs) zero = refl
