@@ -228,11 +228,7 @@ fn deletion(alloc: Global) -> Result<Change, OutOfMemory>
 }
 
 // Whether a plan frees the place of a page, and is taken back, as it is where memory is wanting: all is there again.
-fn is_taken_back(
-    alloc: Global,
-    pages: &mut MemPages,
-    change: &Change,
-) -> Result<bool, VaultFault>
+fn is_taken_back(alloc: Global, pages: &mut MemPages, change: &Change) -> Result<bool, VaultFault>
     requires { change.now.puts ≡ [] }
 {
     let mut catalog = read_volume(alloc, pages, HOME)?;
