@@ -1,16 +1,18 @@
-//! The volume of docs/FORMATS.md, as it is made, as it is read, and as it is read with each byte changed.
-ghost use Rattle.std.specs.Prelude.{◌≡◌, [], false, refl};
+//! The volume of docs/FORMATS.md, as it is made, as it is read, also behind a plan that was taken back, and as it is read with each
+//! byte changed.
+ghost use Rattle.std.specs.Prelude.{◌≡◌, [], false, refl, IfOk};
 ghost use Rattle.std.proofs.Math.Nat.{le_refl};
 ghost use Rattle.alp_base.specs.declared.allowance.Allowance.TheVariants.{Free};
 
 use alp_base::{
-    AccessList, FileId, Name, OutOfMemory, PAGES_PER_FILE, Page, PageRef, Props, VaultFault,
+    AccessList, Change, CutList, FileId, FileList, Name, OutOfMemory, PAGES_PER_FILE, Page,
+    PageRef, Props, PutList, VaultFault,
 };
 use alp_pages::{
     Entry, Leader, PageReader, Places, clear_entry, encode_leader, new_header, set_entry,
 };
 use alp_tables::FileSlot;
-use alp_volume::{Catalog, read_volume};
+use alp_volume::{Catalog, plan_change, read_volume};
 use std::alloc::Global;
 use std::test::*;
 
@@ -208,6 +210,42 @@ fn reads_a_volume(rt: HostRuntime) -> Result<(), Fail> {
         .ok()
         .ok_or("a volume")?;
     assert!(rt; has_both(&catalog) && has_their_pages(&catalog));
+    Ok(())
+}
+
+// ---- a plan that is taken back
+
+// A change that deletes the file.
+fn deletion(alloc: Global) -> Result<Change, OutOfMemory>
+    ensures { IfOk result (λ change. change.puts ≡ []) }
+{
+    let drops = vec![in alloc; FILE]?;
+    Ok(Change {
+        drops: FileList::new(drops),
+        cuts: CutList::new(Vec::new(alloc)),
+        puts: PutList::new(Vec::new(alloc)),
+    })
+}
+
+// Whether a plan frees the place of a page, and is taken back, as it is where memory is wanting: all is there again.
+fn is_taken_back(alloc: Global, pages: &mut MemPages, change: &Change) -> Result<bool, VaultFault>
+    requires { change.now.puts ≡ [] }
+{
+    let mut catalog = read_volume(alloc, pages, HOME)?;
+    let mut plan = plan_change(alloc, pages, &mut catalog, change)?;
+    let freed = !catalog.places.is_taken(260);
+    catalog.take_back(&mut plan.undos);
+    Ok(freed && has_both(&catalog) && has_their_pages(&catalog))
+}
+
+#[test]
+fn takes_a_plan_back(rt: HostRuntime) -> Result<(), Fail> {
+    let mut pages = volume(rt.alloc())?.ok_or("a volume")?;
+    let change = deletion(rt.alloc())?;
+    let back = is_taken_back(rt.alloc(), &mut pages, &change)
+        .ok()
+        .ok_or("a plan")?;
+    assert!(rt; back);
     Ok(())
 }
 

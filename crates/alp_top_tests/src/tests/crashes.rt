@@ -81,13 +81,15 @@ fn play_all(alloc: Global, commit: Commit, server: u8, calls: u32) -> Result<See
     Ok(seen)
 }
 
-// Whether some stop leaves nothing of the commit and another one all of it, until none is left and the commit is told.
+// Whether some stop leaves nothing of the commit and another one all of it, which nobody was told where the server coordinates it,
+// until none is left and the commit is told.
 fn is_whole(alloc: Global, commit: Commit, server: u8) -> Result<bool, Fail> {
     let (mut has_fallen, mut has_stood, mut is_over) = (false, false, false);
     for calls in 0..30u32 {
         let seen = play_all(alloc, commit, server, calls)?;
         has_fallen = has_fallen || seen.fell > 0;
-        has_stood = has_stood || seen.stood > 0;
+        let told = if server == 1 { seen.told } else { 0 };
+        has_stood = has_stood || seen.stood > told;
         is_over = seen.told == 6;
     }
     Ok(has_fallen && has_stood && is_over)
