@@ -106,3 +106,6 @@ pub returns-clause-played : goal.returns-clause-played
 returns-clause-played g c =
     let q = c.loop-line.self in
     subst (λ (js : List NumberedLine). HasPlayed g.V.Vault (servers_said c.args.lines.now) js q.parties.clients q.parties.stations q.lists.items q.text.items) (take_all c.loop-line.line-index c.args.lines.now c.loop-line-test.false) c.loop-line.invariant.played
+
+pub returns-clause-calm : goal.returns-clause-calm
+returns-clause-calm g c = c.loop-line.invariant.calm

@@ -9,6 +9,16 @@ use Rattle.alp_node.specs.Steps.{IsStepAs}
 use Rattle.alp_node.proofs.SayLemmas.{quiet_step}
 use Rattle.alp_node.proofs.server_state.ServerState.answer.Goals as goal
 
+-- a call is one of a client of the run, and may be asked
+pub call-requires-clause-client : goal.call-requires-clause-client
+call-requires-clause-client g c = (subst IsServed c.in-Call.is c.requires.served).1
+
+pub call-requires-clause-some : goal.call-requires-clause-some
+call-requires-clause-some g c = (subst IsServed c.in-Call.is c.requires.served).0
+
+pub call-requires-clause-asked : goal.call-requires-clause-asked
+call-requires-clause-asked g c = (subst IsServed c.in-Call.is c.requires.served).2
+
 pub arrive-requires-clause-timely : goal.arrive-requires-clause-timely
 arrive-requires-clause-timely g c = subst IsServed c.in-Arrive.is c.requires.served
 
