@@ -255,6 +255,9 @@ returns-in_err-report-clause-cause g c asked =
     (closed_moved G g.B.Device.Disk (g.B.Bay.tells c.start_all.new.bay) t c.into_parts-stations-2.result.0.items c.play_out.new.self.parties.stations.all.items two three _ c.start_all.ensures.tells (ap (λ v. v.items) c.into_parts-stations-2.ensures.stations) c.in_ok-rests.ensures.closed)
     told (g.B.Bay.faults c.args.bay.now) (g.B.Bay.faults c.close_all.new.bay)))
 
+pub returns-in_err-report-clause-ended : goal.returns-in_err-report-clause-ended
+returns-in_err-report-clause-ended g c = err_of (IsEndTold c.args.lines.now) fault.OutOfMemory c.from_residual-in_err-report.result c.from_residual-in_err-report.ensures.0 c.from_residual-in_err-report.ensures.1 tt
+
 pub returns-in_err-report-clause-chosen : goal.returns-in_err-report-clause-chosen
 returns-in_err-report-clause-chosen g c = folder_taken c.from_residual-in_err-report.result _ _ _ (c.close_all.ensures.chosen ∙ c.start_all.ensures.chosen ∙ c.in_ok-choose.ensures.named)
 

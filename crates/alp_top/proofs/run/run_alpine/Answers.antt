@@ -1,5 +1,5 @@
 use Rattle.std.specs.Prelude.{Option, map as list_map, string_bytes}
-use Rattle.std.proofs.Common.{◌≡◌, ℕ, List, refl, sym, ◌∙◌, subst}
+use Rattle.std.proofs.Common.{inl, ◌≡◌, ℕ, List, refl, sym, ◌∙◌, subst}
 use Rattle.alp_script.specs.Accepted.{IsAccepted}
 use Rattle.alp_script.specs.declared.numbered.NumberedLine.{NumberedLine}
 use Rattle.alp_words.specs.Words.{folder_named}
@@ -16,6 +16,10 @@ lines_of-requires g c = record { few = few_rounds _ c.in-Ok.command c.in-Ok.ensu
 
 pub run_bay-requires-clause-accepted : goal.run_bay-requires-clause-accepted
 run_bay-requires-clause-accepted g c κs within = subst (λ (ls : List NumberedLine). IsAccepted ls) (sym c.deref-played.ensures.value) c.in-Ok-lines_of.ensures.accepted
+
+-- the script has too many lines
+pub returns-in-Err-TooLong-clause-any_bay : goal.returns-in-Err-TooLong-clause-any_bay
+returns-in-Err-TooLong-clause-any_bay g c = record { played = tt; cut_off = tt; limits = inl refl; server = tt; counted = tt; bay = tt }
 
 pub returns-in-Ok-run_bay-clause-headline : goal.returns-in-Ok-run_bay-clause-headline
 returns-in-Ok-run_bay-clause-headline g c told =
