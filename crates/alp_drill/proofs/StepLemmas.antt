@@ -1,14 +1,13 @@
 -- one more turn of each loop
-use Rattle.std.specs.Prelude.{flat_map, codes, min, slice_index, ◌-◌, ◌*◌, ◌/◌, ◌==◌, true, false}
+use Rattle.std.specs.Prelude.{flat_map, codes, min, slice_index, ◌-◌, ◌*◌, ◌/◌, true, false}
 use Rattle.std.specs.List.{range_with_len, All}
 use Rattle.std.proofs.Common.{◌≡◌, ℕ, ◌+◌, ◌<◌, ◌≤◌, List, [], ◌∷◌, ◌++◌, map, length, refl, sym, ◌∙◌, ap, subst, arith, append_assoc, append-nil, length-append}
-use Rattle.std.proofs.lemmas.Bool.{cond-true, cond-false, eq-eqb, ne_eqb}
+use Rattle.std.proofs.lemmas.Bool.{cond-true, cond-false}
 use Rattle.std.proofs.lemmas.List.Elements.{All-push}
 use Rattle.alp_base.specs.declared.choices.Access.TheVariants as access
 use Rattle.alp_base.specs.declared.choices.Choice.TheVariants as choice
 use Rattle.alp_base.specs.declared.ids.Run.{Run}
 use Rattle.alp_modes.specs.declared.Mode.TheVariants as mode
-use Rattle.alp_lines.specs.declared.line.FileWord.{FileWord}
 use Rattle.alp_lines.specs.declared.line.FileWord.TheVariants as file_word
 use Rattle.alp_lines.specs.declared.line.Line.{Line}
 use Rattle.alp_lines.specs.declared.line.Line.TheVariants as line
@@ -18,7 +17,7 @@ use Rattle.alp_drill.specs.Adds.{Adds}
 use Rattle.alp_drill.specs.Rolls.{dice_of, roll, in_turn}
 use Rattle.alp_drill.specs.Setup.{client_line, declarations, owner_line, owners_at, owners}
 use Rattle.alp_drill.specs.Files.{client_of, server_of, pages_of_file, pages_of_files, file_name, create_line, group, groups}
-use Rattle.alp_drill.specs.Rounds.{is_stop, is_restart, stop_line, stopping, restart_lines, restarting, beginning, text_of, writing, ending, visit, visits, round, rounds}
+use Rattle.alp_drill.specs.Rounds.{is_stop, is_restart, stop_line, stopping, restart_lines, restarting, beginning, writing, visit, visits, round, rounds}
 use Rattle.alp_drill.specs.Script.{counted, drill_lines, drill_script}
 use Rattle.alp_drill.proofs.RollLemmas.{in_turn_more, adds_turn, adds_front, mapped_more, flat_mapped_more, closed, two_lines, four_parts}
 
@@ -145,42 +144,6 @@ restart_done period k before mid after start last pick server due value left sam
 pub stopped_kept : (n : ℕ) (start last : Dice) → last ≡ (roll n start).1 → last.stopped ≡ start.stopped
 unfolding roll
 stopped_kept n start last left = ap (λ (d : Dice). d.stopped) left
-
-pub write_none : (k : ℕ) (file : FileWord) (run : Run) (before : List Line) (start last : Dice) (side : ℕ) → side ≡ (roll 2 start).0 → last ≡ (roll 2 start).1 → (side ≡ 0 → ⊥)
-    → Adds before before last (writing k file run start)
-unfolding writing
-write_none k file run before start last side value left other = record {
-  lines = sym (append-nil before) ∙ ap (λ (l : List Line). before ++ l)
-      (sym (cond-false ((roll 2 start).0 == 0) (line.WritePages (client_of k) file run (text_of k) choice.Fail ∷ []) [] (ne_eqb (roll 2 start).0 0 (λ none. other (value ∙ none)))));
-  dice = left;
-}
-
-pub write_done : (k : ℕ) (file : FileWord) (run : Run) (before after : List Line) (start last : Dice) (side client : ℕ) (text : List ℕ) → side ≡ (roll 2 start).0 → last ≡ (roll 2 start).1 → side ≡ 0
-    → client ≡ client_of k → text ≡ text_of k → after ≡ before ++ line.WritePages client file run text choice.Fail ∷ [] → Adds before after last (writing k file run start)
-unfolding writing
-write_done k file run before after start last side client text value left none same is_text here = record {
-  lines = here ∙ (λ i. before ++ line.WritePages (same i) file run (is_text i) choice.Fail ∷ [])
-      ∙ ap (λ (l : List Line). before ++ l) (sym (cond-true ((roll 2 start).0 == 0) (line.WritePages (client_of k) file run (text_of k) choice.Fail ∷ []) [] (eq-eqb (roll 2 start).0 0 (sym value ∙ none))));
-  dice = left;
-}
-
-pub end_abort : (k : ℕ) (before after : List Line) (start last : Dice) (side client : ℕ) → side ≡ (roll 20 start).0 → last ≡ (roll 20 start).1 → side ≡ 0
-    → client ≡ client_of k → after ≡ before ++ line.Abort client ∷ [] → Adds before after last (ending k start)
-unfolding ending
-end_abort k before after start last side client value left none same here = record {
-  lines = here ∙ (λ i. before ++ line.Abort (same i) ∷ [])
-      ∙ ap (λ (l : List Line). before ++ l) (sym (cond-true ((roll 20 start).0 == 0) (line.Abort (client_of k) ∷ []) (line.Commit (client_of k) ∷ []) (eq-eqb (roll 20 start).0 0 (sym value ∙ none))));
-  dice = left;
-}
-
-pub end_commit : (k : ℕ) (before after : List Line) (start last : Dice) (side client : ℕ) → side ≡ (roll 20 start).0 → last ≡ (roll 20 start).1 → (side ≡ 0 → ⊥)
-    → client ≡ client_of k → after ≡ before ++ line.Commit client ∷ [] → Adds before after last (ending k start)
-unfolding ending
-end_commit k before after start last side client value left other same here = record {
-  lines = here ∙ (λ i. before ++ line.Commit (same i) ∷ [])
-      ∙ ap (λ (l : List Line). before ++ l) (sym (cond-false ((roll 20 start).0 == 0) (line.Abort (client_of k) ∷ []) (line.Commit (client_of k) ∷ []) (ne_eqb (roll 20 start).0 0 (λ none. other (value ∙ none)))));
-  dice = left;
-}
 
 -- the lines of a visit, by what was rolled
 abbrev visited : ℕ → ℕ → List ℕ → ℕ → ℕ → Dice → List Line × Dice

@@ -1,5 +1,6 @@
 -- the files: how many pages each has, and the lines that create them
-use Rattle.std.specs.Prelude.{◌≡◌, ℕ, ◌+◌, ◌*◌, ◌%◌, ◌<◌, List, [], ◌∷◌, ◌++◌, map, flat_map, length, slice_index, codes}
+use Rattle.std.specs.Prelude.{◌≡◌, ℕ, ◌+◌, ◌*◌, ◌%◌, ◌<◌}
+use Rattle.std.specs.Prelude.{List, [], ◌∷◌, ◌++◌, map, flat_map, length, slice_index, codes}
 use Rattle.std.specs.List.{All, range_with_len}
 use Rattle.std.specs.Fmt.{decimal}
 use Rattle.alp_base.specs.declared.choices.Choice.TheVariants as choice
@@ -36,7 +37,8 @@ file_name i = codes "f" ++ decimal i
 
 -- `C create S fI oK Z World World`, where K is the owner whose client C is
 abbrev pub create_line : List ℕ → ℕ → ℕ → Line
-create_line pages g i = line.Create (client_of g) (server_of g) (file_name i) (owner (1 + g % 8)) (slice_index pages i) everyone everyone choice.Fail
+create_line pages g i =
+    line.Create (client_of g) (server_of g) (file_name i) (owner (1 + g % 8)) (slice_index pages i) everyone everyone choice.Fail
 
 -- a transaction creates ten files
 abbrev pub group : List ℕ → ℕ → List Line

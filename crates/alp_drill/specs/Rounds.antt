@@ -1,5 +1,6 @@
 -- the rounds: stops, restarts, and a transaction each
-use Rattle.std.specs.Prelude.{ℕ, ◌+◌, ◌-◌, ◌/◌, ◌%◌, Bool, ◌&&◌, ◌==◌, nat_lt, List, [], ◌∷◌, ◌++◌, min, slice_index, codes, if◌then◌else◌}
+use Rattle.std.specs.Prelude.{ℕ, ◌+◌, ◌-◌, ◌/◌, ◌%◌, min, Bool, ◌&&◌, ◌==◌, nat_lt, if◌then◌else◌}
+use Rattle.std.specs.Prelude.{List, [], ◌∷◌, ◌++◌, slice_index, codes}
 use Rattle.std.specs.List.{range_with_len}
 use Rattle.std.specs.Fmt.{decimal}
 use Rattle.alp_base.specs.declared.choices.Access.TheVariants as access
@@ -77,7 +78,9 @@ visits pages k dice = let more = roll 3 dice in in_turn (λ n. visit pages k) (r
 
 -- one of twenty transactions is given up
 unfoldable pub ending : ℕ → Dice → List Line × Dice
-ending k dice = let side = roll 20 dice in (if side.0 == 0 then line.Abort (client_of k) ∷ [] else line.Commit (client_of k) ∷ [], side.1)
+ending k dice =
+    let side = roll 20 dice in
+    (if side.0 == 0 then line.Abort (client_of k) ∷ [] else line.Commit (client_of k) ∷ [], side.1)
 
 abbrev pub transaction : List ℕ → ℕ → Dice → List Line × Dice
 transaction pages k = both (beginning k) (both (visits pages k) (ending k))

@@ -10,4 +10,4 @@ mod script;
 mod setup;
 mod words;
 
-pub use script::{DRILL_SIZE_MOST, drill};
+pub use script::drill;

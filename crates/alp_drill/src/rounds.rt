@@ -2,7 +2,8 @@
 ghost use Rattle.std.specs.Prelude.{◌≡◌, ◌≤◌, ◌<◌, ◌+◌, ◌++◌, ◌∷◌, [], OnOk, min as lesser_said};
 ghost use Rattle.alp_drill.specs.Adds.{Adds};
 ghost use Rattle.alp_drill.specs.Files.{AreFiles};
-ghost use Rattle.alp_drill.specs.Rounds.{is_stop as is_stop_said, is_restart as is_restart_said, stopping, restarting, beginning, writing, visit as visit_said, visits as visits_said, ending, transaction as transaction_said, round as round_said, rounds as rounds_said};
+ghost use Rattle.alp_drill.specs.Rounds.{is_stop as is_stop_said, is_restart as is_restart_said, stopping, restarting, beginning, writing, ending};
+ghost use Rattle.alp_drill.specs.Rounds.{visit as visit_said, visits as visits_said, transaction as transaction_said, round as round_said, rounds as rounds_said};
 
 use crate::adding::add;
 use crate::dice::Dice;
@@ -13,10 +14,11 @@ use alp_lines::{FileWord, Line};
 use alp_modes::Mode;
 use std::alloc::Global;
 
-// A server stops in each round that is a multiple of this many, but in none before.
+// The rounds are parted into so many stretches of equal length, the last maybe shorter or missing; each but the first begins with
+// a stop.
 const STOPS: u32 = 6;
 
-// So many rounds behind the round of a stop the server is started again.
+// So many rounds behind the round of a stop the server is started again, where the stretch is that long.
 const DOWN: u32 = 3;
 
 // A server, of three, is stopped, or begun at.

@@ -12,9 +12,6 @@ use alp_lines::Line;
 use alp_script::NumberedLine;
 use std::alloc::Global;
 
-/// The most rounds of a drill.
-pub const DRILL_SIZE_MOST: u32 = 5_000;
-
 fn lines_of(alloc: Global, seed: u64, size: u32) -> Result<Vec<Line>, OutOfMemory>
     ensures { IfOk result (λ lines. lines.items ≡ drill_lines seed size) }
 {
@@ -51,7 +48,8 @@ fn counted(alloc: Global, lines: Vec<Line>) -> Result<Vec<NumberedLine>, OutOfMe
     Ok(script)
 }
 
-/// The script of the drill with this seed and so many rounds. It is a script of the language, and of three servers.
+/// The script of the drill with this seed and `size` rounds, at most 5,000: a script of the language, for three servers, whose
+/// lines are numbered from 1. Fails for want of memory alone.
 pub fn drill(alloc: Global, seed: u64, size: u32) -> Result<Vec<NumberedLine>, OutOfMemory>
     requires { size ≤ 5000 }
     // The lines are those that the seed and the size make.

@@ -1,5 +1,6 @@
 //! Runs of scripts, and what they tell.
 mod crashes;
+mod drills;
 mod faults;
 mod plays;
 mod rows;

@@ -1,5 +1,6 @@
 -- What the words of the program mean, those after its name.
-use Rattle.std.specs.Prelude.{◌≡◌, ◌⊎◌, ◌&&◌, ◌≤◌, ℕ, Bool, true, false, not, cond, List, [], ◌∷◌, codes, Option, None, Some, is_some, option_map, option_and_then, string_bytes}
+use Rattle.std.specs.Prelude.{◌≡◌, ◌⊎◌, ◌&&◌, ◌≤◌, ℕ, Bool, true, false, not, cond}
+use Rattle.std.specs.Prelude.{List, [], ◌∷◌, codes, string_bytes, Option, None, Some, is_some, option_map, option_and_then}
 use Rattle.std.specs.Str.Parse.{digits_value, without_leading_plus}
 use Rattle.clap.specs.ValueTests.{is_unsigned_in}
 use Rattle.clap.specs.Words.{Kinds, Row, fault_of, first_of, subcommand_of}
@@ -68,7 +69,9 @@ IsNamedBy words (command.Drill seed size folder) = DrillIsNamed words seed size 
 
 -- a number of a drill is missing among what stands in the matches of its command
 abbrev pub lacks_in : List Row → Bool
-lacks_in rows = not (is_some (number_in 0 18446744073709551615 (first_of (codes "seed") rows)) && is_some (number_in 1 5000 (first_of (codes "size") rows)))
+lacks_in rows =
+    not (is_some (number_in 0 18446744073709551615 (first_of (codes "seed") rows))
+    && is_some (number_in 1 5000 (first_of (codes "size") rows)))
 
 -- what stands there is this drill
 pub record StandsThere (rows : List Row) (seed size : ℕ) (folder : Option (List ℕ)) : Type 0 where

@@ -14,6 +14,7 @@ pub enum WordsFault {
     /// The command line of the program has no such words.
     #[error("bad words")]
     Bad,
+    /// There was no memory to read them.
     #[error("out of memory")]
     OutOfMemory,
 }

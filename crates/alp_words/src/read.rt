@@ -1,5 +1,6 @@
 //! From the words to the command.
-ghost use Rattle.std.specs.Prelude.{◌≡◌, ◌≤◌, ◌∷◌, false, true, map, string_bytes, codes, Option, Some, None, option_map, IfOk, IfErr, IfSome, OnOk};
+ghost use Rattle.std.specs.Prelude.{◌≡◌, ◌≤◌, ◌∷◌, false, true, map, string_bytes, codes};
+ghost use Rattle.std.specs.Prelude.{Option, Some, None, option_map, IfOk, IfErr, IfSome, OnOk};
 ghost use Rattle.clap.specs.Words.{first_of, found_of, rows_of, subcommand_name_of, subcommand_of, subcommand_rows_of};
 ghost use Rattle.alp_words.specs.Definition.{alpine};
 ghost use Rattle.alp_words.specs.Words.{are_bad, are_refused, number_in as number_in_said, IsOurs, IsNamedBy, IsDrillOf, lacks_in};
@@ -105,8 +106,9 @@ fn drill_in(alloc: Global, matches: &ArgMatches) -> Result<Command, WordsFault>
     })
 }
 
-/// The command that the words name, which are those after the program's name. They are bad where the command line has no
-/// place for one of them or wants one more, and where they ask for help.
+/// The command that the words name, which are those after the program's name. `Bad` where the command line does not take them: an
+/// unknown word or option, one that is missing, stands twice or has no value, a seed that is no number of 64 bits, a size that is
+/// none from 1 to 5,000, a request for help. `OutOfMemory` where memory is wanting.
 #[tactic(auto, unfolding(crate::specs::Words::are_bad))]
 pub fn read_command(alloc: Global, words: &[String]) -> Result<Command, WordsFault>
     // Words that are bad give no command.
