@@ -7,8 +7,6 @@ mod owner;
 mod rpc;
 
 use alp_base::Change;
-use alp_locks::{Grant, LockTable, Plan, Request};
-use alp_queue::Needs;
 use alp_vault::MemVault;
 use std::alloc::Global;
 use std::test::*;
@@ -58,12 +56,7 @@ fn bytes_of(alloc: Global, words: &str) -> Result<Vec<u8>, Fail> {
 fn crosses<T: Send + Sync>() {}
 
 #[test]
-fn tables_and_vaults_cross_threads(_rt: HostRuntime) {
-    crosses::<LockTable>();
-    crosses::<Plan>();
-    crosses::<Request>();
-    crosses::<Grant>();
-    crosses::<Needs>();
+fn vaults_cross_threads(_rt: HostRuntime) {
     crosses::<MemVault>();
     crosses::<Change>();
 }

@@ -68,3 +68,14 @@ fn conversions_come_before_arrivals(rt: HostRuntime) -> Result<(), Fail> {
     assert!(rt; table.is_granted(trans(2)) && !table.is_granted(trans(3)));
     Ok(())
 }
+
+fn crosses<T: Send + Sync>() {}
+
+#[test]
+fn tables_cross_threads(_rt: HostRuntime) {
+    crosses::<LockTable>();
+    crosses::<Plan>();
+    crosses::<Request>();
+    crosses::<Grant>();
+    crosses::<Needs>();
+}
