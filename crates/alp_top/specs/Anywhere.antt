@@ -68,20 +68,20 @@ pub record HasPlay (words : List (List ℕ)) (old new : Option (List ℕ)) : Typ
   pub lines : List NumberedLine
   pub script : AreToPlay command old new lines
 
--- a run of such lines ended for that fault
+-- there is a run of such lines that ends for that fault
 pub record IsEndedIn (words : List (List ℕ)) (old new : Option (List ℕ)) (f : RunFault) : Type 0 where
   pub play : HasPlay words old new
   pub ended : IsEndedFor play.lines f
 
--- The limit of the lines of a script; or that of the entries of a journal, where a run of the command's lines came to it; or the last epoch, of a
--- server that they declare.
+-- The limit of the lines of a script; or that of the entries of a journal, with a run of the command's lines that comes to it, by whatever
+-- entries; or the last epoch, of a server that they declare.
 abbrev pub IsLimitOf : (words : List (List ℕ)) → (old new : Option (List ℕ)) → ℕ → Type 0
 IsLimitOf words old new limit =
     (limit ≡ SCRIPT_LINES_MOST) ⊎ ((limit ≡ entries_limit) × IsEndedIn words old new run_fault.JournalFull) ⊎ ((limit ≡ 4294967295) × (server : ℕ) × IsDeclared words old new server)
 
 -- What a status tells of any bay: with `Done` the script was played through and the text is written, with `WriteFault` a prefix of
--- it; a limit has its cause, a disk that is none to start on is that of a server that the script declares, and a fault of a disk is
--- told of one that failed, of such a server. The bay is asked only where there are lines to play.
+-- it; a limit is one of three, a disk that is none to start on is that of a server that the script declares, and so is one that is told
+-- to have failed, with two states of a device between which a count of faults rose. The bay fails only where there are lines to play.
 pub record IsToldAnywhere {D : Type 0} {g : DiskGhosts D} (G : Ghosts (Kept D g)) (words : List (List ℕ)) (old new written_before written : Option (List ℕ)) (s : Status D g) : Type 0 where
   pub played : OnDone s (HasReported G words old new (λ text. Appends written_before written text))
   pub cut_off : OnWriteFault s (HasReported G words old new (λ text. (count : ℕ) × Appends written_before written (take count text)))

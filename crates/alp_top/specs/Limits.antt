@@ -14,7 +14,8 @@ use Rattle.alp_top.specs.declared.fault.NoReport.{NoReport}
 use Rattle.alp_top.specs.declared.fault.NoReport.TheVariants as fault
 
 -- The run of these lines ended for that fault: a line had more to send or to bring about, or the settling behind the lines had (`stopped`), and for
--- that there was no way (`ends`). The journals are those of what occurred by then.
+-- that there was no way (`ends`). The journals are those of what occurred by then. Of their entries nothing else is said, so each script has such
+-- a run that comes to a full journal.
 pub record IsEndedFor (lines : List NumberedLine) (f : RunFault) : Type 0 where
   pub first : Course
   pub begins : IsFirst first
@@ -28,7 +29,7 @@ pub record IsEndedFor (lines : List NumberedLine) (f : RunFault) : Type 0 where
   pub stopped : StopsInLine (servers_said lines) lines turns happened due ⊎ StopsBehindLines (servers_said lines) lines turns happened due
   pub ends : IsEndFor f last due
 
--- A full journal ends a run of the lines; the last epoch is that of a server that they declare, whose note had it or which came to it.
+-- There is a run of the lines that a full journal ends; the last epoch is that of a server that they declare.
 abbrev pub IsEndTold : List NumberedLine → NoReport → Type 0
 IsEndTold lines fault.JournalFull = IsEndedFor lines run_fault.JournalFull
 IsEndTold lines (fault.EpochEnd server) = IsOneOf (servers_said lines) server

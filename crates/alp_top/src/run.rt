@@ -108,8 +108,9 @@ pub fn run_alpine<S: Source, K: Sink, B: Bay>(
     out: &mut K,
     bay: &mut B,
 ) -> Status<B::Device>
-    // The headline: what is written is the report of a run of the script; the committed transactions are one thread's history, each
-    // everywhere or nowhere; and the disks are given back with what that ends in.
+    // The headline: what is written is the report of a run of the script, and the disks are given back with what its journals leave.
+    // Where the disks go together the committed transactions are one thread's history, each everywhere or nowhere, and what that ends
+    // in stands on the disks that are given back.
     ensures headline { IsTold (map string_bytes words.now) (B.tells bay.new) → OnDone result (IsPlayed ⟦<Store<Fuse<B::Device>> as Vault>⟧ B.Device.Disk (map string_bytes words.now) (S.left script.old) (S.left script.new) (K.written out.old) (K.written out.new) (B.at bay.old) (B.at bay.new)) }
     // After a write fault the log is of a run of the script too, and a prefix of its report is written.
     ensures cut_off { IsTold (map string_bytes words.now) (B.tells bay.new) → OnWriteFault result (IsCutOff ⟦<Store<Fuse<B::Device>> as Vault>⟧ B.Device.Disk (map string_bytes words.now) (S.left script.old) (S.left script.new) (K.written out.old) (K.written out.new) (B.at bay.old) (B.at bay.new)) }
@@ -124,15 +125,15 @@ pub fn run_alpine<S: Source, K: Sink, B: Bay>(
     ensures faults { IsReadFaultTold result (S.faults script.old) (S.faults script.new) × IsWriteFaultTold result (K.faults out.old) (K.faults out.new) × IsBayFaultTold result (B.faults bay.old) (B.faults bay.new) }
     // The bay or a disk ended the run: it failed in this call, or the disk is not one of its server's. Or memory was wanting.
     ensures disk { IsTold (map string_bytes words.now) (B.tells bay.new) → OnCutShort result (bay.new ≡ bay.old) (HasCause B.Device.Disk (map string_bytes words.now) (S.left script.old) (S.left script.new) (B.at bay.old) (B.at bay.new) (B.faults bay.old) (B.faults bay.new)) }
-    // Of any bay, also of one that does not tell what stands in it: what is written is the report of a run of the script, limits and
-    // servers are what they may be, and a fault of a disk is told only of one that failed in this call.
+    // Of any bay, also of one that does not tell what stands in it: what is written is the report of a run of the script, and limits and
+    // servers are what they may be. That the disk of the server failed in this call, and that a journal was full, `disk` says.
     ensures any_bay { IsToldAnywhere ⟦<Store<Fuse<B::Device>> as Vault>⟧ (map string_bytes words.now) (S.left script.old) (S.left script.new) (K.written out.old) (K.written out.new) result }
     // The disks are those of the folder that the words name, or in memory where they name none.
     ensures folder { IsFolderTold result (B.chosen bay.old) (B.chosen bay.new) (folder_named (map string_bytes words.now)) }
     // No disk is asked for before the script is read.
     ensures untaken { OnUntaken result (bay.new ≡ bay.old) }
-    // A script of the language is played to its end on disks that are new or their servers', where nothing fails, unless memory is
-    // wanting, a journal is full or a server has come to the last epoch.
+    // A script of the language is played to its end on disks that are new or their servers' with notes that go together, where nothing
+    // fails, unless memory is wanting, a journal is full or a server has come to the last epoch.
     ensures complete { are_bad (map string_bytes words.now) ≡ false → HasLinesFor (map string_bytes words.now) (S.left script.old) → (Rose (S.faults script.old) (S.faults script.new) → ⊥) → (Rose (K.faults out.old) (K.faults out.new) → ⊥)
         → (Rose (B.faults bay.old) (B.faults bay.new) → ⊥) → IsTold (map string_bytes words.now) (B.tells bay.new) → StartsHere B.Device.Disk (map string_bytes words.now) (S.left script.old) (S.left script.new) (B.at bay.old) (B.at bay.new) → IsPlayedOrMemory result }
     // Nothing is written but the report.
