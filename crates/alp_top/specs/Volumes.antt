@@ -64,7 +64,8 @@ pub record IsOpenedNew (sizes : Sizes) (o : Start) (notes : Notes) : Type 0 wher
   pub noted : notes ≡ map.insert map.empty clock_name (clock_form.spell (record { epoch = 1; clock = 0 }))
 
 -- It was not: the server opened on what the disk's reading says, which is the server's, one of so many, in the sizes of the anchor that
--- counts there, and in the epoch after that of its note, which it raised.
+-- counts there, and in the epoch after that of its note, which it raised. The notes that it found go together, with one another and with the
+-- files, and have room.
 pub record IsOpenedOn (server servers n : ℕ) (image : Image) (o : Start) (notes : Notes) : Type 0 where
   pub anchor : Anchor
   pub counts : Counts n image anchor
@@ -73,6 +74,7 @@ pub record IsOpenedOn (server servers n : ℕ) (image : Image) (o : Start) (note
   pub held : Contents
   pub holds : Holds server servers n o.sizes.home image held
   pub own : AreOfServer server servers held
+  pub together : AreTogether server servers (epoch_after held) anchor.sizes held.cells held.notes
   pub cells : o.cells ≡ held.cells
   pub next : raised held ≡ Ok (record { epoch = o.epoch; clock = o.clock })
   pub noted : notes ≡ map.insert held.notes clock_name (clock_form.spell (record { epoch = o.epoch; clock = o.clock }))
