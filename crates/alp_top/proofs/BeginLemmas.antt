@@ -170,6 +170,7 @@ module _ {V D : Type 0} (G : VaultGhosts V) (g : Ghosts D) (sizes : Sizes) (serv
     held = before;
     holds = subst (λ (s : Sizes). Holds server servers (g.size d) s.home (g.seen d) before) (sym sizes_are) holds;
     own = own;
+    together = subst (λ (s : Sizes). AreTogether server servers (epoch_after before) s before.cells before.notes) same (rose.together told);
     cells = cells_are;
     next = rose.next ∙ ap Ok (sym note_is);
     noted = noted;

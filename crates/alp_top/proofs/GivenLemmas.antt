@@ -24,7 +24,6 @@ use Rattle.alp_script.specs.declared.numbered.NumberedLine.{NumberedLine}
 use Rattle.alp_vault.specs.Vault.{IsSameVault}
 use Rattle.alp_vault.specs.declared.vault.Vault.{Ghosts as VaultGhosts}
 use Rattle.alp_cluster.specs.Gathered.{AreStationsOf}
-use Rattle.alp_cluster.specs.Runs.{StopNone}
 use Rattle.alp_cluster.specs.Servers.{HasGoneBy}
 use Rattle.alp_cluster.specs.Station.{standing, HasVault}
 use Rattle.alp_cluster.specs.Stations.{IsOfRun, LeavesOf, HaveGone}
@@ -37,7 +36,7 @@ use Rattle.alp_cluster.specs.declared.stations.Stations.{Stations}
 use Rattle.alp_top.specs.Disks.{IsStarted, IsBegunAt, AreBegun, AreOthersSame, IsUntaken, IsOfServer, IsRefused, notes_in, HaveBegunSome, IsGiven, IsLeftAt, AreLeftBy}
 use Rattle.alp_top.specs.Faults.{of_bay}
 use Rattle.alp_top.specs.Pairs.{ArePaired}
-use Rattle.alp_top.specs.Volumes.{pages_of, IsUnplayed, IsReturned, AreReturned, WhyNotBegun, StopsAt, IsLeftWhole, IsAtItsEnd, IsNoVolume, IsDamaged, HasRunCause}
+use Rattle.alp_top.specs.Volumes.{pages_of, IsUnplayed, IsReturned, AreReturned, WhyNotBegun, StopsAt, IsAtItsEnd, IsNoVolume, IsDamaged, HasRunCause}
 use Rattle.alp_top.specs.declared.fault.NoReport.{NoReport}
 use Rattle.alp_top.specs.declared.fault.NoReport.TheVariants as fault
 use Rattle.alp_top.proofs.BeginLemmas.{holds_by}
@@ -93,8 +92,7 @@ module _ {D : Type 0} (g : Ghosts D) (lines : List NumberedLine) (before after :
 
   pub bay_ended : (f : BayFault) (bay_before bay_after : ℕ) → 1 ≤ servers_said lines → ((n : ℕ) → after n ≡ before n) → IsUntaken (of_bay f) bay_before bay_after → HasRunCause g lines before after bay_before bay_after (of_bay f)
   bay_ended bay_fault.Failed bay_before bay_after some same rose = (0, some, none_returned (IsUnplayed g lines) same, rose)
-  bay_ended bay_fault.OutOfMemory bay_before bay_after some same rose =
-      record { count = 0; few = omega arith; returned = none_returned (λ n taken given. (StopNone lines → g.faults given ≡ g.faults taken) × (IsLeftWhole g lines n taken given ⊎ (n ≡ 0))) same }
+  bay_ended bay_fault.OutOfMemory bay_before bay_after some same rose = inl (0, some, none_returned (IsUnplayed g lines) same)
 
 -- ---- a server was not started
 
@@ -203,10 +201,6 @@ module _ {V D : Type 0} (G : VaultGhosts V) (g : Ghosts D) (tells : Bool) (told 
     others = λ n out. out_same n (λ h1. out (record { first = h1.first; last = (let high : n ≤ k = h1.last in omega (arith, high)) })) (λ is. out (record { first = omega (arith, is); last = omega (arith, is) }));
   }
 
-  -- where nothing was played it is whole
-  whole_of : (n : ℕ) (d e : D) → IsUnplayed g lines n d e → IsLeftWhole g lines n d e
-  whole_of n d e u = record { opening = u.opening; notes = u.notes; started = u.started; sound = u.sound; new = u.new; found = u.found; left = λ image may. (let (c, holds, said) = u.left image may in (c, holds)); read = u.read }
-
   below : (n s : ℕ) → IsOneOf k n → s ≡ k + 1 → n ≡ s → ⊥
   below n s here is same = (let high : n ≤ k = here.last in omega (arith, high, is, same))
 
@@ -237,30 +231,11 @@ module _ {V D : Type 0} (G : VaultGhosts V) (g : Ghosts D) (tells : Bool) (told 
       go : (q : NoReport) → Refusal q → IsOfServer g (k + 1) q → Next q → HasRunCause g lines before after bay_before bay_after q
       go fault.Bay (inl x) of make = (k, h.few, all_back (IsUnplayed g lines) (λ n here d e u. u) x.0, x.1)
       go fault.Bay (inr x) of make = absurd x.left
-      go fault.OutOfMemory (inl x) of make = record {
-        count = k;
-        few = (let low : k < servers_said lines = h.few in omega (arith, low));
-        returned = all_back (λ n d e. (StopNone lines → g.faults e ≡ g.faults d) × (IsLeftWhole g lines n d e ⊎ (n ≡ k))) (λ n here d e u. ((λ none. u.unfailed), inl (whole_of n d e u))) x.0;
-      }
-      go fault.OutOfMemory (inr x) of make = record {
-        count = k + 1;
-        few = (let low : k < servers_said lines = h.few in omega (arith, low));
-        returned =
-            all_with (λ n d e. (StopNone lines → g.faults e ≡ g.faults d) × (IsLeftWhole g lines n d e ⊎ (n ≡ k + 1))) (λ n here d e u. ((λ none. u.unfailed), inl (whole_of n d e u)))
-            (make (λ n d e. (StopNone lines → g.faults e ≡ g.faults d) × (IsLeftWhole g lines n d e ⊎ (n ≡ k + 1))) x (λ d e why. ((λ none. why), inr refl)));
-      }
+      go fault.OutOfMemory (inl x) of make = inl (k, h.few, all_back (IsUnplayed g lines) (λ n here d e u. u) x.0)
+      go fault.OutOfMemory (inr x) of make = inr (inl (k + 1, stops (λ n d e. g.faults e ≡ g.faults d) (k + 1) refl (make (λ n d e. g.faults e ≡ g.faults d) x (λ d e why. why))))
       go fault.JournalFull x of make = absurd of
       go (fault.Disk s) (inl x) of make = absurd x.1
-      go (fault.Disk s) (inr x) of make = record {
-        count = k + 1;
-        few = (let low : k < servers_said lines = h.few in omega (arith, low));
-        cause = (let is : s ≡ k + 1 = of.0 in record { first = omega (arith, is); last = omega (arith, is) });
-        returned =
-            all_with (λ n d e. (n ≡ s → Rose (g.faults d) (g.faults e)) × ((n ≡ s → ⊥) → StopNone lines → g.faults e ≡ g.faults d) × (IsLeftWhole g lines n d e ⊎ ((n ≡ s) × (n ≡ k + 1))))
-            (λ n here d e u. ((λ is. absurd (below n s here of.0 is)), (λ other none. u.unfailed), inl (whole_of n d e u)))
-            (make (λ n d e. (n ≡ s → Rose (g.faults d) (g.faults e)) × ((n ≡ s → ⊥) → StopNone lines → g.faults e ≡ g.faults d) × (IsLeftWhole g lines n d e ⊎ ((n ≡ s) × (n ≡ k + 1)))) x
-            (λ d e why. ((λ is. why.1), (λ other. absurd (other (sym of.0))), inr (sym of.0, refl))));
-      }
+      go (fault.Disk s) (inr x) of make = inl (stops (λ n d e. Rose (g.faults d) (g.faults e)) s of.0 (make (λ n d e. Rose (g.faults d) (g.faults e)) x (λ d e why. why.1)))
       go (fault.EpochEnd s) (inl x) of make = absurd x.1
       go (fault.EpochEnd s) (inr x) of make = inl (stops (IsAtItsEnd g lines) s of (make (IsAtItsEnd g lines) x (λ d e why. (why.1, why.2))))
       go (fault.NotAVolume s found) (inl x) of make = absurd x.1

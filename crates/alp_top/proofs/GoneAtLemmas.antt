@@ -272,11 +272,7 @@ module _ {V D : Type 0} (G : VaultGhosts V) (g : Ghosts D) (tells : Bool) (lines
         }
 
     wanting : (StopNone lines → (n : ℕ) (here : IsOneOf (servers_said lines) n) → g.faults (at n here).given ≡ g.faults (at n here).taken) → AreLeftWanting g lines before after
-    wanting same = record {
-      count = servers_said lines;
-      few = omega arith;
-      returned = returned (λ n d e. (StopNone lines → g.faults e ≡ g.faults d) × (IsLeftWhole g lines n d e ⊎ (n ≡ servers_said lines))) (λ n here. ((λ none. same none n here), inl (whole_at n here)));
-    }
+    wanting same = record { returned = returned (λ n d e. (StopNone lines → g.faults e ≡ g.faults d) × IsLeftWhole g lines n d e) (λ n here. ((λ none. same none n here), whole_at n here)) }
 
     vault_told : (n : ℕ) (here : IsOneOf (servers_said lines) n) → IsTrue (G.tells (at n here).node.kept.vault)
     vault_told n here = (let x = at n here in subst IsTrue (sym x.begun.started.telling) (x.begun.told told))
@@ -298,18 +294,16 @@ module _ {V D : Type 0} (G : VaultGhosts V) (g : Ghosts D) (tells : Bool) (lines
         failing : (s : ℕ) → IsOfRun (servers_said lines) s → ((n : ℕ) (here : IsOneOf (servers_said lines) n) → n ≡ s → Rose (G.faults (at n here).node.kept.vault) (G.faults (at n here).vault))
             → (StopNone lines → (n : ℕ) (here : IsOneOf (servers_said lines) n) → (n ≡ s → ⊥) → G.faults (at n here).vault ≡ G.faults (at n here).node.kept.vault) → HasRunCause g lines before after bay_before bay_after (fault.Disk s)
         failing s among rose same =
-            record {
-              count = servers_said lines;
-              few = omega arith;
+            inr (record {
               cause = one_of s among;
               returned =
-                  returned (λ n d e. (n ≡ s → Rose (g.faults d) (g.faults e)) × ((n ≡ s → ⊥) → StopNone lines → g.faults e ≡ g.faults d) × (IsLeftWhole g lines n d e ⊎ ((n ≡ s) × (n ≡ servers_said lines))))
-                  (λ n here. ((λ is. rose_for n here (rose n here is)), (λ other none. same_for n here (same none n here other)), inl (whole_at n here)));
-            }
+                  returned (λ n d e. (n ≡ s → Rose (g.faults d) (g.faults e)) × ((n ≡ s → ⊥) → StopNone lines → g.faults e ≡ g.faults d) × IsLeftWhole g lines n d e)
+                  (λ n here. ((λ is. rose_for n here (rose n here is)), (λ other none. same_for n here (same none n here other)), whole_at n here));
+            })
 
         go : (q : RunFault) → Facts q → HasRunCause g lines before after bay_before bay_after (played q)
         go (run_fault.DiskFault s) x = failing s (x.failed_so 1 first_here).0 (λ n here is. (x.failed_so n here).1 (sym is)) (λ none n here other. (x.counted_so none n here).1 (λ is. other (sym is)))
-        go run_fault.OutOfMemory x = wanting (λ none n here. same_for n here (x.counted_so none n here))
+        go run_fault.OutOfMemory x = inr (inr (wanting (λ none n here. same_for n here (x.counted_so none n here))))
         go run_fault.JournalFull x =
             let y = x.filled refl in (
               y.last,
@@ -321,7 +315,7 @@ module _ {V D : Type 0} (G : VaultGhosts V) (g : Ghosts D) (tells : Bool) (lines
             )
         go (run_fault.Start s (start_fault.Vault vault_fault.Failed)) x = failing s (x.failed_so 1 first_here).0 (λ n here is. (x.failed_so n here).1 (sym is)) (λ none n here other. (x.counted_so none n here).1 (λ is. other (sym is)))
         go (run_fault.Start s (start_fault.Vault vault_fault.Stopped)) x = failing s (x.failed_so 1 first_here).0 (λ n here is. absurd ((x.failed_so n here).1 (sym is))) (λ none n here other. (x.counted_so none n here).1 (λ is. other (sym is)))
-        go (run_fault.Start s (start_fault.Vault vault_fault.OutOfMemory)) x = wanting (λ none n here. same_for n here (elim (cases_eq s n) [ inl is ↦ (x.counted_so none n here).0 is | inr away ↦ (x.counted_so none n here).1 away ]))
+        go (run_fault.Start s (start_fault.Vault vault_fault.OutOfMemory)) x = inr (inr (wanting (λ none n here. same_for n here (elim (cases_eq s n) [ inl is ↦ (x.counted_so none n here).0 is | inr away ↦ (x.counted_so none n here).1 away ]))))
         go (run_fault.Start s (start_fault.Vault (vault_fault.NotAVolume found))) x = absurd (x.told_so s (one_of s (x.failed_so 1 first_here).0) refl)
         go (run_fault.Start s (start_fault.Vault (vault_fault.Damaged place))) x = absurd (x.told_so s (one_of s (x.failed_so 1 first_here).0) refl)
         go (run_fault.Start s start_fault.BadNote) x = absurd (x.told_so s (one_of s (x.failed_so 1 first_here).0) refl)

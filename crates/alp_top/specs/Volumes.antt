@@ -64,7 +64,8 @@ pub record IsOpenedNew (sizes : Sizes) (o : Start) (notes : Notes) : Type 0 wher
   pub noted : notes ≡ map.insert map.empty clock_name (clock_form.spell (record { epoch = 1; clock = 0 }))
 
 -- It was not: the server opened on what the disk's reading says, which is the server's, one of so many, in the sizes of the anchor that
--- counts there, and in the epoch after that of its note, which it raised.
+-- counts there, and in the epoch after that of its note, which it raised. The notes that it found go together, with one another and with the
+-- files, and have room.
 pub record IsOpenedOn (server servers n : ℕ) (image : Image) (o : Start) (notes : Notes) : Type 0 where
   pub anchor : Anchor
   pub counts : Counts n image anchor
@@ -73,6 +74,7 @@ pub record IsOpenedOn (server servers n : ℕ) (image : Image) (o : Start) (note
   pub held : Contents
   pub holds : Holds server servers n o.sizes.home image held
   pub own : AreOfServer server servers held
+  pub together : AreTogether server servers (epoch_after held) anchor.sizes held.cells held.notes
   pub cells : o.cells ≡ held.cells
   pub next : raised held ≡ Ok (record { epoch = o.epoch; clock = o.clock })
   pub noted : notes ≡ map.insert held.notes clock_name (clock_form.spell (record { epoch = o.epoch; clock = o.clock }))
@@ -274,20 +276,14 @@ pub record IsLeftWhole {D : Type 0} (g : Ghosts D) (lines : List NumberedLine) (
   pub left : (image : Image) → g.may_leave given image → (c : Contents) × Holds server (servers_said lines) (g.size given) opening.sizes.home image c
   pub read : g.may_leave given (g.seen given)
 
--- Memory was wanting. The disks of so many servers were taken, and each is given back and is whole; only the last one's may be as its server, which did not
--- start, left it. Without a line that stops a disk none failed.
+-- All servers were started, and memory was wanting. Each disk is given back and is whole. Without a line that stops a disk none failed.
 pub record AreLeftWanting {D : Type 0} (g : Ghosts D) (lines : List NumberedLine) (before after : ℕ → Option D) : Type 0 where
-  pub count : ℕ
-  pub few : count ≤ servers_said lines
-  pub returned : AreReturned g lines count before after (λ n taken given. (StopNone lines → g.faults given ≡ g.faults taken) × (IsLeftWhole g lines n taken given ⊎ (n ≡ count)))
+  pub returned : AreReturned g lines (servers_said lines) before after (λ n taken given. (StopNone lines → g.faults given ≡ g.faults taken) × IsLeftWhole g lines n taken given)
 
--- The disk of this server failed. Those of so many were taken, and each is given back and is whole; only this one's, if it was the last, may be as its
--- server, which did not start, left it. Without a line that stops a disk no other one failed.
+-- All were started, and the disk of this one failed. Each disk is given back and is whole. Without a line that stops a disk no other one failed.
 pub record AreLeftFailing {D : Type 0} (g : Ghosts D) (lines : List NumberedLine) (server : ℕ) (before after : ℕ → Option D) : Type 0 where
-  pub count : ℕ
-  pub few : count ≤ servers_said lines
-  pub cause : IsOneOf count server
-  pub returned : AreReturned g lines count before after (λ n taken given. (n ≡ server → Rose (g.faults taken) (g.faults given)) × ((n ≡ server → ⊥) → StopNone lines → g.faults given ≡ g.faults taken) × (IsLeftWhole g lines n taken given ⊎ ((n ≡ server) × (n ≡ count))))
+  pub cause : IsOneOf (servers_said lines) server
+  pub returned : AreReturned g lines (servers_said lines) before after (λ n taken given. (n ≡ server → Rose (g.faults taken) (g.faults given)) × ((n ≡ server → ⊥) → StopNone lines → g.faults given ≡ g.faults taken) × IsLeftWhole g lines n taken given)
 
 -- why a disk is none to start on, of those that name it
 abbrev pub IsNoVolume : {D : Type 0} → Ghosts D → List NumberedLine → (server : ℕ) → List ℕ → D → D → Type 0
@@ -301,18 +297,22 @@ IsDamaged g lines server place taken given =
 abbrev pub IsAtItsEnd : {D : Type 0} → Ghosts D → List NumberedLine → (server : ℕ) → D → D → Type 0
 IsAtItsEnd g lines server taken given = IsLeftAlone g (sizes_said lines server) taken given × HasNoEpoch server (servers_said lines) (g.size taken) (g.seen taken)
 
--- Why a run ended before its report, and how the bay stands then. Where the bay failed, so many servers were started, and the next disk was not
--- taken. A disk that is none to start on is the first one that is not. Where a disk failed it is one that was taken, and where memory was
--- wanting all that were taken are given back. A full journal, and an epoch that is the last one of a server in the run, come when all were
--- started, and each disk comes back as its server's journal says. A server that starts again in the run finds its own notes good, in whatever it
--- was stopped.
+-- Why a run ended before its report, and how the bay stands then. Where not all servers were started, those that were did nothing. The bay
+-- failed, or memory was wanting, and the next disk was not taken; or the next server was not started on its disk, since that failed or is none to
+-- start on, the first one that is not, or memory was wanting. Where all were started, a disk failed or memory was wanting, and all disks are given
+-- back. A full journal, and an epoch that is the last one of a server in the run, come when all were started, and each disk comes back as its
+-- server's journal says. A server that starts again in the run finds its own notes good, in whatever it was stopped.
 abbrev pub HasRunCause : {D : Type 0} → Ghosts D → List NumberedLine → (before after : ℕ → Option D) → (bay_before bay_after : ℕ) → NoReport → Type 0
 HasRunCause g lines before after bay_before bay_after fault.Bay = (count : ℕ) × (count < servers_said lines) × AreReturned g lines count before after (IsUnplayed g lines) × Rose bay_before bay_after
-HasRunCause g lines before after bay_before bay_after fault.OutOfMemory = AreLeftWanting g lines before after
+HasRunCause g lines before after bay_before bay_after fault.OutOfMemory =
+    ((count : ℕ) × (count < servers_said lines) × AreReturned g lines count before after (IsUnplayed g lines))
+    ⊎ ((server : ℕ) × StopsAt g lines server before after (λ taken given. g.faults given ≡ g.faults taken))
+    ⊎ AreLeftWanting g lines before after
 HasRunCause g lines before after bay_before bay_after fault.JournalFull =
     (last : Course) × IsCutShort lines run_fault.JournalFull last × (server : ℕ) × IsOneOf (servers_said lines) server
     × AreReturned g lines (servers_said lines) before after (λ n taken given. IsLeftBy g lines last n taken given × (n ≡ server → HasFilled g lines last n taken given))
-HasRunCause g lines before after bay_before bay_after (fault.Disk server) = AreLeftFailing g lines server before after
+HasRunCause g lines before after bay_before bay_after (fault.Disk server) =
+    StopsAt g lines server before after (λ taken given. Rose (g.faults taken) (g.faults given)) ⊎ AreLeftFailing g lines server before after
 HasRunCause g lines before after bay_before bay_after (fault.EpochEnd server) =
     StopsAt g lines server before after (IsAtItsEnd g lines server)
     ⊎ ((last : Course) × IsCutShort lines (run_fault.Start server EpochEnd) last × IsOneOf (servers_said lines) server
