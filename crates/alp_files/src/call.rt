@@ -17,7 +17,7 @@ pub enum PropChange {
 /// What a client asks of a server, as in Brown, Kolling and Taft (1985).
 ///
 /// Opens are numbered from 1 in each transaction's part at a server.
-#[derive(Clone, Drop)]
+#[derive(Clone, Drop, PartialEq, Eq)]
 pub enum Call {
     /// Begins a session, as this principal.
     Hello {

@@ -12,7 +12,7 @@ pub enum Ended {
 }
 
 /// What a server answers.
-#[derive(Drop)]
+#[derive(Drop, PartialEq, Eq)]
 pub enum Reply {
     Welcome { epoch: u32 },
     Begun { trans: TransId },

@@ -8,7 +8,7 @@ pub const REQUEST_MARK: u8 = 0x51;
 pub const REPLY_MARK: u8 = 0x50;
 
 /// A call, with what the server needs to tell it from others.
-#[derive(Drop)]
+#[derive(Drop, PartialEq, Eq)]
 pub struct Request {
     /// From 1 to 16.
     pub client: u8,
@@ -21,7 +21,7 @@ pub struct Request {
 }
 
 /// The reply to the request of that client and number.
-#[derive(Drop)]
+#[derive(Drop, PartialEq, Eq)]
 pub struct ReplyFrame {
     /// From 1 to 16.
     pub client: u8,
