@@ -1,5 +1,5 @@
-//! Tests of the crates of the disk: what a pick leaves of a disk in memory, disks in files, spellings of anchors and batches, and
-//! where disks stand.
+//! Tests of the crates of the disk: disks and what a crash leaves of them, anchors, batches, records, notes, page buffers, new
+//! volumes, and where disks stand.
 #![tactic(auto)]
 
 #[cfg(test)]

@@ -1,6 +1,6 @@
 //! Tests of alp_batch.
-use alp_base::Page;
-use alp_batch::{Batch, decode};
+use alp_base::{Bytes, NoteChange, Page, PageRef};
+use alp_batch::*;
 use std::alloc::Global;
 use std::test::*;
 
@@ -13,7 +13,12 @@ const NOTES: &[u8] = &[
     0, 2, 1, 1, 0x43, 0, 0, 0, 12, 0, 0, 0, 3, 0, 0, 0, 0, 0, 0, 0, 9, 0, 2, 0x44, 0x41,
 ];
 
-const CLOCK: &[u8] = &[0, 0, 0, 3, 0, 0, 0, 0, 0, 0, 0, 9];
+// Places in the dump.
+const HIGH_BYTE: usize = 4;
+
+const LOW_BYTE: usize = 5;
+
+const FIRST_NAME: usize = 1038;
 
 fn add(out: &mut Vec<u8>, bytes: &[u8], zeros: usize) -> Result<(), Fail> {
     out.extend_from_slice(bytes)?;
@@ -31,31 +36,75 @@ fn dump(alloc: Global) -> Result<Vec<u8>, Fail> {
     Ok(out)
 }
 
-fn has_images(batch: &Batch) -> bool {
-    let [first, second] = batch.images.as_slice() else {
-        return false;
-    };
-    first.at == 300
-        && first.page.bytes() == Page::beginning(b"A").bytes()
-        && second.at == 4097
-        && second.page.bytes() == Page::beginning(b"B").bytes()
+fn image(alloc: Global, at: u32, first: u8) -> Result<PageImage, Fail> {
+    let page = PageRef::new(alloc, Page::beginning(&[first]))?;
+    Ok(PageImage { at, page })
 }
 
-// A note gets a value, and another ends.
-fn has_notes(batch: &Batch) -> bool {
-    let [clock, decision] = batch.notes.as_slice() else {
-        return false;
-    };
-    matches!(&clock.value, Some(value) if value.as_slice() == CLOCK)
-        && clock.name.as_slice() == b"C".as_slice()
-        && decision.name.as_slice() == b"DA".as_slice()
-        && decision.value.is_none()
+fn text(alloc: Global, bytes: &[u8]) -> Result<Bytes, Fail> {
+    let copy = Vec::from_slice(alloc, bytes)?;
+    Ok(Bytes::new(copy))
+}
+
+fn changed(alloc: Global, place: usize, byte: u8) -> Result<Option<Batch>, Fail> {
+    let mut bytes = dump(alloc)?;
+    let found = bytes.get_mut(place).ok_or("a place")?;
+    *found = byte;
+    let found = decode(alloc, bytes.as_slice())?;
+    Ok(found)
 }
 
 #[test]
 fn a_batch_is_its_dump(rt: HostRuntime) -> Result<(), Fail> {
-    let bytes = dump(rt.alloc())?;
-    let batch = decode(rt.alloc(), bytes.as_slice())?.ok_or("a batch")?;
-    assert!(rt; has_images(&batch) && has_notes(&batch));
+    let alloc = rt.alloc();
+    let bytes = dump(alloc)?;
+    let found = decode(alloc, bytes.as_slice())?;
+    let batch = found.ok_or("a batch")?;
+    let wanted = [image(alloc, 300, 0x41)?, image(alloc, 4097, 0x42)?];
+    assert!(rt; batch.images.as_slice() == wanted.as_slice());
+    let again = encode(alloc, &batch)?;
+    assert!(rt; again.as_slice() == bytes.as_slice());
     Ok(())
+}
+
+#[test]
+fn notes_end_or_get_a_value(rt: HostRuntime) -> Result<(), Fail> {
+    let alloc = rt.alloc();
+    let bytes = dump(alloc)?;
+    let found = decode(alloc, bytes.as_slice())?;
+    let batch = found.ok_or("a batch")?;
+    let clock = NoteChange {
+        name: text(alloc, b"C")?,
+        value: Some(text(alloc, &[0, 0, 0, 3, 0, 0, 0, 0, 0, 0, 0, 9])?),
+    };
+    let decision = NoteChange {
+        name: text(alloc, b"DA")?,
+        value: None,
+    };
+    let wanted = [clock, decision];
+    assert!(rt; batch.notes.as_slice() == wanted.as_slice());
+    Ok(())
+}
+
+#[test]
+fn what_is_outside_is_no_batch(rt: HostRuntime) -> Result<(), Fail> {
+    let alloc = rt.alloc();
+    assert!(rt; changed(alloc, LOW_BYTE, 0x2d)?.is_some());
+    assert!(rt; changed(alloc, HIGH_BYTE, 0x10)?.is_none());
+    assert!(rt; changed(alloc, FIRST_NAME, 0x45)?.is_none());
+    assert!(rt; changed(alloc, 1, 1)?.is_none());
+    assert!(rt; changed(alloc, 1, 3)?.is_none());
+    Ok(())
+}
+
+/// What threads may share and hand over.
+fn crosses<T: Send + Sync>(_value: &T) {}
+
+#[test]
+fn batches_cross_threads(rt: HostRuntime) {
+    let alloc = rt.alloc();
+    crosses(&Batch {
+        images: Images::new(Vec::new(alloc)),
+        notes: NoteChanges::new(Vec::new(alloc)),
+    });
 }

@@ -1,9 +1,9 @@
-//! Tests of alp_bay: volumes of a folder.
+//! A bay hands out what it was given.
 ghost use Rattle.std.specs.Prelude.{◌≡◌};
 ghost use Rattle.alp_base.specs.declared.allowance.Allowance.TheVariants.{Free};
 
 use alp_base::{Halt, Page};
-use alp_bay::{Bay, BayFault, HostBay};
+use alp_bay::{Bay, BayFault, HostBay, MemBay};
 use alp_disk::Disk;
 use std::fs::File;
 use std::path::PathBuf;
@@ -47,6 +47,18 @@ fn taken_again<B: Bay>(bay: &mut B) -> Result<(u8, u32), Fail> {
     Ok((byte, again.pages()))
 }
 
+#[test]
+fn a_disk_that_was_given_back_stands_there(rt: HostRuntime) -> Result<(), Fail> {
+    let mut bay = MemBay::new(rt.alloc()).ok().ok_or("memory")?;
+    bay.choose(None).ok().ok_or("choice")?;
+    let (byte, pages) = taken_again(&mut bay)?;
+    assert_eq!(rt; byte, 7);
+    assert_eq!(rt; pages, 4);
+    let other = bay.take(2, 8).ok().ok_or("another disk")?;
+    assert_eq!(rt; other.pages(), 8);
+    Ok(())
+}
+
 // A new folder of this process.
 fn new_folder(rt: &HostRuntime) -> Result<PathBuf, Fail> {
     let name = format!(in rt.alloc(); "alp_bay-test-{}", process::id(rt.process()))?;
@@ -62,61 +74,37 @@ fn bay_of(rt: HostRuntime, folder: &str) -> Result<HostBay<HostRuntime>, Fail> {
     Ok(bay)
 }
 
-// Whether another bay of the folder meets what was synced there, and the bay has no disk while the other has it.
-fn is_kept<B: Bay>(other: &mut B, bay: &mut B) -> Result<bool, Fail> {
-    let mut disk = other.take(1, 9).ok().ok_or("the disk again")?;
-    let byte = last_of(&mut disk).ok().ok_or("a read")?;
-    Ok(byte == 7 && bay.take(1, 4).err() == Some(BayFault::Failed))
-}
-
-// Whether the disk of another server is a new one.
-fn has_new<B: Bay>(bay: &mut B) -> Result<bool, Fail> {
-    let disk = bay.take(3, 5).ok().ok_or("a disk of another server")?;
-    Ok(disk.pages() == 5)
-}
-
-// Whether the bay refuses a file of no whole number of pages.
-fn refuses_uneven<B: Bay>(rt: &HostRuntime, path: &PathBuf, bay: &mut B) -> Result<bool, Fail> {
-    let odd = File::create(rt, path.join(rt.alloc(), "server2.vol")?.as_path())?;
-    odd.set_len(1025)?;
-    Ok(bay.take(2, 4).err() == Some(BayFault::Failed))
-}
-
-// Whether two bays of the folder do all this.
-fn keep_volumes<B: Bay>(
-    rt: &HostRuntime,
-    path: &PathBuf,
-    bay: &mut B,
-    other: &mut B,
-) -> Result<bool, Fail> {
-    let again = taken_again(bay)? == (7, 4);
-    let kept = is_kept(other, bay)?;
-    let refused = refuses_uneven(rt, path, bay)?;
-    let new = has_new(bay)?;
-    Ok(again && kept && refused && new)
-}
-
-// So of bays of the host.
-fn host_keeps(rt: HostRuntime, path: &PathBuf) -> Result<bool, Fail> {
-    let folder = path.as_path().to_str().ok_or("a name")?;
-    let (mut bay, mut other) = (bay_of(rt, folder)?, bay_of(rt, folder)?);
-    keep_volumes(&rt, path, &mut bay, &mut other)
-}
-
 #[test]
 fn a_folder_keeps_its_volumes(rt: HostRuntime) -> Result<(), Fail> {
     let path = new_folder(&rt)?;
-    let kept = host_keeps(rt, &path)?;
+    let folder = path.as_path().to_str().ok_or("a name")?;
+    let mut bay = bay_of(rt, folder)?;
+    let again = taken_again(&mut bay)?;
+    // Another bay meets what was synced there; while it has the disk, no other bay does.
+    let mut second = bay_of(rt, folder)?;
+    let mut disk = second.take(1, 9).ok().ok_or("the disk again")?;
+    let byte = last_of(&mut disk).ok().ok_or("a read")?;
+    let refused = bay.take(1, 4).err();
+    drop(disk);
+    let third = bay.take(3, 5).ok().ok_or("a disk of another server")?;
+    let odd = File::create(&rt, path.join(rt.alloc(), "server2.vol")?.as_path())?;
+    odd.set_len(1025)?;
+    let uneven = bay.take(2, 4).err();
     fs::remove_dir_all(&rt, path.as_path())?;
-    assert!(rt; kept);
+    assert_eq!(rt; again, (7, 4));
+    assert_eq!(rt; byte, 7);
+    assert_eq!(rt; refused, Some(BayFault::Failed));
+    assert_eq!(rt; third.pages(), 5);
+    assert_eq!(rt; uneven, Some(BayFault::Failed));
     Ok(())
 }
 
 #[test]
 fn no_other_name_is_a_folder(rt: HostRuntime) -> Result<(), Fail> {
     let mut bay = HostBay::new(rt.alloc(), rt).ok().ok_or("memory")?;
-    for name in ["", "/dev/null", "/no/such/folder"] {
-        assert!(rt; bay.choose(Some(name)) == Err(BayFault::Failed), "{name}");
-    }
+    assert_eq!(rt; bay.choose(Some("")), Err(BayFault::Failed));
+    assert_eq!(rt; bay.choose(Some("/dev/null")), Err(BayFault::Failed));
+    assert_eq!(rt; bay.choose(Some("/no/such/folder")), Err(BayFault::Failed));
+    assert_eq!(rt; taken_again(&mut bay)?, (7, 4));
     Ok(())
 }

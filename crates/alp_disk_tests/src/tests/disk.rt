@@ -1,10 +1,12 @@
 //! Tests of alp_disk.
+ghost use Rattle.std.specs.Prelude.{◌<◌};
+
 use alp_base::{Halt, Page};
-use alp_disk::{Disk, FileDisk, MemDisk, write_synced};
+use alp_disk::{Disk, FileDisk, Fuse, MemDisk, write_span, write_synced};
 use std::fs::File;
 use std::os::unix::fs::FileExt;
-use std::path::PathBuf;
 use std::test::Fail;
+use std::thread::{Threads, join};
 use std::{env, fs, process};
 
 /// A write that is synced, and three that wait for a sync.
@@ -34,75 +36,108 @@ fn read_some<D: Disk>(disk: &mut D) -> Result<[u8; 10], Halt> {
     Ok(some)
 }
 
-const LEFT: [(u64, [u8; 10]); 6] = [
-    (0, [1, 1, 1, 1, 0, 0, 0, 0, 0, 0]),
-    (1, [9, 9, 1, 1, 8, 8, 8, 7, 7, 7]),
-    (2, [1, 1, 1, 1, 8, 8, 8, 0, 0, 0]),
-    (3, [75, 47, 1, 1, 153, 222, 81, 229, 182, 63]),
-    (4, [127, 63, 1, 1, 4, 188, 126, 189, 50, 23]),
-    (5, [182, 0, 1, 1, 21, 135, 132, 47, 114, 9]),
-];
-
 /// The bytes of picks above 2 were computed by another implementation of the generator, which gives
 /// the words that the tests of Rust's crate expect.
 #[test]
 fn picks_leave_what_they_say(rt: HostRuntime) -> Result<(), Fail> {
-    for (pick, want) in LEFT {
-        let mut disk = MemDisk::new(rt.alloc(), 3, Vec::new(rt.alloc()))?;
-        assert!(rt; write_some(&mut disk) == Ok(()));
+    let alloc = rt.alloc();
+    let left = [
+        (0, [1, 1, 1, 1, 0, 0, 0, 0, 0, 0]),
+        (1, [9, 9, 1, 1, 8, 8, 8, 7, 7, 7]),
+        (2, [1, 1, 1, 1, 8, 8, 8, 0, 0, 0]),
+        (3, [75, 47, 1, 1, 153, 222, 81, 229, 182, 63]),
+        (4, [127, 63, 1, 1, 4, 188, 126, 189, 50, 23]),
+        (5, [182, 0, 1, 1, 21, 135, 132, 47, 114, 9]),
+    ];
+    for (pick, want) in left {
+        let mut disk = MemDisk::new(alloc, 3, Vec::new(alloc))?;
+        assert_eq!(rt; write_some(&mut disk), Ok(()));
+        assert_eq!(rt; read_some(&mut disk), Ok([9, 9, 1, 1, 8, 8, 8, 7, 7, 7]));
         let mut back = disk.power_off(pick);
-        assert!(rt; read_some(&mut back) == Ok(want), "pick {pick}");
+        assert_eq!(rt; read_some(&mut back), Ok(want), "pick {pick}");
     }
     Ok(())
 }
 
-// A path for a file of this process.
-fn new_path(rt: &HostRuntime) -> Result<PathBuf, Fail> {
-    let name = format!(in rt.alloc(); "alp_disk-test-{}", process::id(rt.process()))?;
-    Ok(env::temp_dir(rt)?.join(rt.alloc(), name.as_str())?)
+#[test]
+fn calls_fail_as_listed(rt: HostRuntime) -> Result<(), Fail> {
+    let alloc = rt.alloc();
+    let mut disk = MemDisk::new(alloc, 3, vec![in alloc; 2, 7]?)?;
+    assert_eq!(rt; write_some(&mut disk), Err(Halt::Failed));
+    assert_eq!(rt; write_some(&mut disk), Err(Halt::Failed));
+    assert_eq!(rt; write_some(&mut disk), Ok(()));
+    Ok(())
 }
 
-// A disk of three pages in a new file.
-fn new_disk(rt: &HostRuntime, path: &PathBuf) -> Result<FileDisk, Fail> {
-    let file = File::create_new(rt, path.as_path())?;
-    file.set_len(1536)?;
-    Ok(FileDisk::new(file, 3))
+#[test]
+fn a_fuse_stops_after_its_allowance(rt: HostRuntime) -> Result<(), Fail> {
+    let alloc = rt.alloc();
+    let mut fuse = Fuse::new(MemDisk::new(alloc, 3, Vec::new(alloc))?);
+    fuse.stop_after(Some(3));
+    assert_eq!(rt; write_some(&mut fuse), Err(Halt::Stopped));
+    assert_eq!(rt; read_some(&mut fuse), Err(Halt::Stopped));
+    let mut back = fuse.power_off(1);
+    assert_eq!(rt; read_some(&mut back), Ok([9, 9, 1, 1, 8, 8, 8, 0, 0, 0]));
+    let mut inner = back.into_inner();
+    assert_eq!(rt; read_some(&mut inner), Ok([9, 9, 1, 1, 8, 8, 8, 0, 0, 0]));
+    Ok(())
 }
 
-// What the file holds by another handle.
-fn bytes_in(rt: &HostRuntime, path: &PathBuf) -> Result<[u8; 1536], Fail> {
-    let file = File::open(rt, path.as_path())?;
-    let mut bytes = [0; 1536];
-    file.read_exact_at(&mut bytes, 0)?;
-    Ok(bytes)
-}
-
-fn wanted() -> [u8; 1536] {
-    let mut want = [0; 1536];
-    want[..4].copy_from_slice(&[9, 9, 1, 1]);
-    want[522..525].fill(8);
-    want[1533..].fill(7);
-    want
+#[test]
+fn a_span_is_written_page_by_page(rt: HostRuntime) -> Result<(), Fail> {
+    let alloc = rt.alloc();
+    let mut disk = MemDisk::new(alloc, 3, Vec::new(alloc))?;
+    let mut bytes = [5; 1024];
+    bytes[522..525].fill(6);
+    assert_eq!(rt; write_span(&mut disk, 0, 2, &bytes), Ok(()));
+    assert_eq!(rt; read_some(&mut disk), Ok([5, 5, 5, 5, 6, 6, 6, 0, 0, 0]));
+    Ok(())
 }
 
 /// What was written stands at its place in the file: a second handle reads it after the sync.
 #[test]
 fn a_file_holds_pages(rt: HostRuntime) -> Result<(), Fail> {
-    let path = new_path(&rt)?;
-    let mut disk = new_disk(&rt, &path)?;
-    let wrote = write_some(&mut disk).is_ok() && disk.sync().is_ok();
-    let bytes = bytes_in(&rt, &path)?;
-    fs::remove_file(&rt, path.as_path())?;
-    assert!(rt; wrote && bytes == wanted());
+    let name = format!(in rt.alloc(); "alp_disk-test-{}", process::id(rt.process()))?;
+    let path = env::temp_dir(&rt)?.join(rt.alloc(), name.as_str())?;
+    let file = File::create_new(&rt, path.as_path())?;
+    let sized = file.set_len(1536);
+    let mut disk = FileDisk::new(file, 3);
+    let wrote = write_some(&mut disk);
+    let synced = disk.sync();
+    let second = File::open(&rt, path.as_path())?;
+    let mut bytes = [0; 1536];
+    let read = second.read_exact_at(&mut bytes, 0);
     let mut back = disk.power_off(0);
-    assert!(rt; read_some(&mut back) == Ok([9, 9, 1, 1, 8, 8, 8, 7, 7, 7]));
+    let held = read_some(&mut back);
+    let length = fs::metadata(&rt, path.as_path())?.len();
+    fs::remove_file(&rt, path.as_path())?;
+    let mut want = [0; 1536];
+    want[..4].copy_from_slice(&[9, 9, 1, 1]);
+    want[522..525].fill(8);
+    want[1533..].fill(7);
+    assert!(rt; sized.is_ok() && read.is_ok());
+    assert_eq!(rt; (wrote, synced), (Ok(()), Ok(())));
+    assert!(rt; bytes == want);
+    assert_eq!(rt; held, Ok([9, 9, 1, 1, 8, 8, 8, 7, 7, 7]));
+    assert_eq!(rt; length, 1536);
     Ok(())
 }
 
-/// The host syncs no such file, and says so: a sync is handed on.
+/// Lends a disk to two threads, and moves it through one.
+fn cross_threads<D: Disk + Send + Sync>(rt: &(impl Threads + Sync), disk: D) -> D {
+    join(rt, || disk.pages(), || disk.pages());
+    join(rt, move || disk, || ()).0
+}
+
 #[test]
-fn a_sync_that_fails_is_told(rt: HostRuntime) -> Result<(), Fail> {
-    let mut disk = FileDisk::new(File::open(&rt, "/dev/null")?, 7);
-    assert!(rt; disk.sync() == Err(Halt::Failed));
+fn disks_cross_threads(rt: HostRuntime) -> Result<(), Fail> {
+    let alloc = rt.alloc();
+    let fuse = cross_threads(&rt, Fuse::new(MemDisk::new(alloc, 3, Vec::new(alloc))?));
+    let mut inner = cross_threads(&rt, fuse.into_inner());
+    assert_eq!(rt; read_some(&mut inner), Ok([0; 10]));
+    let mut file = cross_threads(&rt, FileDisk::new(File::open(&rt, "/dev/null")?, 7));
+    assert_eq!(rt; file.pages(), 7);
+    // The host syncs no such file, and says so: a sync is handed on.
+    assert_eq!(rt; file.sync(), Err(Halt::Failed));
     Ok(())
 }

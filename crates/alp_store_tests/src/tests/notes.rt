@@ -1,21 +1,14 @@
 //! Disks of server 1 of three, with notes that a run before left there, spelled by hand.
+use super::fixtures::{SIZES, mem_disk};
 use super::quiet_disk::QuietDisk;
-use alp_base::{Page, Sizes, VaultFault};
-use alp_disk::{Disk, MemDisk};
+use alp_base::{Page, VaultFault};
+use alp_disk::{Disk, Fuse};
 use alp_fields::put_bytes;
 use alp_silent::Silent;
 use std::alloc::Global;
 use std::test::*;
 
 const SERVERS: u8 = 3;
-
-const SIZES: Sizes = Sizes {
-    home: 512,
-    area: 64,
-};
-
-// The pages of a disk of these sizes.
-const PAGES: u32 = 642;
 
 // The page behind the one record of a new volume, with its first home page.
 const FREE: u32 = 5;
@@ -59,9 +52,9 @@ fn recorded<D: Disk>(disk: QuietDisk<D>, batch: &[u8]) -> Result<QuietDisk<D>, F
 }
 
 // The disk of a new volume.
-fn new_volume(alloc: Global) -> Result<QuietDisk<Silent>, Fail> {
-    let disk = MemDisk::new(alloc, PAGES, Vec::new(alloc))?;
-    match QuietDisk::new(Silent { disk })?.start_among(alloc, SERVERS, SIZES) {
+fn new_volume(alloc: Global) -> Result<QuietDisk<Fuse<Silent>>, Fail> {
+    let disk = mem_disk(alloc, SIZES, Vec::new(alloc))?;
+    match disk.start_among(alloc, SERVERS, SIZES) {
         Ok(store) => store.into_disk(),
         Err(_) => Err("a new disk".into()),
     }

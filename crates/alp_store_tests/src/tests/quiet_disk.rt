@@ -27,6 +27,22 @@ impl<D: Disk> QuietDisk<D> {
         Ok(QuietDisk { disk })
     }
 
+    pub(super) fn pages(&self) -> u32 {
+        self.disk.pages()
+    }
+
+    pub(super) fn read_page(self, at: u32) -> Result<(QuietDisk<D>, Page), Fail> {
+        let QuietDisk { mut disk } = self;
+        if at >= disk.pages() {
+            return Err("no such page".into());
+        }
+        let mut page = Page::zero();
+        match disk.read(at, &mut page) {
+            Ok(()) => Ok((QuietDisk { disk }, page)),
+            Err(_) => Err("a read".into()),
+        }
+    }
+
     pub(super) fn write_page(self, at: u32, page: &Page) -> Result<QuietDisk<D>, Fail> {
         let QuietDisk { mut disk } = self;
         if at >= disk.pages() {
@@ -43,6 +59,17 @@ impl<D: Disk> QuietDisk<D> {
         match disk.sync() {
             Ok(()) => Ok(QuietDisk { disk }),
             Err(_) => Err("a sync".into()),
+        }
+    }
+
+    // A store on the disk, or nothing where the disk fails.
+    pub(super) fn start(self, alloc: Global, sizes: Sizes) -> Option<Serving<Store<D>>> {
+        if sizes.home < 512 || 65536 < sizes.home || sizes.area < 64 || 4096 < sizes.area {
+            return None;
+        }
+        match self.start_among(alloc, 1, sizes) {
+            Ok(store) => Some(store),
+            Err(_) => None,
         }
     }
 
