@@ -3,4 +3,5 @@ mod drill;
 mod lines;
 mod report;
 mod script;
+mod tokens;
 mod words;

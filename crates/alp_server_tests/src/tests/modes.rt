@@ -18,9 +18,20 @@ const AGREEMENT: [[u8; 6]; 6] = [
 
 #[test]
 fn pairs_agree_as_the_table_says(rt: HostRuntime) {
-    for (a, row) in MODES.iter().zip(AGREEMENT.iter()) {
-        for (b, sign) in MODES.iter().zip(row.iter()) {
-            assert!(rt; agrees(*a, *b) == (*sign == b'+'));
+    for (row, a) in MODES.iter().enumerate() {
+        for (column, b) in MODES.iter().enumerate() {
+            let wanted = AGREEMENT[row][column] == b'+';
+            assert_eq!(rt; agrees(*a, *b), wanted, "at {row} and {column}");
         }
     }
+}
+
+#[test]
+fn the_joins_that_are_neither_of_both(rt: HostRuntime) {
+    let both = Mode::ReadIntendWrite;
+    assert_eq!(rt; join(Mode::IntendWrite, Mode::Read), both);
+    assert_eq!(rt; join(Mode::Update, Mode::IntendWrite), both);
+    assert_eq!(rt; join(Mode::Read, Mode::Update), Mode::Update);
+    assert_eq!(rt; leaf_of(both), Some(Mode::Update));
+    assert!(rt; covers(both, Mode::Update));
 }

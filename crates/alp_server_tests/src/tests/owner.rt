@@ -1,30 +1,117 @@
 //! Tests of alp_owner.
-use super::bytes_of;
 use alp_base::{AccessList, Name, OutOfMemory, OwnerRecord};
 use alp_owner::*;
 use std::alloc::Global;
 use std::test::*;
 
-// The record of docs/FORMATS.md: its name, quota and charge, how many are listed, and those; each name has 25 bytes.
-const DUMP: &str = "03616e6e 00*21 0000000a 00000004 02 05576f726c64 00*19 054f776e6572 00*191";
+// The record of docs/FORMATS.md.
+const DUMP: &str = "\
+0 03 61 6e 6e
+25 00 00 00 0a
+29 00 00 00 04
+33 02
+34 05 57 6f 72 6c 64
+59 05 4f 77 6e 65 72
+";
 
-fn ann(alloc: Global) -> Result<OwnerRecord, OutOfMemory> {
-    let create = vec![in alloc; Name::spelled(b"World"), Name::spelled(b"Owner")]?;
-    Ok(OwnerRecord {
-        name: Name::spelled(b"ann"),
-        quota: 10,
-        charge: 4,
-        create: AccessList::new(create),
-    })
+// Each line is a place and the bytes from there on; the others are zeros.
+fn dumped(dump: &str) -> Option<[u8; 256]> {
+    let mut bytes = [0u8; 256];
+    for line in dump.lines() {
+        let mut words = line.split(' ');
+        let mut at: usize = words.next()?.parse().ok()?;
+        for word in words {
+            *bytes.get_mut(at)? = u8::from_str_radix(word, 16).ok()?;
+            at = at.checked_add(1)?;
+        }
+    }
+    Some(bytes)
+}
+
+fn list_of(alloc: Global, words: &[&[u8]]) -> Result<Option<AccessList>, OutOfMemory> {
+    let mut names = Vec::new(alloc);
+    for word in words {
+        let Some(name) = Name::parse(word) else {
+            return Ok(None);
+        };
+        names.push(name)?;
+    }
+    if names.len() > alp_base::NAMES_PER_LIST {
+        return Ok(None);
+    }
+    Ok(Some(AccessList::new(names)))
 }
 
 #[test]
-fn an_owner_is_its_dump(rt: HostRuntime) -> Result<(), Fail> {
-    let owner = ann(rt.alloc())?;
+fn reads_and_writes_the_dump(rt: HostRuntime) -> Result<(), Fail> {
+    let bytes = dumped(DUMP).ok_or("a dump")?;
+    let ann = Name::parse(b"ann").ok_or("a name")?;
+    let create = list_of(rt.alloc(), &[b"World", b"Owner"])
+        .ok()
+        .ok_or("memory")?
+        .ok_or("a list")?;
+    let record = OwnerRecord {
+        name: ann,
+        quota: 10,
+        charge: 4,
+        create,
+    };
     let mut out = [0xffu8; 256];
-    encode_owner(&owner, &mut out);
-    assert!(rt; decode_owner(rt.alloc(), &out)? == Some(owner));
-    let dump = bytes_of(rt.alloc(), DUMP)?;
-    assert!(rt; out.as_slice() == dump.as_slice());
+    encode_owner(&record, &mut out);
+    assert!(rt; out == bytes);
+    let found = decode_owner(rt.alloc(), &bytes).ok().ok_or("memory")?;
+    assert!(rt; found == Some(record));
+    let unused = decode_owner(rt.alloc(), &[0; 256]).ok().ok_or("memory")?;
+    assert!(rt; unused.is_none());
+    Ok(())
+}
+
+// A changed byte makes it no record, or the record of just those bytes.
+fn is_exact(alloc: Global, bytes: &[u8; 256]) -> Result<bool, OutOfMemory> {
+    let Some(found) = decode_owner(alloc, bytes)? else {
+        return Ok(true);
+    };
+    let mut out = [0xffu8; 256];
+    encode_owner(&found, &mut out);
+    Ok(out == *bytes)
+}
+
+#[test]
+fn each_byte_counts(rt: HostRuntime) -> Result<(), Fail> {
+    let bytes = dumped(DUMP).ok_or("a dump")?;
+    for at in 0..256usize {
+        for change in [1u8, 2, 4, 0x20, 0x80, 0xff] {
+            let mut changed = bytes;
+            changed[at] ^= change;
+            assert!(rt;
+                is_exact(rt.alloc(), &changed).ok().ok_or("memory")?,
+                "at {at}"
+            );
+        }
+    }
+    Ok(())
+}
+
+#[test]
+fn admits_whom_the_list_names(rt: HostRuntime) -> Result<(), Fail> {
+    let ann = Name::parse(b"ann").ok_or("a name")?;
+    let bob = Name::parse(b"bob").ok_or("a name")?;
+    let world = list_of(rt.alloc(), &[b"World"])
+        .ok()
+        .ok_or("memory")?
+        .ok_or("a list")?;
+    let owner = list_of(rt.alloc(), &[b"eve", b"Owner"])
+        .ok()
+        .ok_or("memory")?
+        .ok_or("a list")?;
+    let named = list_of(rt.alloc(), &[b"bob"])
+        .ok()
+        .ok_or("memory")?
+        .ok_or("a list")?;
+    assert!(rt; admits(&world, &bob, &ann));
+    assert!(rt; admits(&owner, &ann, &ann));
+    assert!(rt; !admits(&owner, &bob, &ann));
+    assert!(rt; admits(&named, &bob, &ann));
+    assert!(rt; !admits(&named, &ann, &ann));
     Ok(())
 }

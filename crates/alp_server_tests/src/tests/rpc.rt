@@ -1,9 +1,7 @@
 //! Tests of alp_rpc.
 ghost use Rattle.std.specs.Prelude.{◌≡◌, IfOk, length};
-ghost use Rattle.alp_rpc.specs.Frames.{IsSendable};
 
-use super::bytes_of;
-use alp_base::{Choice, OutOfMemory, Page, PageList, PageRef, Run, TransId};
+use alp_base::{Choice, Name, OutOfMemory, Page, PageList, PageRef, Run, TransId};
 use alp_files::{Call, Ended, PropChange, Refusal, Reply};
 use alp_rpc::*;
 use std::alloc::Global;
@@ -80,6 +78,47 @@ Refused.OutOfMemory 500200000001000000180c15
 Refused.JournalFull 500200000001000000180c16
 ";
 
+fn digit(letter: u8) -> Result<u8, Fail> {
+    match letter {
+        b'0'..=b'9' => Ok(letter - b'0'),
+        b'a'..=b'f' => Ok(letter - b'a' + 10),
+        _ => Err("a digit".into()),
+    }
+}
+
+fn add_word(out: &mut Vec<u8>, word: &str) -> Result<(), Fail> {
+    let mut parts = word.split('*');
+    let digits = parts.next().ok_or("digits")?;
+    let mut times = 1usize;
+    if let Some(count) = parts.next() {
+        times = count.parse().ok().ok_or("a count")?;
+    }
+    for _ in 0..times {
+        add_digits(out, digits.as_bytes())?;
+    }
+    Ok(())
+}
+
+fn add_digits(out: &mut Vec<u8>, digits: &[u8]) -> Result<(), Fail> {
+    for pair in digits.chunks(2) {
+        let [high, low] = pair else {
+            return Err("a pair".into());
+        };
+        let byte = digit(*high)?.checked_mul(16).ok_or("a byte")?;
+        let byte = byte.checked_add(digit(*low)?).ok_or("a byte")?;
+        out.push(byte).ok().ok_or("memory")?;
+    }
+    Ok(())
+}
+
+fn bytes_of(alloc: Global, words: &str) -> Result<Vec<u8>, Fail> {
+    let mut out = Vec::new(alloc);
+    for word in words.split(' ') {
+        add_word(&mut out, word)?;
+    }
+    Ok(out)
+}
+
 fn name_of_call(call: &Call) -> &'static str {
     match call {
         Call::Hello { .. } => "Hello",
@@ -94,20 +133,24 @@ fn name_of_call(call: &Call) -> &'static str {
         Call::LockPages { .. } => "LockPages",
         Call::SetSize { .. } => "SetSize",
         Call::ReadProps { .. } => "ReadProps",
-        Call::WriteProps { change, .. } => match change {
-            PropChange::Owner(_) => "WriteProps.Owner",
-            PropChange::Name(_) => "WriteProps.Name",
-            PropChange::TypeNo(_) => "WriteProps.TypeNo",
-            PropChange::ByteLength(_) => "WriteProps.ByteLength",
-            PropChange::Read(_) => "WriteProps.Read",
-            PropChange::Modify(_) => "WriteProps.Modify",
-        },
+        Call::WriteProps { change, .. } => name_of_change(change),
         Call::ReadOwner { .. } => "ReadOwner",
         Call::MakeOwner { .. } => "MakeOwner",
         Call::SetQuota { .. } => "SetQuota",
         Call::Finish { .. } => "Finish",
         Call::Outcome { .. } => "Outcome",
         Call::Collect { .. } => "Collect",
+    }
+}
+
+fn name_of_change(change: &PropChange) -> &'static str {
+    match change {
+        PropChange::Owner(_) => "WriteProps.Owner",
+        PropChange::Name(_) => "WriteProps.Name",
+        PropChange::TypeNo(_) => "WriteProps.TypeNo",
+        PropChange::ByteLength(_) => "WriteProps.ByteLength",
+        PropChange::Read(_) => "WriteProps.Read",
+        PropChange::Modify(_) => "WriteProps.Modify",
     }
 }
 
@@ -159,24 +202,160 @@ fn name_of_refusal(refusal: Refusal) -> &'static str {
 }
 
 #[test]
-fn requests_are_named(rt: HostRuntime) -> Result<(), Fail> {
+fn requests_there_and_back(rt: HostRuntime) -> Result<(), Fail> {
     for line in REQUESTS.lines() {
         let (name, words) = line.split_once(' ').ok_or("a name")?;
         let bytes = bytes_of(rt.alloc(), words)?;
         let found = decode_request(rt.alloc(), &bytes)?.ok_or("a request")?;
-        assert!(rt; name_of_call(&found.call) == name, "{name}");
+        assert_eq!(rt; name_of_call(&found.call), name);
+        let again = encode_request(rt.alloc(), &found)?;
+        assert!(rt; again.as_slice() == bytes.as_slice(), "{name}");
     }
     Ok(())
 }
 
 #[test]
-fn replies_are_named(rt: HostRuntime) -> Result<(), Fail> {
+fn replies_there_and_back(rt: HostRuntime) -> Result<(), Fail> {
     for line in REPLIES.lines() {
         let (name, words) = line.split_once(' ').ok_or("a name")?;
         let bytes = bytes_of(rt.alloc(), words)?;
         let found = decode_reply(rt.alloc(), &bytes)?.ok_or("a reply")?;
-        assert!(rt; name_of_reply(&found.reply) == name, "{name}");
+        assert_eq!(rt; name_of_reply(&found.reply), name);
+        let again = encode_reply(rt.alloc(), &found)?;
+        assert!(rt; again.as_slice() == bytes.as_slice(), "{name}");
     }
+    Ok(())
+}
+
+// How many of the fronts of the bytes are requests, and of the bytes with one more behind.
+fn cut_requests(alloc: Global, mut bytes: Vec<u8>) -> Result<u32, Fail> {
+    let mut found = 0u32;
+    for count in 0..bytes.len() {
+        if decode_request(alloc, &bytes[..count])?.is_some() {
+            found = found.saturating_add(1);
+        }
+    }
+    bytes.push(0)?;
+    if decode_request(alloc, &bytes)?.is_some() {
+        found = found.saturating_add(1);
+    }
+    Ok(found)
+}
+
+fn cut_replies(alloc: Global, mut bytes: Vec<u8>) -> Result<u32, Fail> {
+    let mut found = 0u32;
+    for count in 0..bytes.len() {
+        if decode_reply(alloc, &bytes[..count])?.is_some() {
+            found = found.saturating_add(1);
+        }
+    }
+    bytes.push(0)?;
+    if decode_reply(alloc, &bytes)?.is_some() {
+        found = found.saturating_add(1);
+    }
+    Ok(found)
+}
+
+#[test]
+fn no_front_is_a_frame(rt: HostRuntime) -> Result<(), Fail> {
+    for line in REQUESTS.lines() {
+        let (name, words) = line.split_once(' ').ok_or("a name")?;
+        let bytes = bytes_of(rt.alloc(), words)?;
+        assert_eq!(rt; cut_requests(rt.alloc(), bytes)?, 0, "{name}");
+    }
+    for line in REPLIES.lines() {
+        let (name, words) = line.split_once(' ').ok_or("a name")?;
+        let bytes = bytes_of(rt.alloc(), words)?;
+        assert_eq!(rt; cut_replies(rt.alloc(), bytes)?, 0, "{name}");
+    }
+    Ok(())
+}
+
+fn with_tag_changed(alloc: Global, bytes: &[u8], change: u8) -> Result<Vec<u8>, Fail> {
+    let mut changed = Vec::from_slice(alloc, bytes)?;
+    *changed.get_mut(10).ok_or("a tag")? ^= change;
+    Ok(changed)
+}
+
+// With another tag the bytes are no request, or just those of another one: how many are.
+fn other_requests(alloc: Global, bytes: &[u8]) -> Result<u32, Fail> {
+    let given = decode_request(alloc, bytes)?.ok_or("a request")?;
+    let mut others = 0u32;
+    for change in 1..=255u8 {
+        let changed = with_tag_changed(alloc, bytes, change)?;
+        if let Some(found) = decode_request(alloc, &changed)? {
+            if found == given {
+                return Err("the same value".into());
+            }
+            let again = encode_request(alloc, &found)?;
+            if again.as_slice() != changed.as_slice() {
+                return Err("another spelling".into());
+            }
+            others = others.saturating_add(1);
+        }
+    }
+    Ok(others)
+}
+
+fn other_replies(alloc: Global, bytes: &[u8]) -> Result<u32, Fail> {
+    let given = decode_reply(alloc, bytes)?.ok_or("a reply")?;
+    let mut others = 0u32;
+    for change in 1..=255u8 {
+        let changed = with_tag_changed(alloc, bytes, change)?;
+        if let Some(found) = decode_reply(alloc, &changed)? {
+            if found == given {
+                return Err("the same value".into());
+            }
+            let again = encode_reply(alloc, &found)?;
+            if again.as_slice() != changed.as_slice() {
+                return Err("another spelling".into());
+            }
+            others = others.saturating_add(1);
+        }
+    }
+    Ok(others)
+}
+
+#[test]
+fn tags_tell_frames_apart(rt: HostRuntime) -> Result<(), Fail> {
+    for line in REQUESTS.lines() {
+        let (name, words) = line.split_once(' ').ok_or("a name")?;
+        let bytes = bytes_of(rt.alloc(), words)?;
+        let others = other_requests(rt.alloc(), &bytes)?;
+        // A join and an outcome have the same fields.
+        assert!(rt; name != "Join" || others > 0, "{name}");
+    }
+    for line in REPLIES.lines() {
+        let (name, words) = line.split_once(' ').ok_or("a name")?;
+        let bytes = bytes_of(rt.alloc(), words)?;
+        let others = other_replies(rt.alloc(), &bytes)?;
+        // So have a welcome and an open.
+        assert!(rt; name != "Welcome" || others > 0, "{name}");
+    }
+    Ok(())
+}
+
+#[test]
+fn frames_as_built(rt: HostRuntime) -> Result<(), Fail> {
+    let name = Name::parse(b"ann").ok_or("a name")?;
+    let hello = Request {
+        client: 2,
+        epoch: 0,
+        number: 1,
+        call: Call::Hello { name },
+    };
+    let bytes = encode_request(rt.alloc(), &hello)?;
+    let want = bytes_of(rt.alloc(), "510200000000000000010103616e6e")?;
+    assert!(rt; bytes.as_slice() == want.as_slice());
+    let welcome = ReplyFrame {
+        client: 2,
+        epoch: 1,
+        number: 1,
+        reply: Reply::Welcome { epoch: 1 },
+    };
+    let bytes = encode_reply(rt.alloc(), &welcome)?;
+    let want = bytes_of(rt.alloc(), "500200000001000000010100000001")?;
+    assert!(rt; bytes.as_slice() == want.as_slice());
     Ok(())
 }
 
@@ -191,11 +370,10 @@ fn one_page(alloc: Global) -> Result<PageList, OutOfMemory>
     Ok(PageList::new(pages))
 }
 
-fn write_of(pages: PageList) -> Request
-    requires { length pages ≡ 1 }
-    ensures { IsSendable result }
-{
-    Request {
+#[test]
+fn a_write_as_built(rt: HostRuntime) -> Result<(), Fail> {
+    let pages = one_page(rt.alloc()).ok().ok_or("memory")?;
+    let write = Request {
         client: 16,
         epoch: 1,
         number: 9,
@@ -213,30 +391,14 @@ fn write_of(pages: PageList) -> Request
             pages,
             choice: Choice::Wait,
         },
-    }
-}
-
-#[test]
-fn a_write_as_built(rt: HostRuntime) -> Result<(), Fail> {
-    let bytes = encode_request(rt.alloc(), &write_of(one_page(rt.alloc())?))?;
+    };
+    let bytes = encode_request(rt.alloc(), &write)?;
     let want = bytes_of(
         rt.alloc(),
         "5110000000010000000909 010000000100000002 00000001 0000000a01 01 41 00*511 01",
     )?;
     assert!(rt; bytes.as_slice() == want.as_slice());
-    Ok(())
-}
-
-#[test]
-fn a_welcome_as_built(rt: HostRuntime) -> Result<(), Fail> {
-    let welcome = ReplyFrame {
-        client: 2,
-        epoch: 1,
-        number: 1,
-        reply: Reply::Welcome { epoch: 1 },
-    };
-    let bytes = encode_reply(rt.alloc(), &welcome)?;
-    let want = bytes_of(rt.alloc(), "500200000001000000010100000001")?;
-    assert!(rt; bytes.as_slice() == want.as_slice());
+    let found = decode_request(rt.alloc(), bytes.as_slice())?;
+    assert!(rt; found == Some(write));
     Ok(())
 }

@@ -1,0 +1,13 @@
+use Rattle.std.proofs.Common.{sym, ap, subst, arith}
+use Rattle.alp_base.specs.declared.faults.Sizes.{Sizes}
+use Rattle.alp_files.specs.Edits.{edits_map}
+use Rattle.alp_files.specs.Changes.{edits_of}
+use Rattle.alp_vault.specs.Contents.{Contents}
+use Rattle.alp_vault.specs.Volumes.{IsVolumeOf}
+use Rattle.alp_server_tests.proofs.tests.vault.a_commit_is_read_back.Goals as goal
+
+pub commit-requires-clause-room : goal.commit-requires-clause-room
+commit-requires-clause-room g c =
+    let sizes : Sizes = c.new_vault-vault.result.sizes in
+    subst (λ (x : Contents). IsVolumeOf sizes (edits_map (edits_of c.in_ok-change.change) x.cells)) (sym c.new_vault-vault.ensures.empty)
+    (c.in_ok-change.ensures.room sizes (omega (arith, ap (λ (s : Sizes). s.home) c.new_vault-vault.ensures.sizes)))

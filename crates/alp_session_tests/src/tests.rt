@@ -1,0 +1,3 @@
+//! One module for each crate.
+mod posts;
+mod session;
