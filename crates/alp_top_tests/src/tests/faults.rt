@@ -2,10 +2,16 @@
 ghost use Rattle.std.specs.Prelude.{◌≡◌, ◌≤◌, length, IfOk};
 ghost use Rattle.alp_base.specs.declared.allowance.Allowance.TheVariants.{Free};
 
-use super::{AGAIN, AGAIN_TOLD, ANSWERED, Failing, REFUSALS, REFUSED, SCRIPT, SOUND, run, run_in};
+use super::{
+    AGAIN, AGAIN_TOLD, Failing, IDLE, REFUSALS, REFUSED, SCRIPT, SOUND, calls, expected, run,
+    run_in, words,
+};
+use alp_base::{MemSource, WriteSink};
 use alp_bay::{Bay, HostBay, MemBay};
 use alp_disk::{Disk, MemDisk};
+use alp_top::run_alpine;
 use std::alloc::Global;
+use std::io::{self, Write};
 use std::path::PathBuf;
 use std::test::Fail;
 use std::{env, fs, process};
@@ -23,7 +29,7 @@ fn disk_with(alloc: Global, pages: u32, failing: Vec<u64>, begins: &[u8]) -> Res
     Ok(disk)
 }
 
-const WORDS: [&[&str]; 5] = [
+static WORDS: [&[&str]; 5] = [
     &[],
     &["play", "now"],
     &["Play"],
@@ -32,17 +38,12 @@ const WORDS: [&[&str]; 5] = [
 ];
 
 #[test]
-fn refuses_other_words(rt: HostRuntime) -> Result<(), Fail> {
+fn refuses_other_words_and_scripts(rt: HostRuntime) -> Result<(), Fail> {
     for asked in WORDS {
         let told = run(rt.alloc(), asked, SCRIPT, &SOUND)?;
         assert!(rt; told.code == 1 && told.said.as_str() == "alpine: bad words");
         assert!(rt; told.written.is_empty());
     }
-    Ok(())
-}
-
-#[test]
-fn refuses_other_scripts(rt: HostRuntime) -> Result<(), Fail> {
     let told = run(rt.alloc(), &["play"], b"servers 9\n", &SOUND)?;
     assert!(rt; told.code == 2 && told.said.as_str() == "alpine: bad script line 1");
     assert!(rt; told.written.is_empty());
@@ -63,11 +64,10 @@ fn run_on_host(rt: HostRuntime, asked: &[&str], script: &[u8]) -> Result<super::
     run_in(rt.alloc(), asked, script, &SOUND, &mut bay)
 }
 
-const DAYS: [[&[u8]; 2]; 2] = [[SCRIPT, ANSWERED], [AGAIN, AGAIN_TOLD]];
-
 // Whether each day of the folder goes on with what the day before left.
 fn goes_on(rt: HostRuntime, folder: &str) -> Result<bool, Fail> {
-    for [script, report] in DAYS {
+    let told = expected(rt.alloc(), 8)?;
+    for (script, report) in [(SCRIPT, told.as_slice()), (AGAIN, AGAIN_TOLD)] {
         let told = run_on_host(rt, &["play", "--folder", folder], script)?;
         if told.code != 0 || told.written.as_slice() != report {
             return Ok(false);
@@ -99,11 +99,14 @@ fn run_on(alloc: Global, disk: MemDisk, script: &[u8]) -> Result<super::Told, Fa
 }
 
 #[test]
-fn tells_what_is_no_volume(rt: HostRuntime) -> Result<(), Fail> {
-    let disk = disk_with(rt.alloc(), 2, Vec::new(rt.alloc()), b"hello")?;
-    let told = run_on(rt.alloc(), disk, SCRIPT)?;
+fn tells_what_is_wrong_with_a_disk(rt: HostRuntime) -> Result<(), Fail> {
+    let other = disk_with(rt.alloc(), 2, Vec::new(rt.alloc()), b"hello")?;
+    let told = run_on(rt.alloc(), other, SCRIPT)?;
     assert!(rt; told.code == 8 && told.said.as_str() == "alpine: not a volume server 1");
     assert!(rt; told.written.is_empty());
+    let failing = disk_with(rt.alloc(), 2, calls(rt.alloc(), 1)?, b"")?;
+    let told = run_on(rt.alloc(), failing, SCRIPT)?;
+    assert!(rt; told.code == 5 && told.said.as_str() == "alpine: disk fault server 1");
     Ok(())
 }
 
@@ -116,35 +119,70 @@ fn long(alloc: Global) -> Result<Vec<u8>, Fail> {
     Ok(text)
 }
 
-// Each so many-th read and write fails, and the sink has room for so many bytes: the status, and what is said.
-const FAULTS: [(u64, u64, u32, u8, &str); 8] = [
-    (1, 0, 4096, 3, "alpine: read fault"),
-    (2, 0, 4096, 3, "alpine: read fault"),
-    (3, 0, 4096, 3, "alpine: read fault"),
-    (4, 0, 4096, 3, "alpine: read fault"),
-    (5, 0, 4096, 0, ""),
-    (0, 1, 4096, 4, "alpine: write fault"),
-    (0, 2, 4096, 0, ""),
-    (0, 0, 100, 4, "alpine: write fault"),
-];
+// How a run must end: the status, what is said, and what was written.
+type Ending = (u8, &'static str, &'static [u8]);
+
+const READ_FAULT: Ending = (3, "alpine: read fault", b"");
+
+const WRITE_FAULT: Ending = (4, "alpine: write fault", b"");
+
+// Whether the run of the script ends so, with such reads and writes.
+fn ends_so(alloc: Global, text: &[u8], failing: Failing, ending: Ending) -> Result<bool, Fail> {
+    let told = run(alloc, &["play"], text, &failing)?;
+    let (code, said, written) = ending;
+    Ok(told.code == code && told.said.as_str() == said && told.written.as_slice() == written)
+}
 
 #[test]
-fn tells_each_failing_read_and_write(rt: HostRuntime) -> Result<(), Fail> {
+fn tells_each_failing_read(rt: HostRuntime) -> Result<(), Fail> {
     let text = long(rt.alloc())?;
-    for (reads, writes, room, code, said) in FAULTS {
+    for reads in 1..6u64 {
         let failing = Failing {
             reads,
-            writes,
-            room,
+            writes: 0,
+            room: 4096,
         };
-        let told = run(rt.alloc(), &["play"], text.as_slice(), &failing)?;
-        let written = if code == 0 { REFUSED } else { b"".as_slice() };
-        assert!(rt; told.code == code && told.said.as_str() == said);
-        assert!(rt; told.written.as_slice() == written);
+        let ending = if reads < 5 {
+            READ_FAULT
+        } else {
+            (0, "", REFUSED)
+        };
+        assert!(rt;
+            ends_so(rt.alloc(), text.as_slice(), failing, ending)?,
+            "{reads}"
+        );
     }
     Ok(())
 }
 
+#[test]
+fn tells_each_failing_write(rt: HostRuntime) -> Result<(), Fail> {
+    for writes in 1..4u64 {
+        let failing = Failing {
+            reads: 0,
+            writes,
+            room: 4096,
+        };
+        let ending = if writes == 1 {
+            WRITE_FAULT
+        } else {
+            (0, "", IDLE)
+        };
+        assert!(rt;
+            ends_so(rt.alloc(), b"servers 1", failing, ending)?,
+            "{writes}"
+        );
+    }
+    let narrow = Failing {
+        reads: 0,
+        writes: 0,
+        room: 100,
+    };
+    assert!(rt; ends_so(rt.alloc(), REFUSALS, narrow, WRITE_FAULT)?);
+    Ok(())
+}
+
+// As many lines as a script may have.
 fn most_lines(alloc: Global) -> Result<Vec<u8>, Fail> {
     let mut script = Vec::from_slice(alloc, b"servers 1\n")?;
     for _line in 0..199_999u32 {
@@ -161,6 +199,62 @@ fn tells_a_script_of_too_many_lines(rt: HostRuntime) -> Result<(), Fail> {
     script.extend_from_slice(b"no line at all\n")?;
     let more = run(rt.alloc(), &["play"], script.as_slice(), &SOUND)?;
     assert!(rt; more.code == 7 && more.said.as_str() == "alpine: too long 200000");
+    assert!(rt; more.written.is_empty());
+    Ok(())
+}
+
+// A writer that takes at most fifty bytes at a time, and fails at the call with this number.
+#[derive(Drop)]
+struct Narrow {
+    taken: Vec<u8>,
+    calls: u32,
+    fails: u32,
+}
+
+impl Write for Narrow {
+    fn write(&mut self, buf: &[u8]) -> io::Result<usize> {
+        self.calls = self.calls.saturating_add(1);
+        if self.calls == self.fails {
+            return Err(io::Error::from(io::ErrorKind::Other));
+        }
+        let most = buf.len().min(50);
+        self.taken.extend_from_slice(&buf[..most])?;
+        Ok(most)
+    }
+
+    fn flush(&mut self) -> io::Result<()> {
+        Ok(())
+    }
+}
+
+// How a script ends whose writer fails at the call with this number, and what the writer took.
+fn with_failing_write(alloc: Global, fails: u32) -> Result<(u8, Vec<u8>), Fail> {
+    let mut writer = Narrow {
+        taken: Vec::new(alloc),
+        calls: 0,
+        fails,
+    };
+    let words = words(alloc, &["play"])?;
+    let mut script = MemSource::new(Vec::from_slice(alloc, REFUSALS)?, Vec::new(alloc));
+    let mut out = WriteSink::new(&mut writer);
+    let mut bay = MemBay::new(alloc)?;
+    let code = run_alpine(alloc, &words, &mut script, &mut out, &mut bay).code();
+    drop(out);
+    Ok((code, writer.taken))
+}
+
+#[test]
+fn writes_a_prefix_before_a_failing_write(rt: HostRuntime) -> Result<(), Fail> {
+    let mut fails = 1u32;
+    let mut before = 0usize;
+    for piece in REFUSED.chunks(50) {
+        let (code, taken) = with_failing_write(rt.alloc(), fails)?;
+        assert!(rt; code == 4 && taken.len() == before && REFUSED.starts_with(taken.as_slice()));
+        fails = fails.saturating_add(1);
+        before = before.saturating_add(piece.len());
+    }
+    let (code, taken) = with_failing_write(rt.alloc(), fails)?;
+    assert!(rt; before > 50 && code == 0 && taken.as_slice() == REFUSED);
     Ok(())
 }
 

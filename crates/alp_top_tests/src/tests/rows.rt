@@ -1,74 +1,8 @@
-//! Scripts and their reports: whole ones, and lines behind one set-up, on sizes, charges, access and locks, and calls that wait.
-use super::{REFUSALS, REFUSED, SOUND, behind, run};
+//! Scripts behind one set-up: sizes, charges, access and locks, and calls that wait.
+use super::{SOUND, behind, run};
 use std::alloc::Global;
 use std::io::Write;
 use std::test::Fail;
-
-// What is beyond the end of a file, beyond a quota, or not open.
-const REFUSING: [&[u8]; 2] = [REFUSALS, REFUSED];
-
-// Two clients: one waits for nobody, opens what the other wrote once that is committed, and reads it while the other
-// asks for it in vain.
-const SHARED: [&[u8]; 2] = [
-    b"servers 1\nclient 1 Admin\nclient 2 Admin\n1 begin 1\n1 mkowner 1 ann 10 World\n1 create 1 A ann 4 World World\n1 write A 0 1 hello\n2 begin 1\n2 open A read r\n1 commit\n2 open A read r\n1 begin 1\n1 open A change w\n1 abort\n2 read A 0 1\n2 write A 0 1 x\n2 commit\n",
-    b"4 ok trans 1.1.1\n5 ok\n6 ok file 1.1.1 open 1\n7 ok\n8 ok trans 1.1.2\n9 refused 16 holder 1.1.1\n10 ok stamp 1 1.1.1\n11 ok open 1\n12 ok trans 1.1.3\n13 refused 16 holder 1.1.2\n14 refused 17 Asked\n15 ok hello\n16 refused 9\n17 ok stamp 2 1.1.2\nserver 1 epoch 1 clock 2 files 1 pages 4\nowner 1 ann charge 4 quota 10\ncommitted 2 aborted 1\n",
-];
-
-// A line without a transaction behind it, one that its client left by a begin, and two that are live at the end.
-const LEFT: [&[u8]; 2] = [
-    b"servers 1\nclient 16 Admin\nclient 3 Admin\n16 commit\n16 begin 1\n3 begin 1\n3 begin 1\n16 abort\n16 abort\n3 open 1.1.1 change w\n",
-    b"4 none\n5 ok trans 1.1.1\n6 ok trans 1.1.2\n7 ok trans 1.1.3\n8 refused 17 Asked\n9 none\n10 refused 6\nserver 1 epoch 1 clock 0 files 0 pages 0\ncommitted 0 aborted 3\n",
-];
-
-// The smallest log has no room for the pages of both writes together, and takes the second one alone, which stands behind a
-// restart.
-const NO_LOG: [&[u8]; 2] = [
-    b"servers 1\nvolume 1 512 64\nclient 1 Admin\n1 begin 1\n1 mkowner 1 ann 200 World\n1 commit\n1 begin 1\n1 create 1 A ann 8 World World\n1 write A 0 4 x\n1 write A 0 3 x\n1 commit\nrestart 1 0\n1 begin 1\n1 begin 1\n1 open A read r\n1 read A 0 4\n1 commit\n",
-    b"4 ok trans 1.1.1\n5 ok\n6 ok stamp 1 1.1.1\n7 ok trans 1.1.2\n8 ok file 1.1.1 open 1\n9 refused 14 room 64 asked 67\n10 ok\n11 ok stamp 2 1.1.2\n13 refused 2 epoch 2\n14 ok trans 1.2.1\n15 ok open 1\n16 ok x x x -\n17 ok stamp 3 1.2.1\nserver 1 epoch 2 clock 3 files 1 pages 8\nowner 1 ann charge 8 quota 200\ncommitted 3 aborted 0\n",
-];
-
-// The smallest home has no room for one page more. It stands behind a restart, full as it is.
-const NO_HOME: [&[u8]; 2] = [
-    b"servers 1\nvolume 1 512 2048\nclient 1 Admin\n1 begin 1\n1 mkowner 1 ann 400 World\n1 create 1 A ann 300 World World\n1 write A 0 16 x\n1 write A 16 16 x\n1 write A 32 16 x\n1 write A 48 16 x\n1 write A 64 16 x\n1 write A 80 16 x\n1 write A 96 16 x\n1 write A 112 16 x\n1 write A 128 16 x\n1 write A 144 16 x\n1 write A 160 16 x\n1 write A 176 16 x\n1 write A 192 16 x\n1 write A 208 16 x\n1 write A 224 16 x\n1 write A 240 12 x\n1 write A 252 1 x\n1 commit\nrestart 1 0\n1 begin 1\n1 begin 1\n1 open A read r\n1 read A 251 2\n1 commit\n",
-    b"4 ok trans 1.1.1\n5 ok\n6 ok file 1.1.1 open 1\n7 ok\n8 ok\n9 ok\n10 ok\n11 ok\n12 ok\n13 ok\n14 ok\n15 ok\n16 ok\n17 ok\n18 ok\n19 ok\n20 ok\n21 ok\n22 ok\n23 refused 13 left 0 asked 1\n24 ok stamp 1 1.1.1\n26 refused 2 epoch 2\n27 ok trans 1.2.1\n28 ok open 1\n29 ok x -\n30 ok stamp 2 1.2.1\nserver 1 epoch 2 clock 2 files 1 pages 300\nowner 1 ann charge 300 quota 400\ncommitted 2 aborted 0\n",
-];
-
-// What a file gave back is there for two others, to the last page.
-const FILLED_AGAIN: [&[u8]; 2] = [
-    b"servers 1\nvolume 1 512 2048\nclient 1 Admin\n1 begin 1\n1 mkowner 1 ann 400 World\n1 create 1 A ann 252 World World\n1 write A 0 16 x\n1 write A 16 16 x\n1 write A 32 16 x\n1 write A 48 16 x\n1 write A 64 16 x\n1 write A 80 16 x\n1 write A 96 16 x\n1 write A 112 16 x\n1 write A 128 16 x\n1 write A 144 16 x\n1 write A 160 16 x\n1 write A 176 16 x\n1 write A 192 16 x\n1 write A 208 16 x\n1 write A 224 16 x\n1 write A 240 12 x\n1 commit\n1 begin 1\n1 open A change w\n1 delete A\n1 commit\n1 begin 1\n1 create 1 B ann 126 World World\n1 create 1 C ann 126 World World\n1 write B 0 16 x\n1 write B 16 16 x\n1 write B 32 16 x\n1 write B 48 16 x\n1 write B 64 16 x\n1 write B 80 16 x\n1 write B 96 16 x\n1 write B 112 14 x\n1 write C 0 16 x\n1 write C 16 16 x\n1 write C 32 16 x\n1 write C 48 16 x\n1 write C 64 16 x\n1 write C 80 16 x\n1 write C 96 16 x\n1 write C 112 13 x\n1 write C 125 1 x\n1 commit\n",
-    b"4 ok trans 1.1.1\n5 ok\n6 ok file 1.1.1 open 1\n7 ok\n8 ok\n9 ok\n10 ok\n11 ok\n12 ok\n13 ok\n14 ok\n15 ok\n16 ok\n17 ok\n18 ok\n19 ok\n20 ok\n21 ok\n22 ok\n23 ok stamp 1 1.1.1\n24 ok trans 1.1.2\n25 ok open 1\n26 ok\n27 ok stamp 2 1.1.2\n28 ok trans 1.1.3\n29 ok file 1.1.2 open 1\n30 ok file 1.1.3 open 2\n31 ok\n32 ok\n33 ok\n34 ok\n35 ok\n36 ok\n37 ok\n38 ok\n39 ok\n40 ok\n41 ok\n42 ok\n43 ok\n44 ok\n45 ok\n46 ok\n47 refused 13 left 0 asked 1\n48 ok stamp 3 1.1.3\nserver 1 epoch 1 clock 3 files 2 pages 252\nowner 1 ann charge 252 quota 400\ncommitted 3 aborted 0\n",
-];
-
-// Each call of a session is answered once; a frame that is sent again gets the same reply while it is the last one, and then
-// nothing.
-const AGAIN_AND_OLD: [&[u8]; 2] = [
-    b"servers 1\nclient 1 Admin\n1 repeat\n1 old\n1 begin 1\n1 repeat\n1 old\n1 mkowner 1 ann 5 World\n1 commit\n1 repeat\n1 old\n",
-    b"3 none\n4 none\n5 ok trans 1.1.1\n6 ok trans 1.1.1\n7 silent\n8 ok\n9 ok stamp 1 1.1.1\n10 ok stamp 1 1.1.1\n11 silent\nserver 1 epoch 1 clock 1 files 0 pages 0\nowner 1 ann charge 0 quota 5\ncommitted 1 aborted 0\n",
-];
-
-// A transaction's end is known for as long as the server runs.
-const OUTCOMES: [&[u8]; 2] = [
-    b"servers 1\nclient 1 Admin\n1 begin 1\n1 mkowner 1 ann 9 World\n1 commit\n1 outcome\nrestart 1 0\n1 outcome\n1 outcome\n",
-    b"3 ok trans 1.1.1\n4 ok\n5 ok stamp 1 1.1.1\n6 ok committed 1 1.1.1\n8 refused 2 epoch 2\n9 ok unknown\nserver 1 epoch 2 clock 1 files 0 pages 0\nowner 1 ann charge 0 quota 9\ncommitted 1 aborted 0\n",
-];
-
-// A client that was told the last stamp of the clock begins, and cannot commit.
-const CLOCK_END: [&[u8]; 2] = [
-    b"servers 1\nclient 1 Admin\n1 raw 1 51010000000000000001010541646d696e\n1 raw 1 51010000000100000002024000000000000000010000000100000001\n1 raw 1 510100000001000000031101000000010000000101\n1 raw 1 0000\n",
-    b"3 ok\n4 ok trans 1.1.1\n5 refused 17 Voted 1 ClockEnd\n6 refused 1\nserver 1 epoch 1 clock 4611686018427387904 files 0 pages 0\ncommitted 0 aborted 1\n",
-];
-
-// A settling ends what runs, and starts a server again that is down.
-const SETTLED: [&[u8]; 2] = [
-    b"servers 1\nclient 1 Admin\n1 begin 1\n1 mkowner 1 ann 9 World\nsettle\n1 commit\n1 begin 1\n1 mkowner 1 ann 9 World\nstop 1 0\n1 commit\nsettle\n1 begin 1\n1 begin 1\n1 owner 1 ann\n1 commit\n",
-    b"3 ok trans 1.1.1\n4 ok\n6 refused 17 TimedOut\n7 ok trans 1.1.2\n8 ok\n10 refused 20\n12 refused 2 epoch 2\n13 ok trans 1.2.1\n14 refused 7\n15 ok stamp 1 1.2.1\nserver 1 epoch 2 clock 1 files 0 pages 0\ncommitted 1 aborted 2\n",
-];
-
-// An owner is made at both of two servers, and each message is carried by hand: some come twice, some are lost.
-const CARRIED: [&[u8]; 2] = [
-    b"servers 2\nclient 1 Admin\n1 begin 1\n1 mkowner 1 ann 9 World\n1 mkowner 2 ann 9 World\nauto off\n1 commit\n1 owner 1 ann\ncarry 1 2\nagain 1 2\ncarry 2 1\n1 collect\nlose 1 2\ntick 1\ncarry 1 2\ncarry 2 1\ncarry 2 1\nagain 2 1\nauto on\n1 begin 2\n1 owner 1 ann\n1 commit\n",
-    b"3 ok trans 1.1.1\n4 ok\n5 ok\n7 refused 18\n8 refused 4\n12 ok stamp 1 1.1.1\n20 ok trans 2.1.1\n21 ok owner ann charge 0 quota 9 create World\n22 ok stamp 2 2.1.1\nserver 1 epoch 1 clock 2 files 0 pages 0\nserver 2 epoch 1 clock 2 files 0 pages 0\nowner 1 ann charge 0 quota 9\nowner 2 ann charge 0 quota 9\ncommitted 2 aborted 0\n",
-];
 
 // An owner with ten pages who alone makes files of hers, one of which has four pages.
 const SET_UP: &[u8] =
@@ -185,9 +119,9 @@ const WAITING: [&[u8]; 2] = [
     b"16 ok trans 1.1.3\n17 ok trans 1.1.4\n18 ok open 1\n19 ok open 1\n20 ok\n21 refused 18\n22 refused 18\n23 refused 18\n24 ok stamp 3 1.1.3\n25 refused 18\n26 ok new\n27 ok hello\n28 ok stamp 4 1.1.4\nserver 1 epoch 1 clock 4 files 1 pages 4\nowner 1 ann charge 4 quota 10\ncommitted 4 aborted 0\n",
 ];
 
-// The report of these lines behind the others.
-fn report_of(alloc: Global, before: &[u8], lines: &[u8]) -> Result<Vec<u8>, Fail> {
-    let script = behind(alloc, before, lines)?;
+// The report of these lines behind the set-up.
+fn report_of(alloc: Global, lines: &[u8]) -> Result<Vec<u8>, Fail> {
+    let script = behind(alloc, SET_UP, lines)?;
     let told = run(alloc, &["play"], script.as_slice(), &SOUND)?;
     if told.code != 0 {
         return Err("a report".into());
@@ -195,66 +129,46 @@ fn report_of(alloc: Global, before: &[u8], lines: &[u8]) -> Result<Vec<u8>, Fail
     Ok(told.written)
 }
 
-// Which of the rows is the first that is answered otherwise, where such lines with such answers stand before each.
-fn first_other(
-    alloc: Global,
-    before: &[u8],
-    told_before: &[u8],
-    rows: &[[&[u8]; 2]],
-) -> Result<Option<usize>, Fail> {
+// The first of the rows that is answered otherwise, if any.
+fn first_other(alloc: Global, rows: &[[&[u8]; 2]]) -> Result<Option<usize>, Fail> {
     for (i, [lines, answers]) in rows.iter().enumerate() {
-        let report = report_of(alloc, before, *lines)?;
-        if report.as_slice() != behind(alloc, told_before, *answers)?.as_slice() {
+        let report = report_of(alloc, *lines)?;
+        if report.as_slice() != behind(alloc, SET_UP_TOLD, *answers)?.as_slice() {
             return Ok(Some(i));
         }
     }
     Ok(None)
 }
 
-static WHOLE: [[&[u8]; 2]; 11] = [
-    REFUSING,
-    SHARED,
-    LEFT,
-    NO_LOG,
-    NO_HOME,
-    FILLED_AGAIN,
-    AGAIN_AND_OLD,
-    OUTCOMES,
-    CLOCK_END,
-    SETTLED,
-    CARRIED,
-];
+static WAITS: [[&[u8]; 2]; 5] = [WAIT, WAITING, CONVERSIONS, DEADLOCK, TIMEOUT];
 
 #[test]
-fn plays_whole_scripts(rt: HostRuntime) -> Result<(), Fail> {
-    assert_eq!(rt; first_other(rt.alloc(), b"", b"", &WHOLE)?, None);
+fn plays_calls_that_wait(rt: HostRuntime) -> Result<(), Fail> {
+    assert_eq!(rt; first_other(rt.alloc(), &WAITS)?, None);
     Ok(())
 }
 
-static LINES: [[&[u8]; 2]; 18] = [
-    WAIT,
-    WAITING,
-    CONVERSIONS,
-    DEADLOCK,
-    TIMEOUT,
-    SIZES,
-    CHARGES,
-    DELETIONS,
-    DENIALS,
-    PAGES_LIMIT,
-    PROPERTIES,
-    CLOSING,
-    GIVEN,
-    LOCKS,
-    UPDATE,
-    RUNS,
-    ACCESS,
-    REPEATS,
-];
+static CHARGED: [[&[u8]; 2]; 5] = [SIZES, CHARGES, DELETIONS, DENIALS, PAGES_LIMIT];
 
 #[test]
-fn plays_lines_behind_a_set_up(rt: HostRuntime) -> Result<(), Fail> {
-    assert_eq!(rt; first_other(rt.alloc(), SET_UP, SET_UP_TOLD, &LINES)?, None);
+fn plays_sizes_and_charges(rt: HostRuntime) -> Result<(), Fail> {
+    assert_eq!(rt; first_other(rt.alloc(), &CHARGED)?, None);
+    Ok(())
+}
+
+static DESCRIBED: [[&[u8]; 2]; 3] = [PROPERTIES, CLOSING, GIVEN];
+
+#[test]
+fn plays_properties(rt: HostRuntime) -> Result<(), Fail> {
+    assert_eq!(rt; first_other(rt.alloc(), &DESCRIBED)?, None);
+    Ok(())
+}
+
+static LOCKED: [[&[u8]; 2]; 5] = [LOCKS, UPDATE, RUNS, ACCESS, REPEATS];
+
+#[test]
+fn plays_locks_and_access(rt: HostRuntime) -> Result<(), Fail> {
+    assert_eq!(rt; first_other(rt.alloc(), &LOCKED)?, None);
     Ok(())
 }
 
@@ -272,7 +186,7 @@ fn locks_a_thousand_pages(rt: HostRuntime) -> Result<(), Fail> {
     lines.extend_from_slice(
         b"2 lock B 1008 15 r\n2 lock B 1008 14 r\n2 lock B 1022 1 r\n2 lock B 0 16 r\n",
     )?;
-    let told = report_of(rt.alloc(), SET_UP, lines.as_slice())?;
+    let told = report_of(rt.alloc(), lines.as_slice())?;
     let end: &[u8] =
         b"\n86 refused 15 Locks 1024\n87 ok\n88 refused 15 Locks 1024\n89 ok\nserver 1 epoch 1 clock 4 files 2 pages 1104\nowner 1 ann charge 1104 quota 2000\ncommitted 4 aborted 1\n";
     assert!(rt; told.as_slice().ends_with(end));
