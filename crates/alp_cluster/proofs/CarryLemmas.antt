@@ -17,9 +17,10 @@ use Rattle.alp_course.proofs.LanguageLemmas.{cut_just}
 use Rattle.alp_course.proofs.RankLemmas.{get_below}
 use Rattle.alp_course.proofs.WordLemmas.{brings_append}
 use Rattle.alp_cluster.specs.Come.{Come}
+use Rattle.alp_cluster.specs.Goes.{opening_in}
 use Rattle.alp_cluster.specs.Messages.{IfOr, taking_at, AreApart, HasArrived, HasNoRoomFor, DidSay}
 use Rattle.alp_cluster.specs.Station.{seat_of}
-use Rattle.alp_cluster.specs.Stations.{AreOn, IsOneOf, AreLater, IsReachedBy, IsUnchanged, Go, Did, DidSome, IsCalmSince, course_of, openings_of, opening_in, server_in, state_for, servers_of}
+use Rattle.alp_cluster.specs.Stations.{AreOn, IsOneOf, AreLater, IsReachedBy, IsUnchanged, Go, Did, DidSome, IsCalmSince, course_of, openings_of, server_in, state_for, servers_of}
 use Rattle.alp_cluster.specs.declared.fault.RunFault.{RunFault}
 use Rattle.alp_cluster.specs.declared.fault.RunFault.TheVariants as fault
 use Rattle.alp_cluster.specs.declared.station.Station.{Station}

@@ -17,9 +17,10 @@ use Rattle.alp_course.specs.Plays.{Due}
 use Rattle.alp_course.proofs.RankLemmas.{get_below}
 use Rattle.alp_cluster.specs.Fills.{IsEndFor}
 use Rattle.alp_cluster.specs.Gathered.{AreStationsOf, AreGathered}
+use Rattle.alp_cluster.specs.Goes.{opening_in}
 use Rattle.alp_cluster.specs.Servers.{AreCalm}
 use Rattle.alp_cluster.specs.Station.{standing}
-use Rattle.alp_cluster.specs.Stations.{EndsAt, EndsFor, IsCalmSince, AreCalmSince, opening_in, openings_of, server_in, server_at, servers_of}
+use Rattle.alp_cluster.specs.Stations.{EndsAt, EndsFor, IsCalmSince, AreCalmSince, openings_of, server_in, server_at, servers_of}
 use Rattle.alp_cluster.specs.declared.fault.RunFault.{RunFault}
 use Rattle.alp_cluster.specs.declared.fault.RunFault.TheVariants as fault
 use Rattle.alp_cluster.specs.declared.parties.Parties.{Parties}

@@ -11,6 +11,7 @@ pub mod ComeLemmas
 pub mod HeardLemmas
 pub mod OwnLemmas
 pub mod GoneLemmas
+pub mod AddsLemmas
 pub mod CalmLemmas
 pub mod TakenLemmas
 pub mod GoLemmas

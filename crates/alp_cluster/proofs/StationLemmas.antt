@@ -12,7 +12,7 @@ use Rattle.alp_vault.specs.declared.vault.Vault.{Ghosts}
 use Rattle.alp_course.specs.Courses.{last_rank, ranks_from, ranks_with}
 use Rattle.alp_course.specs.Happens.{Stand, Happening, ComesTo, Takes, Happens, stop_set, restarted, lifts}
 use Rattle.alp_course.proofs.RankLemmas.{none_with}
-use Rattle.alp_cluster.specs.Goes.{GoesBy}
+use Rattle.alp_cluster.specs.Goes.{AddsEntries, GoesBy}
 use Rattle.alp_cluster.specs.Servers.{IsOn, IsFree, HasGone, HasNoRoom, HasComeTo, HasStopSet, IsLifted, StartsAgain, StaysDown, stand_of}
 use Rattle.alp_cluster.specs.Station.{standing, HasVault, Keeps, WentBy, WasHanded, LeavesVault, IsStill}
 use Rattle.alp_cluster.specs.declared.fault.RunFault.{RunFault}
@@ -20,6 +20,7 @@ use Rattle.alp_cluster.specs.declared.fault.RunFault.TheVariants as fault
 use Rattle.alp_cluster.specs.declared.server.Server.{Server}
 use Rattle.alp_cluster.specs.declared.server.Server.TheVariants.{Fallen}
 use Rattle.alp_cluster.specs.declared.station.Station.{Station}
+use Rattle.alp_cluster.proofs.AddsLemmas.{adds_at, adds_some}
 use Rattle.alp_cluster.proofs.GoLemmas.{event_goes}
 use Rattle.alp_cluster.proofs.GoneLemmas.{one_nothing}
 use Rattle.alp_cluster.proofs.RestartLemmas.{again_goes, again_gone, stays_gone, lifted_goes, lifted_gone, stop_goes, stop_gone}
@@ -65,7 +66,7 @@ few_taken w k x false (sent.Call client epoch number c) es v h = (let one : leng
 pub one_of : {V : Type 0} (o : Option (Server V)) (n m : NodeState V) → o ≡ standing n → o ≡ standing m → n ≡ m
 one_of o n m first second = (let same : standing n ≡ standing m = sym first ∙ second in cc)
 
--- ---- what is left of its vault
+-- ---- what is left of its vault and its journal
 
 module _ {V : Type 0} (G : Ghosts V) where
   -- nothing was done, for memory was wanting
@@ -74,21 +75,24 @@ module _ {V : Type 0} (G : Ghosts V) where
     n.kept.vault,
     subst (λ (o : Option (Server V)). HasVault o n.kept.vault) (sym (same ∙ stood)) refl,
     subst (λ (q : Result T RunFault). HasGone G P n.kept.vault n.kept.vault q) (sym is) (one_nothing G P n.kept.vault (Err fault.OutOfMemory) tt tt refl),
+    adds_at y.server n (same ∙ stood),
   )
 
   -- ranks are no matter of the vault
   pub leaves_on : {T : Type 0} (P : Type 0) (x y z w : Station V) (r : Result T RunFault) → y.server ≡ x.server → w.server ≡ z.server → LeavesVault G P y z r → LeavesVault G P x w r
   leaves_on P x y z w r first last leaves = λ n stood.
-      let (v, has, gone) = leaves n (first ∙ stood) in
-      (v, subst (λ (o : Option (Server V)). HasVault o v) (sym last) has, gone)
+      let (v, has, gone, adds) = leaves n (first ∙ stood) in
+      (v, subst (λ (o : Option (Server V)). HasVault o v) (sym last) has, gone, subst (λ (o : Option (Server V)). AddsEntries n o) (sym last) adds)
 
   -- of the one that stands there
-  pub leaves_of : {T : Type 0} (P : Type 0) (x y : Station V) (n : NodeState V) (v : V) (r : Result T RunFault) → x.server ≡ standing n → HasVault y.server v → HasGone G P n.kept.vault v r → LeavesVault G P x y r
-  leaves_of {T} P x y n v r is has gone = λ k stood. (v, has, subst (λ (z : NodeState V). HasGone G P z.kept.vault v r) (one_of x.server n k is stood) gone)
-
-  pub leaves_server : {T : Type 0} (P : Type 0) (x : Station V) (o : Option (Server V)) (n : NodeState V) (v : V) (r : Result T RunFault) → x.server ≡ standing n → HasVault o v → HasGone G P n.kept.vault v r
-      → (k : NodeState V) → x.server ≡ standing k → (u : V) × HasVault o u × HasGone G P k.kept.vault u r
-  leaves_server {T} P x o n v r is has gone = λ k stood. (v, has, subst (λ (z : NodeState V). HasGone G P z.kept.vault v r) (one_of x.server n k is stood) gone)
+  pub leaves_server : {T : Type 0} (P : Type 0) (x : Station V) (o : Option (Server V)) (n : NodeState V) (v : V) (r : Result T RunFault) → x.server ≡ standing n → HasVault o v → HasGone G P n.kept.vault v r → AddsEntries n o
+      → (k : NodeState V) → x.server ≡ standing k → (u : V) × HasVault o u × HasGone G P k.kept.vault u r × AddsEntries k o
+  leaves_server {T} P x o n v r is has gone adds = λ k stood. (
+    v,
+    has,
+    subst (λ (z : NodeState V). HasGone G P z.kept.vault v r) (one_of x.server n k is stood) gone,
+    subst (λ (z : NodeState V). AddsEntries z o) (one_of x.server n k is stood) adds,
+  )
 
   -- ---- it went on
 
@@ -178,5 +182,9 @@ module _ {V : Type 0} (G : Ghosts V) where
 
   -- what is left of it, whether it did or not
   pub again_leaves : (pick : ℕ) (x : Station V) (o : Option (Server V)) (n m : NodeState V) → x.server ≡ standing n → StartsAgain G pick n m → o ≡ standing m → (k : NodeState V) → x.server ≡ standing k
-      → (u : V) × HasVault o u × HasGone {T = Unit {0}} G (Unit {0}) k.kept.vault u (Ok tt)
-  again_leaves pick x o n m stood again stands = leaves_server {T = Unit {0}} (Unit {0}) x o n m.kept.vault (Ok tt) stood (subst (λ (q : Option (Server V)). HasVault q m.kept.vault) (sym stands) refl) (again_gone G pick n m again (Unit {0}) tt)
+      → (u : V) × HasVault o u × HasGone {T = Unit {0}} G (Unit {0}) k.kept.vault u (Ok tt) × AddsEntries k o
+  again_leaves pick x o n m stood again stands =
+      let g : GoesBy G false false (λ w es v. Happens false w (restarted pick) es v) n m = again_goes G pick n m again false false in
+      let adds : AddsEntries n (standing m) = adds_some n m g.entries g.later.opening g.journal in
+      leaves_server {T = Unit {0}} (Unit {0}) x o n m.kept.vault (Ok tt) stood (subst (λ (q : Option (Server V)). HasVault q m.kept.vault) (sym stands) refl) (again_gone G pick n m again (Unit {0}) tt)
+      (subst (λ (q : Option (Server V)). AddsEntries n q) (sym stands) adds)

@@ -1,12 +1,35 @@
 -- How a server goes on by what happens at it.
-use Rattle.std.specs.Prelude.{◌≡◌, ℕ, Bool, List, ◌++◌}
+use Rattle.std.specs.Prelude.{◌≡◌, ℕ, Bool, List, [], ◌++◌, Option, None, Some}
 use Rattle.alp_journal.specs.declared.entry.Entry.{Entry}
 use Rattle.alp_node.specs.NodeStates.{NodeState}
 use Rattle.alp_node.specs.Nodes.{start_in}
+use Rattle.alp_node.specs.declared.opened.Opened.{Opened}
 use Rattle.alp_vault.specs.declared.vault.Vault.{Ghosts}
 use Rattle.alp_course.specs.Happens.{Stand}
 use Rattle.alp_cluster.specs.Come.{Come, IsReached}
 use Rattle.alp_cluster.specs.Servers.{IsOn, IsFree, AreCalm, stand_of}
+use Rattle.alp_cluster.specs.declared.server.Server.{Server}
+use Rattle.alp_cluster.specs.declared.server.Server.TheVariants.{Up, Fallen}
+
+-- ---- what it was opened on, and its journal
+
+abbrev pub opening_in : {V : Type 0} → Option (Server V) → Option (Opened V)
+opening_in (Some (Up n)) = Some n.opening
+opening_in (Some (Fallen d)) = Some d.opening
+opening_in None = None
+
+abbrev pub journal_in : {V : Type 0} → Option (Server V) → List Entry
+journal_in (Some (Up n)) = n.journal
+journal_in (Some (Fallen d)) = d.journal
+journal_in None = []
+
+-- It was opened on what this server was, and its journal is that of this server with more entries, or none.
+pub record AddsEntries {V : Type 0} (before : NodeState V) (now : Option (Server V)) : Type 0 where
+  pub opening : opening_in now ≡ Some before.opening
+  pub more : List Entry
+  pub journal : journal_in now ≡ before.journal ++ more
+
+-- ---- one that stands
 
 -- It is the same server, opened on the same, and what calls it had come to it has come to still. Where no entry of its journal stopped it, none
 -- did before, and its count of faults stayed.

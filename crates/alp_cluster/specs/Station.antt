@@ -10,7 +10,7 @@ use Rattle.alp_rpc.specs.Frames.{request}
 use Rattle.alp_course.specs.Courses.{Seat, no_seat, last_rank, ranks_with}
 use Rattle.alp_course.specs.Happens.{Stand}
 use Rattle.alp_cluster.specs.Exchanges.{IsHanded}
-use Rattle.alp_cluster.specs.Goes.{GoesBy}
+use Rattle.alp_cluster.specs.Goes.{AddsEntries, GoesBy}
 use Rattle.alp_cluster.specs.Servers.{IsOn, IsFree, HasGone, StaysDown, stand_of}
 use Rattle.alp_cluster.specs.declared.exchange.Handed.{Handed}
 use Rattle.alp_cluster.specs.declared.fault.RunFault.{RunFault}
@@ -51,9 +51,9 @@ pub record WentBy {V : Type 0} (G : Ghosts V) (seen : ℕ) (Makes : Stand → Li
   pub goes : GoesBy G old.is_fused new.is_fused Makes before after
   pub ranks : new.ranks.items ≡ ranks_with old.ranks.items seen goes.entries
 
--- what a call leaves of its vault
+-- what a call leaves of it, whether it went well or not: its vault, and its journal with more entries, or none
 abbrev pub LeavesVault : {V T : Type 0} → Ghosts V → Type 0 → (old new : Station V) → Result T RunFault → Type 0
-LeavesVault {V} G P old new r = (n : NodeState V) → old.server ≡ standing n → (v : V) × HasVault new.server v × HasGone G P n.kept.vault v r
+LeavesVault {V} G P old new r = (n : NodeState V) → old.server ≡ standing n → (v : V) × HasVault new.server v × HasGone G P n.kept.vault v r × AddsEntries n new.server
 
 -- it is as it was
 pub record IsStill {V : Type 0} (old new : Station V) : Type 0 where

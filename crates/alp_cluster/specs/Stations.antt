@@ -17,6 +17,7 @@ use Rattle.alp_course.specs.Languages.{Language}
 use Rattle.alp_course.specs.Plays.{Due, IsCut}
 use Rattle.alp_cluster.specs.Come.{Come, IsReached}
 use Rattle.alp_cluster.specs.Fills.{IsEndFor}
+use Rattle.alp_cluster.specs.Goes.{AddsEntries, opening_in, journal_in}
 use Rattle.alp_cluster.specs.Servers.{AreCalm, HasGoneBy, HasStopSet, StartsAgain}
 use Rattle.alp_cluster.specs.Station.{standing, HasVault, seat_of, Keeps, EndsHere}
 use Rattle.alp_cluster.specs.declared.fault.RunFault.{RunFault}
@@ -78,11 +79,6 @@ abbrev pub IsReachedBy : {V : Type 0} → Option (ServerState V) → ℕ → Com
 IsReachedBy None client a = Unit {0}
 IsReachedBy (Some k) client a = IsReached k client a
 
-abbrev pub opening_in : {V : Type 0} → Option (Server V) → Option (Opened V)
-opening_in (Some (Up n)) = Some n.opening
-opening_in (Some (Fallen d)) = Some d.opening
-opening_in None = None
-
 abbrev pub openings_of : {V : Type 0} → Stations V → List (Option (Opened V))
 openings_of s = list_map (λ (x : Station _). opening_in x.server) s.all.items
 
@@ -97,11 +93,6 @@ server_in (Some x) = x.server
 
 abbrev pub server_at : {V : Type 0} → Stations V → ℕ → Option (Server V)
 server_at s n = server_in (slice_get s.all.items (n - 1))
-
-abbrev pub journal_in : {V : Type 0} → Option (Server V) → List Entry
-journal_in (Some (Up n)) = n.journal
-journal_in (Some (Fallen d)) = d.journal
-journal_in None = []
 
 abbrev pub faults_in : {V : Type 0} → Ghosts V → Option (Server V) → ℕ
 faults_in G (Some (Up n)) = G.faults n.kept.vault
@@ -205,18 +196,19 @@ pub record DidSome {V : Type 0} (G : Ghosts V) (A : Language) (f : RunFault) (be
   pub ends : IsEndFor f (course_of G at_end) due
   pub left : EndsFor G f at_end after
 
--- ---- their vaults
+-- ---- their vaults and journals
 
 abbrev pub IsOfRun : (count server : ℕ) → Type 0
 IsOfRun count server = (1 ≤ server) × (server ≤ count)
 
--- what a call leaves of the vault of one of them
+-- what a call leaves of one of them, whether it went well or not: its vault, and its journal with more entries, or none
 pub record LeavesOf {V T : Type 0} (G : Ghosts V) (count : ℕ) (P : Type 0) (n : NodeState V) (now : Option (Station V)) (r : Result T RunFault) : Type 0 where
   pub station : Station V
   pub there : now ≡ Some station
   pub vault : V
   pub its : HasVault station.server vault
   pub gone : HasGoneBy G (IsOfRun count) P n.kept.vault vault r
+  pub adds : AddsEntries n station.server
 
 -- of each of them
 pub record HaveGone {V T : Type 0} (G : Ghosts V) (P : Type 0) (old new : Stations V) (r : Result T RunFault) : Type 0 where

@@ -1,12 +1,14 @@
 //! The server's side of an exchange: from the bytes of a frame to the bytes of its reply.
-ghost use Rattle.std.specs.Prelude.{◌≡◌, ◌≤◌, ◌<◌, ◌^◌, false, IfOk, IfSome, IsSome};
+ghost use Rattle.std.specs.Prelude.{◌≡◌, ◌≤◌, ◌<◌, ◌^◌, false, Some, IfOk, IfSome, IsSome};
 ghost use Rattle.alp_fields.specs.Forms.{whole};
 ghost use Rattle.alp_rpc.specs.Frames.{request as request_form, IsHead, IsSendable as IsSendableRequest};
 ghost use Rattle.alp_rpc.specs.Replies.{IsSendable};
 ghost use Rattle.alp_session.specs.Frames.{told_by};
 ghost use Rattle.alp_cluster.specs.Exchanges.{IsAsked, IsTurnedAway, IsHanded, place_for};
 ghost use Rattle.alp_course.specs.Happens.{handed_for};
+ghost use Rattle.alp_cluster.specs.Goes.{AddsEntries};
 ghost use Rattle.alp_cluster.specs.Servers.{IsOn, HasGone, HasNoRoom, OnFull};
+ghost use Rattle.alp_cluster.specs.declared.server.Server.TheVariants.{Up};
 
 use crate::fault::RunFault;
 use crate::step::step;
@@ -102,6 +104,7 @@ fn ask<V: Vault>(alloc: Global, node: &mut Node<V>, request: Request) -> Result<
     requires fits { request_form.Fits request }
     requires on { IsOn V.Vault node.old }
     ensures gone { HasGone V.Vault (Unit {0}) node.old.kept.vault node.new.kept.vault result }
+    ensures adds { AddsEntries node.old (Some (Up node.new)) }
     ensures filled { OnFull result (HasNoRoom node.old node.new) }
     ensures asked { IfOk result (IsAsked V.Vault node.old node.new request) }
 {
@@ -168,6 +171,7 @@ pub(crate) fn hand<V: Vault>(
     requires client { (1 ≤ client) × (client ≤ 16) }
     requires on { IsOn V.Vault node.old }
     ensures gone { HasGone V.Vault (Unit {0}) node.old.kept.vault node.new.kept.vault result }
+    ensures adds { AddsEntries node.old (Some (Up node.new)) }
     ensures filled { OnFull result (IsSome (whole request_form frame.now) × HasNoRoom node.old node.new) }
     ensures handed { IfOk result (IsHanded V.Vault node.old node.new client frame.now (whole request_form frame.now)) }
 {

@@ -1,8 +1,10 @@
 //! One step of a server of a run, on a device that may fail or be stopped.
-ghost use Rattle.std.specs.Prelude.{◌≡◌, IfOk, slice_get};
+ghost use Rattle.std.specs.Prelude.{◌≡◌, Some, IfOk, slice_get};
 ghost use Rattle.alp_journal.specs.Answered.{is_read_fault};
 ghost use Rattle.alp_node.specs.Served.{IsServed};
+ghost use Rattle.alp_cluster.specs.Goes.{AddsEntries};
 ghost use Rattle.alp_cluster.specs.Servers.{IsOn, HasGone, Steps, HasNoRoom, OnFull, is_failure, fails, is_failed_at};
+ghost use Rattle.alp_cluster.specs.declared.server.Server.TheVariants.{Up};
 
 use crate::fault::RunFault;
 use alp_files::{Refusal, Reply};
@@ -55,6 +57,7 @@ pub fn step<V: Vault>(node: &mut Node<V>, event: Event) -> Result<Option<Reply>,
     requires on { IsOn V.Vault node.old }
     requires served { IsServed event }
     ensures gone { HasGone V.Vault (Unit {0}) node.old.kept.vault node.new.kept.vault result }
+    ensures adds { AddsEntries node.old (Some (Up node.new)) }
     ensures filled { OnFull result (HasNoRoom node.old node.new) }
     ensures steps { IfOk result (λ r. Steps V.Vault node.old.kept.is_down node.old node.new event r) }
 {

@@ -8,6 +8,7 @@ use Rattle.alp_cluster.specs.Exchanges.{event_of, place_for}
 use Rattle.alp_course.specs.Happens.{handed_for}
 use Rattle.alp_cluster.specs.Servers.{Steps}
 use Rattle.alp_cluster.specs.declared.fault.RunFault.TheVariants as fault
+use Rattle.alp_cluster.proofs.AddsLemmas.{adds_none}
 use Rattle.alp_cluster.proofs.GoneLemmas.{one_nothing, one_memory, one_handed, one_ok, full_then, end_memory, handed_on}
 use Rattle.alp_cluster.proofs.ReplyLemmas.{steps_epoch, steps_place, asked_sendable}
 use Rattle.alp_cluster.proofs.ServedLemmas.{request_served}
@@ -16,6 +17,9 @@ use Rattle.alp_cluster.proofs.exchange.ask.Goals as goal
 pub returns-in_err-copied-clause-gone : goal.returns-in_err-copied-clause-gone
 returns-in_err-copied-clause-gone g c =
     rw (handed_on fault.OutOfMemory c.from_residual.result c.from_residual.ensures.0 c.from_residual.ensures.1) (one_nothing g.V.Vault (Unit {0}) c.args.node.now.kept.vault _ tt tt refl)
+
+pub returns-in_err-copied-clause-adds : goal.returns-in_err-copied-clause-adds
+returns-in_err-copied-clause-adds g c = adds_none c.args.node.now
 
 pub returns-in_err-copied-clause-filled : goal.returns-in_err-copied-clause-filled
 returns-in_err-copied-clause-filled g c =

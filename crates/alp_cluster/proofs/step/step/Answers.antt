@@ -1,5 +1,5 @@
 use Rattle.std.specs.Prelude.{true, false, Bool, Ok, Err, Some}
-use Rattle.std.proofs.Common.{inl, inr, ◌⊎◌, ◌≡◌, ◌≤◌, ℕ, List, length, refl, sym, ◌∙◌, ap, subst, arith}
+use Rattle.std.proofs.Common.{inl, inr, ◌⊎◌, ◌≡◌, ◌≤◌, ℕ, List, [], ◌∷◌, length, refl, sym, ◌∙◌, ap, subst, arith}
 use Rattle.std.specs.List.{list_any}
 use Rattle.alp_files.specs.declared.refusal.Refusal.TheVariants as refusal
 use Rattle.alp_files.specs.declared.reply.Reply.TheVariants as reply
@@ -8,6 +8,7 @@ use Rattle.alp_journal.specs.declared.entry.Entry.{Entry}
 use Rattle.alp_node.specs.Nodes.{HasRoom}
 use Rattle.alp_cluster.specs.Servers.{Steps, is_failure}
 use Rattle.alp_cluster.specs.declared.fault.RunFault.TheVariants as fault
+use Rattle.alp_cluster.proofs.AddsLemmas.{adds_none, adds_same, adds_some}
 use Rattle.alp_cluster.proofs.GoneLemmas.{one_nothing, handed_on, end_memory}
 use Rattle.alp_cluster.proofs.TakenLemmas.{failed_last, taken, taken_gone, failed_gone, wanting_gone}
 use Rattle.alp_cluster.proofs.step.step.Goals as goal
@@ -17,6 +18,9 @@ use Rattle.alp_cluster.proofs.step.step.Goals.{then-shows_fault-via-then-shows_f
 
 pub returns-then-is_down-clause-gone : goal.returns-then-is_down-clause-gone
 returns-then-is_down-clause-gone g c = one_nothing g.V.Vault (Unit {0}) c.args.node.now.kept.vault (Ok (Some (reply.Refused refusal.Down))) tt tt refl
+
+pub returns-then-is_down-clause-adds : goal.returns-then-is_down-clause-adds
+returns-then-is_down-clause-adds g c = adds_none c.args.node.now
 
 pub returns-then-is_down-clause-steps : goal.returns-then-is_down-clause-steps
 returns-then-is_down-clause-steps g c =
@@ -28,6 +32,9 @@ returns-then-is_down-clause-steps g c =
 
 pub returns-then-place-ge-JOURNAL_ENTRIES_MOST-clause-gone : goal.returns-then-place-ge-JOURNAL_ENTRIES_MOST-clause-gone
 returns-then-place-ge-JOURNAL_ENTRIES_MOST-clause-gone g c = one_nothing g.V.Vault (Unit {0}) c.args.node.now.kept.vault (Err fault.JournalFull) tt tt refl
+
+pub returns-then-place-ge-JOURNAL_ENTRIES_MOST-clause-adds : goal.returns-then-place-ge-JOURNAL_ENTRIES_MOST-clause-adds
+returns-then-place-ge-JOURNAL_ENTRIES_MOST-clause-adds g c = adds_none c.args.node.now
 
 pub returns-then-place-ge-JOURNAL_ENTRIES_MOST-clause-filled : goal.returns-then-place-ge-JOURNAL_ENTRIES_MOST-clause-filled
 returns-then-place-ge-JOURNAL_ENTRIES_MOST-clause-filled g c =
@@ -41,6 +48,9 @@ pub returns-in_err-reply-clause-gone : goal.returns-in_err-reply-clause-gone
 returns-in_err-reply-clause-gone g c =
     let is = handed_on fault.OutOfMemory c.from_residual.result c.from_residual.ensures.0 c.from_residual.ensures.1 in
     rw is (wanting_gone g.V.Vault (Unit {0}) c.args.node.now c.step.new.self c.step.ensures.seat c.in_err-reply.ensures.err)
+
+pub returns-in_err-reply-clause-adds : goal.returns-in_err-reply-clause-adds
+returns-in_err-reply-clause-adds g c = adds_same c.args.node.now c.step.new.self c.step.ensures.opening c.in_err-reply.ensures.err.journal
 
 pub returns-in_err-reply-clause-filled : goal.returns-in_err-reply-clause-filled
 returns-in_err-reply-clause-filled g c =
@@ -64,6 +74,26 @@ returns-then-shows_fault-clause-gone g c =
           ∙ sym w.failed_at.ensures ∙ w.if-failed_at.true)
     ] in
     failed_gone g.V.Vault n m c.args.event c.in_ok-reply.reply c.requires.on c.requires.served up room a h.opening h.seat (h.turned room) c.knows.ensures (Unit {0}) c.server-server.result c.server-server.ensures shows
+
+pub returns-then-shows_fault-clause-adds : goal.returns-then-shows_fault-clause-adds
+returns-then-shows_fault-clause-adds g c =
+    let n = c.args.node.now in
+    let long : length c.entries-place.result.now ≡ length n.journal = ap (λ (js : List Entry). length js) (c.entries-place.ensures ∙ c.journal.ensures) in
+    let room : HasRoom n = omega (arith, c.if-place-ge-JOURNAL_ENTRIES_MOST.false, long) in
+    let up : n.kept.is_down ≡ false = sym c.is_down.ensures ∙ c.if-is_down.false in
+    let h = c.in_ok-reply.ensures in
+    let a = h.answered up room in
+    adds_some n c.step.new.self ((record { event = c.args.event; reply = c.in_ok-reply.reply; acts = a.acts }) ∷ []) h.opening a.entry
+
+pub returns-clause-adds : goal.returns-clause-adds
+returns-clause-adds g c =
+    let n = c.args.node.now in
+    let long : length c.entries-place.result.now ≡ length n.journal = ap (λ (js : List Entry). length js) (c.entries-place.ensures ∙ c.journal.ensures) in
+    let room : HasRoom n = omega (arith, c.if-place-ge-JOURNAL_ENTRIES_MOST.false, long) in
+    let up : n.kept.is_down ≡ false = sym c.is_down.ensures ∙ c.if-is_down.false in
+    let h = c.in_ok-reply.ensures in
+    let a = h.answered up room in
+    adds_some n c.step.new.self ((record { event = c.args.event; reply = c.in_ok-reply.reply; acts = a.acts }) ∷ []) h.opening a.entry
 
 pub returns-clause-gone : goal.returns-clause-gone
 returns-clause-gone g c =

@@ -1,12 +1,22 @@
 use Rattle.std.specs.Prelude.{take, length}
 use Rattle.std.proofs.Common.{◌∙◌, ap}
 use Rattle.std.proofs.lemmas.Result.{IfOk-weaker}
-use Rattle.alp_cluster.proofs.GoneLemmas.{full_map}
-use Rattle.alp_cluster.proofs.StationLemmas.{still_by}
+use Rattle.alp_cluster.specs.declared.fault.RunFault.TheVariants as fault
+use Rattle.alp_cluster.proofs.GoneLemmas.{handed_on, full_map}
+use Rattle.alp_cluster.proofs.StationLemmas.{leaves_wanting, leaves_on, still_by}
 use Rattle.alp_cluster.proofs.station.Station.hand.Goals as goal
 
 pub hand_here-handed-requires-clause-stands : goal.hand_here-handed-requires-clause-stands
 hand_here-handed-requires-clause-stands g c = (let (n, keeps) = c.requires.stands in (n, c.push_rank.ensures.server ∙ keeps.stands, keeps.on))
+
+pub returns-in_err-push_rank-clause-gone : goal.returns-in_err-push_rank-clause-gone
+returns-in_err-push_rank-clause-gone g c =
+    leaves_wanting g.V.Vault (Unit {0}) c.args.self.now c.push_rank.new.self c.from_residual.result c.push_rank.ensures.server
+    (handed_on fault.OutOfMemory c.from_residual.result c.from_residual.ensures.0 c.from_residual.ensures.1)
+
+pub returns-clause-gone : goal.returns-clause-gone
+returns-clause-gone g c =
+    leaves_on g.V.Vault (Unit {0}) c.args.self.now c.push_rank.new.self c.hand_here-handed.new.self c.drop_ranks.new.self c.hand_here-handed.result c.push_rank.ensures.server c.drop_ranks.ensures.server c.hand_here-handed.ensures.gone
 
 pub returns-clause-filled : goal.returns-clause-filled
 returns-clause-filled g c =

@@ -8,8 +8,13 @@ use Rattle.alp_cluster.specs.Exchanges.{IsHanded}
 use Rattle.alp_cluster.specs.Servers.{HasNoRoom}
 use Rattle.alp_cluster.specs.Station.{standing}
 use Rattle.alp_cluster.proofs.GoneLemmas.{full_map}
-use Rattle.alp_cluster.proofs.StationLemmas.{one_of}
+use Rattle.alp_cluster.proofs.StationLemmas.{one_of, leaves_server}
 use Rattle.alp_cluster.proofs.station.Station.hand_here.Goals as goal
+
+pub returns-clause-gone : goal.returns-clause-gone
+returns-clause-gone g c =
+    let is : c.args.self.now.server ≡ standing c.in-Some-Up.node = c.in-Some-Up.is ∙ ap Some c.in-Some-Up.field-0-is in
+    leaves_server g.V.Vault (Unit {0}) c.args.self.now (standing c.hand.new.node) c.in-Some-Up.node c.hand.new.node.kept.vault c.hand.result is refl c.hand.ensures.gone c.hand.ensures.adds
 
 pub returns-clause-filled : goal.returns-clause-filled
 returns-clause-filled g c =

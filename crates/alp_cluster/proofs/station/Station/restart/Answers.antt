@@ -3,13 +3,20 @@ use Rattle.std.proofs.Common.{◌≡◌, refl, sym, ◌∙◌, ap, subst}
 use Rattle.alp_cluster.specs.Servers.{HasGone}
 use Rattle.alp_cluster.specs.Station.{EndsHere}
 use Rattle.alp_cluster.specs.declared.fault.RunFault.{RunFault}
+use Rattle.alp_cluster.specs.declared.fault.RunFault.TheVariants as fault
+use Rattle.alp_cluster.proofs.AddsLemmas.{adds_fallen}
 use Rattle.alp_cluster.proofs.GoneLemmas.{handed_on, end_any}
 use Rattle.alp_cluster.proofs.RestartLemmas.{stays_gone}
-use Rattle.alp_cluster.proofs.StationLemmas.{leaves_server, again_leaves, again_went}
+use Rattle.alp_cluster.proofs.StationLemmas.{leaves_wanting, leaves_server, again_leaves, again_went}
 use Rattle.alp_cluster.proofs.station.Station.restart.Goals as goal
 
 pub restart_here-requires : goal.restart_here-requires
 restart_here-requires g c = (let (n, keeps) = c.requires.stands in record { stands = (n, c.push_rank.ensures.server ∙ keeps.stands, keeps.on) })
+
+pub returns-in_err-push_rank-clause-gone : goal.returns-in_err-push_rank-clause-gone
+returns-in_err-push_rank-clause-gone g c =
+    leaves_wanting g.V.Vault (Unit {0}) c.args.self.now c.push_rank.new.self c.from_residual.result c.push_rank.ensures.server
+    (handed_on fault.OutOfMemory c.from_residual.result c.from_residual.ensures.0 c.from_residual.ensures.1)
 
 pub returns-in_err-restart_here-clause-gone : goal.returns-in_err-restart_here-clause-gone
 returns-in_err-restart_here-clause-gone g c =
@@ -19,6 +26,7 @@ returns-in_err-restart_here-clause-gone g c =
     let is = handed_on e c.from_residual-in_err-restart_here.result c.from_residual-in_err-restart_here.ensures.0 c.from_residual-in_err-restart_here.ensures.1 in
     leaves_server g.V.Vault (Unit {0}) c.args.self.now c.restart_here.new.self.server n d.vault c.from_residual-in_err-restart_here.result keeps.stands (rw left refl)
     (subst (λ r. HasGone g.V.Vault (Unit {0}) n.kept.vault d.vault r) (sym (is ∙ ap Err named)) (stays_gone g.V.Vault c.args.pick n keeps.on d (Unit {0}) f stays))
+    (adds_fallen n d c.restart_here.new.self.server left (stays.stays.opening ∙ stays.falls.opening) (stays.stays.journal ∙ stays.falls.journal))
 
 pub returns-in_err-restart_here-clause-ended : goal.returns-in_err-restart_here-clause-ended
 returns-in_err-restart_here-clause-ended g c =

@@ -1,11 +1,25 @@
-use Rattle.std.specs.Prelude.{Some}
+use Rattle.std.specs.Prelude.{Some, Ok}
 use Rattle.std.proofs.Common.{◌≡◌, refl, sym, subst, ◌∙◌, ap}
 use Rattle.alp_node.specs.NodeStates.{NodeState}
 use Rattle.alp_cluster.specs.Servers.{Steps, HasNoRoom}
 use Rattle.alp_cluster.specs.Station.{standing}
-use Rattle.alp_cluster.proofs.GoneLemmas.{handed_on, full_then}
-use Rattle.alp_cluster.proofs.StationLemmas.{one_of}
+use Rattle.alp_cluster.proofs.GoneLemmas.{one_handed, one_ok, handed_on, full_then}
+use Rattle.alp_cluster.proofs.StationLemmas.{one_of, leaves_server}
 use Rattle.alp_cluster.proofs.station.Station.step_here.Goals as goal
+
+pub returns-in_err-step-in-Some-Up-clause-gone : goal.returns-in_err-step-in-Some-Up-clause-gone
+returns-in_err-step-in-Some-Up-clause-gone g c =
+    let is : c.args.self.now.server ≡ standing c.in-Some-Up.node = c.in-Some-Up.is ∙ ap Some c.in-Some-Up.field-0-is in
+    leaves_server g.V.Vault (Unit {0}) c.args.self.now (standing c.step.new.node) c.in-Some-Up.node c.step.new.node.kept.vault c.from_residual.result is refl
+    (one_handed g.V.Vault (Unit {0}) c.in-Some-Up.node.kept.vault c.step.new.node.kept.vault c.in_err-step-in-Some-Up.field-0.0 c.from_residual.result c.in_err-step-in-Some-Up.ensures.gone
+    (handed_on c.in_err-step-in-Some-Up.field-0.0 c.from_residual.result c.from_residual.ensures.0 c.from_residual.ensures.1))
+    c.step.ensures.adds
+
+pub returns-clause-gone : goal.returns-clause-gone
+returns-clause-gone g c =
+    let is : c.args.self.now.server ≡ standing c.in-Some-Up.node = c.in-Some-Up.is ∙ ap Some c.in-Some-Up.field-0-is in
+    leaves_server g.V.Vault {T = Unit {0}} (Unit {0}) c.args.self.now (standing c.step.new.node) c.in-Some-Up.node c.step.new.node.kept.vault (Ok tt) is refl
+    (one_ok g.V.Vault (Unit {0}) c.in-Some-Up.node.kept.vault c.step.new.node.kept.vault c.in_ok-step-in-Some-Up.field-0 (tt {0}) c.in_ok-step-in-Some-Up.ensures.gone) c.step.ensures.adds
 
 pub returns-in_err-step-in-Some-Up-clause-filled : goal.returns-in_err-step-in-Some-Up-clause-filled
 returns-in_err-step-in-Some-Up-clause-filled g c =
