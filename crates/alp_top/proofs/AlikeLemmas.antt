@@ -15,7 +15,7 @@ use Rattle.alp_store.specs.Holding.{Holds}
 use Rattle.alp_store.specs.Starts.{IsNew, WhyNotStarted}
 use Rattle.alp_vault.specs.declared.vault.Vault.{Ghosts as VaultGhosts}
 use Rattle.alp_top.specs.Disks.{ShowAlike, IsStarted, IsGiven, IsOfServer, IsCountedStart, notes_in}
-use Rattle.alp_top.specs.Volumes.{pages_of, IsOpenedOn, IsReturned, IsLeftAlone, HasNoEpoch, HoldsApart, WhyNotBegun}
+use Rattle.alp_top.specs.Volumes.{pages_of, IsOpenedOn, IsReturned, IsLeftAlone, HasNoEpoch, HoldsApart, IsUnstarted, WhyNotBegun}
 use Rattle.alp_top.specs.declared.fault.NoReport.{NoReport}
 use Rattle.alp_top.specs.declared.fault.NoReport.TheVariants as fault
 
@@ -85,11 +85,23 @@ module _ {A B : Type 0} (g : Ghosts A) (h : Ghosts B) (sizes : Sizes) (ta ga : A
     unfailed = given.faults ∙ x.unfailed ∙ sym taken.faults;
   }
 
+  unstarted_alike : (server servers : ℕ) → IsUnstarted g sizes server servers ta ga → IsUnstarted h sizes server servers tb gb
+  unstarted_alike server servers x old = elim (x (λ is. old (at_alike g h ta tb taken (IsNew sizes) is))) [
+    | inl y ↦ inl (record { seen = given.seen ∙ y.seen ∙ sym taken.seen; crash = λ i left. taken.leaves.no_fewer i (y.crash i (given.leaves.no_more i left)) })
+    | inr y ↦ inr (record {
+      home = y.home;
+      held = y.held;
+      holds = at_alike g h ta tb taken (λ n i. Holds server servers n y.home i y.held) y.holds;
+      left = λ image may. (let (c, holds, is) = y.left image (given.leaves.no_more image may) in (c, subst (λ (m : ℕ). Holds server servers m y.home image c) (sym given.size) holds, is));
+      read = subst (h.may_leave gb) (sym given.seen) (given.leaves.no_fewer (g.seen ga) y.read);
+    })
+  ]
+
   -- why a server was not started
   pub cause_alike : (server servers : ℕ) (f : NoReport) → WhyNotBegun g sizes server servers f ta ga → WhyNotBegun h sizes server servers f tb gb
   cause_alike server servers fault.Bay x = absurd x
-  cause_alike server servers (fault.Disk s) x = (x.0, rose_alike x.1)
-  cause_alike server servers fault.OutOfMemory x = given.faults ∙ x ∙ sym taken.faults
+  cause_alike server servers (fault.Disk s) x = (x.0, rose_alike x.1, unstarted_alike server servers x.2)
+  cause_alike server servers fault.OutOfMemory x = (given.faults ∙ x.0 ∙ sym taken.faults, unstarted_alike server servers x.1)
   cause_alike server servers fault.JournalFull x = absurd x
   cause_alike server servers (fault.EpochEnd s) x = (x.0, alone_alike x.1, at_alike g h ta tb taken (HasNoEpoch server servers) x.2)
   cause_alike server servers (fault.NotAVolume s found) x = (x.0, alone_alike x.1, at_alike g h ta tb taken (λ n i. WhyNotStarted server servers n i (vault_fault.NotAVolume found)) x.2)

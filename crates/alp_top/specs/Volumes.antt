@@ -24,7 +24,7 @@ use Rattle.alp_journal.specs.declared.entry.Entry.{Entry}
 use Rattle.alp_node.specs.Downs.{IsLeftOf}
 use Rattle.alp_node.specs.Durable.{IsSaid, IsSaidThen}
 use Rattle.alp_node.specs.Nodes.{IsSoundStart}
-use Rattle.alp_node.specs.Starts.{raised, epoch_after}
+use Rattle.alp_node.specs.Starts.{raised, epoch_after, IsKeptOrRaised}
 use Rattle.alp_regain.specs.Together.{AreTogether}
 use Rattle.alp_node.specs.declared.start.StartFault.TheVariants.{EpochEnd}
 use Rattle.alp_store.specs.Holding.{Holds}
@@ -234,16 +234,34 @@ pub record HoldsApart {D : Type 0} (g : Ghosts D) (sizes : Sizes) (server server
   pub durable : Only (g.seen given) (g.may_leave given)
   pub unfailed : g.faults given ≡ g.faults taken
 
--- The disk failed, or it holds no volume of the server, or a damaged one, or one without a further epoch: so the server did not start.
+-- the disk reads as before, and a crash leaves no more of it
+pub record ReadsAsBefore {D : Type 0} (g : Ghosts D) (taken given : D) : Type 0 where
+  pub seen : g.seen given ≡ g.seen taken
+  pub crash : NoMore (g.may_leave taken) (g.may_leave given)
+
+-- It held a volume of the server. What it reads, and whatever a crash leaves of it, holds the same, or that with the next epoch in its note.
+pub record HoldsOrRaised {D : Type 0} (g : Ghosts D) (server servers : ℕ) (taken given : D) : Type 0 where
+  pub home : ℕ
+  pub held : Contents
+  pub holds : Holds server servers (g.size taken) home (g.seen taken) held
+  pub left : (image : Image) → g.may_leave given image → (c : Contents) × Holds server servers (g.size given) home image c × IsKeptOrRaised held c
+  pub read : g.may_leave given (g.seen given)
+
+-- a disk that was not new is given back by its server, which did not start
+abbrev pub IsUnstarted : {D : Type 0} → Ghosts D → Sizes → (server servers : ℕ) → D → D → Type 0
+IsUnstarted g sizes server servers taken given = (IsNew sizes (g.size taken) (g.seen taken) → ⊥) → ReadsAsBefore g taken given ⊎ HoldsOrRaised g server servers taken given
+
+-- The disk failed, or it holds no volume of the server, or a damaged one, or one without a further epoch: so the server did not start. Or memory was
+-- wanting.
 abbrev pub WhyNotBegun : {D : Type 0} → Ghosts D → Sizes → (server servers : ℕ) → NoReport → D → D → Type 0
-WhyNotBegun g sizes server servers (fault.Disk s) taken given = (s ≡ server) × Rose (g.faults taken) (g.faults given)
+WhyNotBegun g sizes server servers (fault.Disk s) taken given = (s ≡ server) × Rose (g.faults taken) (g.faults given) × IsUnstarted g sizes server servers taken given
 WhyNotBegun g sizes server servers (fault.NotAVolume s found) taken given =
     (s ≡ server) × IsLeftAlone g sizes taken given × WhyNotStarted server servers (g.size taken) (g.seen taken) (vault_fault.NotAVolume found)
 WhyNotBegun g sizes server servers (fault.Damaged s place) taken given =
     (s ≡ server)
     × ((IsLeftAlone g sizes taken given × WhyNotStarted server servers (g.size taken) (g.seen taken) (vault_fault.Damaged place)) ⊎ ((place ≡ 0) × HoldsApart g sizes server servers taken given))
 WhyNotBegun g sizes server servers (fault.EpochEnd s) taken given = (s ≡ server) × IsLeftAlone g sizes taken given × HasNoEpoch server servers (g.size taken) (g.seen taken)
-WhyNotBegun g sizes server servers fault.OutOfMemory taken given = g.faults given ≡ g.faults taken
+WhyNotBegun g sizes server servers fault.OutOfMemory taken given = (g.faults given ≡ g.faults taken) × IsUnstarted g sizes server servers taken given
 WhyNotBegun g sizes server servers fault.JournalFull taken given = ⊥
 WhyNotBegun g sizes server servers fault.Bay taken given = ⊥
 
@@ -285,6 +303,13 @@ pub record AreLeftFailing {D : Type 0} (g : Ghosts D) (lines : List NumberedLine
   pub cause : IsOneOf (servers_said lines) server
   pub returned : AreReturned g lines (servers_said lines) before after (λ n taken given. (n ≡ server → Rose (g.faults taken) (g.faults given)) × ((n ≡ server → ⊥) → StopNone lines → g.faults given ≡ g.faults taken) × IsLeftWhole g lines n taken given)
 
+-- a disk on which its server did not start failed, or memory was wanting and it did not
+abbrev pub IsFailing : {D : Type 0} → Ghosts D → List NumberedLine → (server : ℕ) → D → D → Type 0
+IsFailing g lines server taken given = Rose (g.faults taken) (g.faults given) × IsUnstarted g (sizes_said lines server) server (servers_said lines) taken given
+
+abbrev pub IsWanting : {D : Type 0} → Ghosts D → List NumberedLine → (server : ℕ) → D → D → Type 0
+IsWanting g lines server taken given = (g.faults given ≡ g.faults taken) × IsUnstarted g (sizes_said lines server) server (servers_said lines) taken given
+
 -- why a disk is none to start on, of those that name it
 abbrev pub IsNoVolume : {D : Type 0} → Ghosts D → List NumberedLine → (server : ℕ) → List ℕ → D → D → Type 0
 IsNoVolume g lines server found taken given = IsLeftAlone g (sizes_said lines server) taken given × WhyNotStarted server (servers_said lines) (g.size taken) (g.seen taken) (vault_fault.NotAVolume found)
@@ -306,13 +331,13 @@ abbrev pub HasRunCause : {D : Type 0} → Ghosts D → List NumberedLine → (be
 HasRunCause g lines before after bay_before bay_after fault.Bay = (count : ℕ) × (count < servers_said lines) × AreReturned g lines count before after (IsUnplayed g lines) × Rose bay_before bay_after
 HasRunCause g lines before after bay_before bay_after fault.OutOfMemory =
     ((count : ℕ) × (count < servers_said lines) × AreReturned g lines count before after (IsUnplayed g lines))
-    ⊎ ((server : ℕ) × StopsAt g lines server before after (λ taken given. g.faults given ≡ g.faults taken))
+    ⊎ ((server : ℕ) × StopsAt g lines server before after (IsWanting g lines server))
     ⊎ AreLeftWanting g lines before after
 HasRunCause g lines before after bay_before bay_after fault.JournalFull =
     (last : Course) × IsCutShort lines run_fault.JournalFull last × (server : ℕ) × IsOneOf (servers_said lines) server
     × AreReturned g lines (servers_said lines) before after (λ n taken given. IsLeftBy g lines last n taken given × (n ≡ server → HasFilled g lines last n taken given))
 HasRunCause g lines before after bay_before bay_after (fault.Disk server) =
-    StopsAt g lines server before after (λ taken given. Rose (g.faults taken) (g.faults given)) ⊎ AreLeftFailing g lines server before after
+    StopsAt g lines server before after (IsFailing g lines server) ⊎ AreLeftFailing g lines server before after
 HasRunCause g lines before after bay_before bay_after (fault.EpochEnd server) =
     StopsAt g lines server before after (IsAtItsEnd g lines server)
     ⊎ ((last : Course) × IsCutShort lines (run_fault.Start server EpochEnd) last × IsOneOf (servers_said lines) server

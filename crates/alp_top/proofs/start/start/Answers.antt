@@ -93,6 +93,24 @@ returns-in-Err-start-clause-cause g c told =
       seen = λ old. ap (λ v. G.seen (disk_of v.log)) same ∙ (h.looked told old).seen;
       crash = λ old. subst (λ (q : g.row.D.Denot). NoMore (G.may_leave d) (G.may_leave q)) (sym (ap (λ v. disk_of v.log) same)) (h.looked told old).crash;
     }
+    ))
+    (λ old. (
+    let into = c.into_disk.ensures in
+    let here : IsTrue (G.tells (disk_of s)) = subst IsTrue (sym h.below.tells) told in
+    let there : IsTrue (G.tells e) = subst IsTrue (sym k.same.telling) here in
+    let now : IsTrue (G.tells c.into_disk.result) = subst IsTrue (sym (ap G.tells into.disk)) there in
+    record {
+      home = (anchor_of s).sizes.home;
+      held = contents_of G s;
+      holds = holds_by _ _ _ _ _ _ _ _ (G.seen d) (contents_of G s) h.named.0 h.named.1 (h.looked told old).size refl (h.mounted told old).holds;
+      left = λ image may.
+          let (x, holds) = into.whole now image (subst (λ (q : g.row.D.Denot). G.may_leave q image) (sym into.disk) may) in (
+            x,
+            holds_by _ _ _ _ _ _ _ _ image x (k.same.number ∙ h.named.0) (k.same.of_all ∙ h.named.1) refl (ap (λ (z : Sizes). z.home) k.same.sizes) holds,
+            (k.crash here).crash x (record { image = image; left = may; holds = holds }),
+          );
+      read = g.met.D.Disk.as_read e there;
+    }
     ))))
 
 pub returns-in-Err-start-clause-counted : goal.returns-in-Err-start-clause-counted
