@@ -232,10 +232,10 @@ module _ {V D : Type 0} (G : VaultGhosts V) (g : Ghosts D) (tells : Bool) (told 
       go fault.Bay (inl x) of make = (k, h.few, all_back (IsUnplayed g lines) (λ n here d e u. u) x.0, x.1)
       go fault.Bay (inr x) of make = absurd x.left
       go fault.OutOfMemory (inl x) of make = inl (k, h.few, all_back (IsUnplayed g lines) (λ n here d e u. u) x.0)
-      go fault.OutOfMemory (inr x) of make = inr (inl (k + 1, stops (IsWanting g lines) (k + 1) refl (make (IsWanting g lines) x (λ d e why. why))))
+      go fault.OutOfMemory (inr x) of make = inr (inl (k + 1, stops (λ n. IsWanting g (sizes_said lines n) n (servers_said lines)) (k + 1) refl (make (λ n. IsWanting g (sizes_said lines n) n (servers_said lines)) x (λ d e why. why))))
       go fault.JournalFull x of make = absurd of
       go (fault.Disk s) (inl x) of make = absurd x.1
-      go (fault.Disk s) (inr x) of make = inl (stops (IsFailing g lines) s of.0 (make (IsFailing g lines) x (λ d e why. (why.1, why.2))))
+      go (fault.Disk s) (inr x) of make = inl (stops (λ n. IsFailing g (sizes_said lines n) n (servers_said lines)) s of.0 (make (λ n. IsFailing g (sizes_said lines n) n (servers_said lines)) x (λ d e why. why.1)))
       go (fault.EpochEnd s) (inl x) of make = absurd x.1
       go (fault.EpochEnd s) (inr x) of make = inl (stops (IsAtItsEnd g lines) s of (make (IsAtItsEnd g lines) x (λ d e why. (why.1, why.2))))
       go (fault.NotAVolume s found) (inl x) of make = absurd x.1
