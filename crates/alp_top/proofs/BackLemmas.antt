@@ -3,7 +3,6 @@ use Rattle.std.specs.Prelude.{IsTrue, Ok}
 use Rattle.std.proofs.Common.{inr, ◌≡◌, ℕ, refl, sym, ◌∙◌, ap, subst}
 use Rattle.std.specs.FinMap as map
 use Rattle.alp_base.specs.Crashes.{Only}
-use Rattle.alp_base.specs.Notes.{Notes}
 use Rattle.alp_base.specs.declared.faults.Sizes.{Sizes}
 use Rattle.alp_disk.specs.declared.disk.Disk.{Ghosts}
 use Rattle.alp_fields.specs.ClockNote.{clock_name, clock_form}
@@ -12,7 +11,6 @@ use Rattle.alp_journal.specs.Opening.{Start}
 use Rattle.alp_node.specs.Nodes.{start_in}
 use Rattle.alp_node.specs.NodeStates.{NodeState}
 use Rattle.alp_node.specs.Starts.{with_clock}
-use Rattle.alp_store.specs.Starts.{IsNew}
 use Rattle.alp_vault.specs.Contents.{Contents}
 use Rattle.alp_vault.specs.declared.vault.Vault.{Ghosts as VaultGhosts}
 use Rattle.alp_top.specs.Disks.{IsStarted, IsGiven, notes_in}
