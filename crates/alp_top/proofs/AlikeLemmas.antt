@@ -1,6 +1,6 @@
 -- a disk in a fuse, and out of it again
 use Rattle.std.specs.Prelude.{Option, Some, IsTrue}
-use Rattle.std.proofs.Common.{inl, inr, ap, refl, ◌≡◌, ◌≤◌, ℕ, List, sym, ◌∙◌, subst, arith}
+use Rattle.std.proofs.Common.{inl, inr, ◌⊎◌, ap, refl, ◌≡◌, ◌≤◌, ℕ, List, sym, ◌∙◌, subst, arith}
 use Rattle.alp_base.specs.Causes.{Rose}
 use Rattle.alp_base.specs.Crashes.{Only, NoMore, SameOutcomes}
 use Rattle.alp_base.specs.declared.faults.Sizes.{Sizes}

@@ -1,5 +1,5 @@
 -- a server that was started, for which there was no memory, is given back with its disk
-use Rattle.std.specs.Prelude.{IsTrue, Ok}
+use Rattle.std.specs.Prelude.{IsTrue}
 use Rattle.std.proofs.Common.{inr, ◌≡◌, ℕ, refl, sym, ◌∙◌, ap, subst}
 use Rattle.std.specs.FinMap as map
 use Rattle.alp_base.specs.Crashes.{Only}
