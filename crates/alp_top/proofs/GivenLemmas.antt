@@ -2,7 +2,6 @@
 use Rattle.std.specs.Prelude.{Bool, IsTrue, map as list_map, slice_get, Option, None, Some, Result, Ok, Err}
 use Rattle.std.proofs.Common.{inl, inr, ◌⊎◌, ◌≡◌, ℕ, zero, suc, ◌+◌, ◌-◌, ◌<◌, ◌≤◌, List, [], ◌∷◌, length, refl, sym, ◌∙◌, ap, subst, arith}
 use Rattle.std.proofs.lemmas.Bool.{cases_eq}
-use Rattle.alp_base.specs.Causes.{Rose}
 use Rattle.alp_bay.specs.Bays.{IsTaken}
 use Rattle.alp_bay.specs.declared.bay.BayFault.{BayFault}
 use Rattle.alp_bay.specs.declared.bay.BayFault.TheVariants as bay_fault

@@ -251,8 +251,8 @@ pub record HoldsOrRaised {D : Type 0} (g : Ghosts D) (server servers : ℕ) (tak
 abbrev pub empty_contents : Contents
 empty_contents = record { cells = map.empty; notes = map.empty }
 
--- What the disk reads, and whatever a crash leaves of it, is a volume of the server with so many home pages, which holds nothing, or just the note
--- of its first epoch.
+-- What the disk reads, and whatever a crash leaves of it, is a volume of the server with so many home pages, which holds nothing, or just the
+-- note of its first epoch.
 pub record HoldsNothing {D : Type 0} (g : Ghosts D) (sizes : Sizes) (server servers : ℕ) (given : D) : Type 0 where
   pub left : (image : Image) → g.may_leave given image → (c : Contents) × Holds server servers (g.size given) sizes.home image c × IsKeptOrRaised empty_contents c
   pub read : g.may_leave given (g.seen given)
@@ -267,15 +267,15 @@ pub record IsHalfMade {D : Type 0} (g : Ghosts D) (sizes : Sizes) (server server
   pub left : (image : Image) → g.may_leave given image → Unmaking server servers (g.size taken) sizes (g.may_leave taken) image
   pub read : g.may_leave given (g.seen given)
 
--- Its server did not start on this disk, since memory was wanting. It did not fail. One that was not new reads as before, or holds what it held, or that
--- with the next epoch in its note. One that was new is new again, or a volume that holds nothing.
+-- Its server did not start on this disk, or found no room among the others, since memory was wanting. The disk did not fail. One that was not new
+-- reads as before, or holds what it held, or that with the next epoch in its note. One that was new is new again, or a volume that holds nothing.
 pub record IsWanting {D : Type 0} (g : Ghosts D) (sizes : Sizes) (server servers : ℕ) (taken given : D) : Type 0 where
   pub unfailed : g.faults given ≡ g.faults taken
   pub old : (IsNew sizes (g.size taken) (g.seen taken) → ⊥) → ReadsAsBefore g taken given ⊎ HoldsOrRaised g server servers taken given
   pub new : IsNew sizes (g.size taken) (g.seen taken) → IsNewAgain g sizes given ⊎ HoldsNothing g sizes server servers given
 
--- Its server did not start on this disk, since that failed. One that was not new reads as before, or holds what it held, or that with the next epoch in
--- its note. One that was new is half made, or a volume that holds nothing.
+-- Its server did not start on this disk, since that failed. One that was not new reads as before, or holds what it held, or that with the next
+-- epoch in its note. One that was new is half made, or a volume that holds nothing.
 pub record IsFailing {D : Type 0} (g : Ghosts D) (sizes : Sizes) (server servers : ℕ) (taken given : D) : Type 0 where
   pub rose : Rose (g.faults taken) (g.faults given)
   pub old : (IsNew sizes (g.size taken) (g.seen taken) → ⊥) → ReadsAsBefore g taken given ⊎ HoldsOrRaised g server servers taken given
@@ -348,13 +348,13 @@ IsDamaged g lines server place taken given =
 abbrev pub IsAtItsEnd : {D : Type 0} → Ghosts D → List NumberedLine → (server : ℕ) → D → D → Type 0
 IsAtItsEnd g lines server taken given = IsLeftAlone g (sizes_said lines server) taken given × HasNoEpoch server (servers_said lines) (g.size taken) (g.seen taken)
 
--- Why a run ended before its report, and how the bay stands then. The bay failed: the servers before did nothing, and no further disk was
--- taken. A disk is none to start on, or its server has no epoch left: the servers before did nothing, and it holds what it held. Where a disk failed,
--- or memory was wanting, one of some cases stands, and no clause says which. The servers before did nothing, and no further disk was taken; or they
--- did nothing, and the last disk that was taken is as it was before the start of its server, or as the start left it; or all disks are given back, and
--- each is a volume of its server, of which no more is said. A full journal, and an epoch that is the last one of a server in the run, come when all
--- were started, and each disk comes back as its server's journal says. A server that starts again in the run finds its own notes good, in whatever
--- it was stopped.
+-- Why a run ended before its report, and how the bay stands then. The bay failed: the servers before did nothing, and no further disk was taken.
+-- A disk is none to start on, or its server has no epoch left: the servers before did nothing, and it holds what it held. Where a disk failed, or
+-- memory was wanting, one of some cases stands, and no clause says which. The servers before did nothing, and no further disk was taken, where
+-- memory was wanting; or they did nothing, and of the last disk that was taken it is said what a start that did not come to its end left; or all
+-- disks are given back, and each is a volume of its server, of which no more is said. A full journal, and an epoch that is the last one of a
+-- server in the run, come when all were started, and each disk comes back as its server's journal says. A server that starts again in the run
+-- finds its own notes good, in whatever it was stopped.
 abbrev pub HasRunCause : {D : Type 0} → Ghosts D → List NumberedLine → (before after : ℕ → Option D) → (bay_before bay_after : ℕ) → NoReport → Type 0
 HasRunCause g lines before after bay_before bay_after fault.Bay = (count : ℕ) × (count < servers_said lines) × AreReturned g lines count before after (IsUnplayed g lines) × Rose bay_before bay_after
 HasRunCause g lines before after bay_before bay_after fault.OutOfMemory =

@@ -43,10 +43,10 @@ returns-in-Err-clause-refused g c =
     let at = ap (λ p. p.1) c.into_parts-vault.ensures ∙ ap (λ (m : NodeState _). m.kept.vault) c.in-Err.ensures.back in
     let placed = c.give.ensures.given in
     let back : IsTrue (g.B.Bay.tells c.args.bay.now) → IsWanting h (sizes_said c.args.lines.now c.args.server) c.args.server (servers_said c.args.lines.now) one.disk placed.device = (λ told.
-        let its = one.is.told told in
-        let tells : IsTrue (V.tells c.into_parts-vault.result.1) = subst (λ v. IsTrue (V.tells v)) (sym at) (subst IsTrue (sym one.is.started.telling) its) in
-        let serves : IsTrue (V.serves c.into_parts-vault.result.1) = subst (λ v. IsTrue (V.serves v)) (sym at) (one.is.started.on.kept.ready.serving one.is.started.idle.up) in
-        wanting_back V h (sizes_said c.args.lines.now c.args.server) c.args.server (servers_said c.args.lines.now) n c.into_parts-vault.result.1 one.disk placed.device one.is.started its at (c.knows.ensures.settled tells serves) placed.back) in
+    let its = one.is.told told in
+    let tells : IsTrue (V.tells c.into_parts-vault.result.1) = subst (λ v. IsTrue (V.tells v)) (sym at) (subst IsTrue (sym one.is.started.telling) its) in
+    let serves : IsTrue (V.serves c.into_parts-vault.result.1) = subst (λ v. IsTrue (V.serves v)) (sym at) (one.is.started.on.kept.ready.serving one.is.started.idle.up) in
+    wanting_back V h (sizes_said c.args.lines.now c.args.server) c.args.server (servers_said c.args.lines.now) n c.into_parts-vault.result.1 one.disk placed.device one.is.started its at (c.knows.ensures.settled tells serves) placed.back) in
     record {
       refused = λ told. inr (record {
         taken = one.disk;

@@ -66,12 +66,12 @@ returns-in-Err-start-clause-cause g c told =
     let here : IsTrue (G.tells (disk_of s)) = subst IsTrue (sym h.below.tells) told in
     let there : IsTrue (G.tells e) = subst IsTrue (sym k.same.telling) here in
     let stays : (image : Image) → G.may_leave e image → (x : Contents) × HoldsBy G c.in-Err-start.store.log image x × IsKeptOrRaised (contents_of G s) x = (λ image may.
-        let now : IsTrue (G.tells c.into_disk.result) = subst IsTrue (sym (ap G.tells into.disk)) there in
-        let (x, holds) = into.whole now image (subst (λ (q : g.row.D.Denot). G.may_leave q image) (sym into.disk) may) in (
-          x,
-          holds,
-          (k.crash here).crash x (record { image = image; left = may; holds = holds }),
-        )) in
+    let now : IsTrue (G.tells c.into_disk.result) = subst IsTrue (sym (ap G.tells into.disk)) there in
+    let (x, holds) = into.whole now image (subst (λ (q : g.row.D.Denot). G.may_leave q image) (sym into.disk) may) in (
+      x,
+      holds,
+      (k.crash here).crash x (record { image = image; left = may; holds = holds }),
+    )) in
     subst (λ (q : NoReport). WhyNotBegun G c.args.sizes c.args.server c.args.servers q d c.into_disk.result) (sym c.of_start.ensures)
     (subst (λ (q : g.row.D.Denot). WhyNotBegun G c.args.sizes c.args.server c.args.servers (of_start c.args.server f) d q) (sym c.into_disk.ensures.disk)
     (not_started G c.args.sizes c.args.server c.args.servers d e (G.tells (disk_of s)) (anchor_of s).sizes (contents_of G s) f (G.faults (disk_of s)) (G.allowance e) (anchor_of s).sizes.home cause (stays_free _ _ k.allowance (stays_free _ _ h.below.allowance c.requires.free)) h.cause.still (subst IsTrue (sym h.below.tells) told) c.requires.server.first c.requires.server.among ((let least : 64 ≤ (anchor_of s).sizes.area = h.sized.least_area in omega (arith, least))) h.notes
