@@ -28,7 +28,7 @@ use Rattle.alp_session.specs.declared.waiting.Next.TheVariants as next
 use Rattle.alp_session.specs.declared.waiting.Settings.{Settings}
 use Rattle.alp_session.proofs.FrameLemmas.{request_read}
 use Rattle.alp_node.specs.declared.server_state.ServerState.{ServerState}
-use Rattle.alp_cluster.specs.Clients.{States, session_of, IsPast, SpellsPast, KeepsPast, AsksOfTold, SpellsOfTold}
+use Rattle.alp_cluster.specs.Clients.{States, session_of, IsPastRequest, SpellsPast, KeepsPast, AsksOfTold, SpellsOfTold}
 use Rattle.alp_cluster.specs.Steps.{IsOwnNext}
 use Rattle.alp_cluster.proofs.SaidLemmas.{KnowsOf}
 
@@ -68,7 +68,7 @@ pub record IsAgain {V : Type 0} (states : States V) (words : WordMap) (s : Setti
   pub again : Request
   pub client : again.client ≡ k
   pub spelled : whole request frame.bytes ≡ Some again
-  pub past : IsPast (states frame.server) k (session_of frame.server d) again
+  pub past : IsPastRequest (states frame.server) k (session_of frame.server d) again
   pub known : (xs : List Item) → KnowsOf d xs → AsksOfTold xs again.call
   pub mark : mark_of l ≡ mark.Repeated
   pub hears : (r : Option Reply) → heard words s d l n frame r ≡ (heard_again d frame.server r, next.Over)

@@ -37,7 +37,7 @@ use Rattle.std.specs.Prelude.{◌≢◌}
 use Rattle.std.proofs.lemmas.Bool.{cases_eq}
 use Rattle.alp_cluster.specs.Come.{Come, IsReached}
 use Rattle.alp_cluster.specs.Stations.{IsReachedBy}
-use Rattle.alp_cluster.specs.Clients.{States, session_of, IsWithin, HasReached, come_in, IsPast, IsPastCall, SpellsPast, KeepsPast, IsInStep, IsOwnTurn, AsksOfTold, SpellsOfTold, HasSentFor, HasSaid, IsShort}
+use Rattle.alp_cluster.specs.Clients.{States, session_of, IsWithin, HasReached, come_in, IsPastRequest, IsPastCall, SpellsPast, KeepsPast, IsInStep, IsOwnTurn, AsksOfTold, SpellsOfTold, HasSentFor, HasSaid, IsShort}
 use Rattle.alp_cluster.proofs.AskLemmas.{line_no_greeting, line_has_seen, line_asks_of, asked_in}
 use Rattle.alp_cluster.proofs.CallLemmas.{asked_line, asked_form}
 use Rattle.alp_cluster.proofs.ComeLemmas.{come_by_has, own_turn, again_turn, after_small, after_most, within_more, below_more, up_to_self}
@@ -96,8 +96,8 @@ step_later s t k c d on session told frames h = record {
   past = keeps_past s t k c d on (λ j x within reached. subst (λ (o : Option Come). IsWithin o x) (sym (session j)) within) frames h.past;
 }
 
-spells_one : {V : Type 0} (t : Option (ServerState V)) (k : ℕ) (o : Option Come) (frame : List ℕ) (q : Request) → whole request frame ≡ Some q → IsPast t k o q → SpellsPast t k o frame
-spells_one t k o frame q is past r e = subst (IsPast t k o) (same_request q r (sym is ∙ e)) past
+spells_one : {V : Type 0} (t : Option (ServerState V)) (k : ℕ) (o : Option Come) (frame : List ℕ) (q : Request) → whole request frame ≡ Some q → IsPastRequest t k o q → SpellsPast t k o frame
+spells_one t k o frame q is past r e = subst (IsPastRequest t k o) (same_request q r (sym is ∙ e)) past
 
 spells_of : (xs : List Item) (frame : List ℕ) (q : Request) → whole request frame ≡ Some q → AsksOfTold xs q.call → SpellsOfTold xs frame
 spells_of xs frame q is of r e = subst (λ (z : Request). AsksOfTold xs z.call) (same_request q r (sym is ∙ e)) of
@@ -110,7 +110,7 @@ record OwnStep {V : Type 0} (n : ℕ) (s t : States V) (k : ℕ) (c d : Client) 
   session : HasReached (t n) k (session_of n d)
   elsewhere : (j : ℕ) → j ≢ n → session_of j d ≡ session_of j c
   low : d.told.ts ≤ 2 ^ 62
-  past : IsPast (t n) k (session_of n d) q
+  past : IsPastRequest (t n) k (session_of n d) q
   turn : (a : Come) (i : ℕ) → i + 4 < 2 ^ 32 → HasSentFor i (session_of n c) → IsWithin (session_of n c) a → IsOwnTurn a (record { epoch = q.epoch; number = q.number }) q.call
   mine : is_greeting q.call ≡ false → IsWithin (session_of n d) (record { epoch = q.epoch; number = q.number }) × IsReachedBy (t n) k (record { epoch = q.epoch; number = q.number })
   many : (i : ℕ) → HasSentFor i (session_of n c) → HasSentFor (i + 1) (session_of n d)
@@ -340,7 +340,7 @@ module _ {V : Type 0} (n : ℕ) (s t : States V) (s0 t0 : ServerState V) (was : 
 
 -- ---- a frame that is sent again
 
-module _ {V : Type 0} (n : ℕ) (s t : States V) (k : ℕ) (c : Client) (q : Request) (r : Option Reply) (place : Option ℕ) (on : GoOn s t k) (step : IsInStep s k c) (times : IfSome r (TellsUpTo (2 ^ 62))) (past : IsPast (s n) k (session_of n c) q)
+module _ {V : Type 0} (n : ℕ) (s t : States V) (k : ℕ) (c : Client) (q : Request) (r : Option Reply) (place : Option ℕ) (on : GoOn s t k) (step : IsInStep s k c) (times : IfSome r (TellsUpTo (2 ^ 62))) (past : IsPastRequest (s n) k (session_of n c) q)
     (known : (xs : List Item) → KnowsOf c xs → AsksOfTold xs q.call) where
   -- what the client knows then
   record Again (d : Client) : Type 0 where

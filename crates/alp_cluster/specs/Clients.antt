@@ -51,12 +51,12 @@ abbrev pub IsPastCall : {V : Type 0} → Option (ServerState V) → ℕ → Opti
 IsPastCall k client session a (call.Hello name) = Unit {0}
 IsPastCall k client session a c = (0 < a.epoch) × IsWithin session a × IsReachedBy k client a
 
-abbrev pub IsPast : {V : Type 0} → Option (ServerState V) → ℕ → Option Come → Request → Type 0
-IsPast k client session r = IsPastCall k client session (record { epoch = r.epoch; number = r.number }) r.call
+abbrev pub IsPastRequest : {V : Type 0} → Option (ServerState V) → ℕ → Option Come → Request → Type 0
+IsPastRequest k client session r = IsPastCall k client session (record { epoch = r.epoch; number = r.number }) r.call
 
 -- what the bytes spell is such a request
 abbrev pub SpellsPast : {V : Type 0} → Option (ServerState V) → ℕ → Option Come → List ℕ → Type 0
-SpellsPast k client session bytes = (r : Request) → whole request bytes ≡ Some r → IsPast k client session r
+SpellsPast k client session bytes = (r : Request) → whole request bytes ≡ Some r → IsPastRequest k client session r
 
 -- what each server keeps, by its number
 abbrev pub States : Type 0 → Type 0

@@ -131,7 +131,7 @@ pub record StartsAgainAt {V : Type 0} (G : Ghosts V) (number pick : ℕ) (before
   pub again : StartsAgain G pick fell started
 
 -- The disk of the server of this number was let pass so many more changing calls.
-pub record StopsAt {V : Type 0} (G : Ghosts V) (number calls : ℕ) (before after : Stations V) : Type 0 where
+pub record IsStopSetAt {V : Type 0} (G : Ghosts V) (number calls : ℕ) (before after : Stations V) : Type 0 where
   pub stood_node : NodeState V
   pub set_node : NodeState V
   pub was : Station V
@@ -145,7 +145,7 @@ pub record StopsAt {V : Type 0} (G : Ghosts V) (number calls : ℕ) (before afte
 -- what a restart leaves of the disk of its server, and for how long a line lets it go on
 abbrev pub Crashes : {V : Type 0} → Ghosts V → Occurrence → (before after : Stations V) → Type 0
 Crashes G (at n (restarted pick)) before after = StartsAgainAt G n pick before after
-Crashes G (at n (stop_set calls)) before after = StopsAt G n calls before after
+Crashes G (at n (stop_set calls)) before after = IsStopSetAt G n calls before after
 Crashes G x before after = Unit {0}
 
 -- all this occurred at them, one after the other

@@ -94,8 +94,9 @@ impl<V: Vault> Cluster<V> {
     }
 
     /// Plays a line. A client's line sends what its client asks; one of another event has it happen; and any other declares or sets
-    /// something. Behind it messages are carried, where they are carried by themselves. Where a disk fails, a journal is full, a server does
-    /// not start again or memory is wanting, the rest of the line is not played.
+    /// something. Behind it messages are carried, where they are carried by themselves. Where a journal is full or a
+    /// server has no epoch left, the rest of the line is not played. Of a disk that fails, a server that does not start again, and want of
+    /// memory the contract says which disk failed, and nothing of the journals.
     pub fn play_step(&mut self, line: &NumberedLine) -> Result<(), RunFault>
         requires step { InStep V.Vault self.old.parties.clients self.old.parties.stations }
         requires form { IsForm line.now.line }
@@ -177,8 +178,8 @@ impl<V: Vault> Cluster<V> {
         Ok(())
     }
 
-    /// Plays all lines on servers that did nothing yet, and lets all come to rest. Where a disk fails, a journal is full, a server does not
-    /// start again or memory is wanting, the rest is not played.
+    /// Plays all lines on servers that did nothing yet, and lets all come to rest. Where a journal is full or a server has no epoch left,
+    /// the rest is not played. Of the other faults the contract says which disk failed, and nothing of the journals.
     pub fn play_out(&mut self, lines: &[NumberedLine]) -> Result<(), RunFault>
         requires accepted { IsAccepted lines.now }
         requires new { HasPlayed V.Vault (servers_said lines.now) [] self.old.parties.clients self.old.parties.stations self.old.lists.items self.old.text.items }

@@ -33,9 +33,9 @@ use Rattle.alp_node.specs.Found.{FindsAll, HasBegun, IsFoundIn, KeepsFound}
 use Rattle.alp_node.specs.Halts.{MaySay}
 use Rattle.alp_node.specs.NodeStates.{NodeState}
 use Rattle.alp_node.specs.Noted.{AreNotesFor}
-use Rattle.alp_node.specs.Nodes.{IsConsistent, IsNew, IsRight, state_of, start_by, start_in, sent_in}
+use Rattle.alp_node.specs.Nodes.{IsConsistent, IsNewNode, IsRight, state_of, start_by, start_in, sent_in}
 use Rattle.alp_node.specs.ServerState.{IsAs, IsReady}
-use Rattle.alp_node.specs.Starts.{AreOfServer, PutsClock, raised}
+use Rattle.alp_node.specs.Starts.{GaveFiles, PutsClock, raised}
 use Rattle.alp_node.specs.declared.found.Found.{Found}
 use Rattle.alp_node.specs.declared.server_state.ServerState.{ServerState}
 use Rattle.alp_node.proofs.ClockLaws.{time_fits}
@@ -112,7 +112,7 @@ module _ {V : Type 0} (G : Ghosts V) (server servers : ℕ) (before mid : V) (cl
   later_than : (clock_before clock.epoch (G.held before).notes).epoch < clock.epoch
   later_than = before_less (clock_kept (G.held before).notes).epoch clock.epoch (raised_some (G.held before) clock next)
 
-  given_before : AreOfServer server (G.held before) → (f : FileId) (c : Cell) → map.get (G.held before).cells (Leader f) ≡ Some c → (f.server ≡ server) × (f.epoch ≤ (clock_before clock.epoch (G.held before).notes).epoch)
+  given_before : GaveFiles server (G.held before) → (f : FileId) (c : Cell) → map.get (G.held before).cells (Leader f) ≡ Some c → (f.server ≡ server) × (f.epoch ≤ (clock_before clock.epoch (G.held before).notes).epoch)
   given_before given f c there = (
     (given f c there).0,
     subst (λ (n : ℕ). f.epoch ≤ n) (sym (before_same (clock_kept (G.held before).notes).epoch clock.epoch (raised_next (G.held before) clock next))) (given f c there).1,
@@ -153,7 +153,7 @@ module _ {V : Type 0} (G : Ghosts V) (server servers : ℕ) (before mid : V) (cl
   }) ∙ ap (λ (w : V). start_by G n.kept.server w) (sym opening_is)
 
   module _ (area : 64 ≤ (G.volume before).area) (serving : IsTrue (G.serves n.kept.vault)) (together : IsTrue (G.tells before) → AreTogether server servers clock.epoch (G.volume before) (G.held before).cells (G.held before).notes)
-      (volume : IsTrue (G.tells before) → IsVolumeOf (G.volume before) (G.held before).cells) (given : IsTrue (G.tells before) → AreOfServer server (G.held before)) (only : IsTrue (G.tells n.kept.vault) → Only (G.held n.kept.vault) (G.may_leave n.kept.vault)) where
+      (volume : IsTrue (G.tells before) → IsVolumeOf (G.volume before) (G.held before).cells) (given : IsTrue (G.tells before) → GaveFiles server (G.held before)) (only : IsTrue (G.tells n.kept.vault) → Only (G.held n.kept.vault) (G.may_leave n.kept.vault)) where
     told_before : IsTrue (G.tells v) → IsTrue (G.tells before)
     told_before told = subst IsTrue (put.same.telling ∙ left.same.telling) told
 
@@ -187,7 +187,7 @@ module _ {V : Type 0} (G : Ghosts V) (server servers : ℕ) (before mid : V) (cl
       durable = λ tells. up_durable (start_in G n) (G.held v) n (G.may_leave v) (right_then tells) begun.up (only tells);
     }
 
-  pub start_new : IsNew G before n
+  pub start_new : IsNewNode G before n
   start_new = record {
     number = begun.number ∙ sym number;
     all = begun.of_all ∙ sym of_all;

@@ -97,7 +97,7 @@ pub record IsConsistent {V : Type 0} (G : Ghosts V) (n : NodeState V) : Type 0 w
 
 -- A server that did nothing yet: its opening is its vault as it is, and of what was there before it keeps what the notes keep, and nothing
 -- else of a client.
-pub record IsNew {V : Type 0} (G : Ghosts V) (before : V) (n : NodeState V) : Type 0 where
+pub record IsNewNode {V : Type 0} (G : Ghosts V) (before : V) (n : NodeState V) : Type 0 where
   pub number : n.kept.server ≡ G.server before
   pub all : n.kept.servers ≡ G.servers before
   pub sizes : n.kept.sizes ≡ G.volume n.kept.vault

@@ -34,8 +34,8 @@ IsAskable (call.Collect number) = Unit {0}
 IsAskable (call.Outcome t) = Unit {0}
 -- a join of whatever transaction: nothing is left out
 IsAskable (call.Join t) = Unit {0}
--- A file call of the grammar of frames, which stays, of any run that is not empty and with either choice. A file is opened in any mode, and
--- its pages are locked to be read, to be read and perhaps written, or to be written.
+-- A file call of the grammar of frames, which stays, and with either choice. A run that is read is not empty. A file is opened in any mode,
+-- and its pages are locked to be read, to be read and perhaps written, or to be written.
 IsAskable c = IsServedCall c × IsFormed c × ReadsSome c
 
 -- a call of a session that stands

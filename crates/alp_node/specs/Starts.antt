@@ -23,8 +23,8 @@ use Rattle.alp_node.specs.declared.start.StartFault.{StartFault}
 use Rattle.alp_node.specs.declared.start.StartFault.TheVariants as fault
 
 -- ids of files were given by this server, in epochs up to that of the note
-abbrev pub AreOfServer : ℕ → Contents → Type 0
-AreOfServer server held = (f : FileId) (c : Cell) → map.get held.cells (Leader f) ≡ Some c → (f.server ≡ server) × (f.epoch ≤ (clock_kept held.notes).epoch)
+abbrev pub GaveFiles : ℕ → Contents → Type 0
+GaveFiles server held = (f : FileId) (c : Cell) → map.get held.cells (Leader f) ≡ Some c → (f.server ≡ server) × (f.epoch ≤ (clock_kept held.notes).epoch)
 
 abbrev pub after_clock : Option ClockNote → Result ClockNote StartFault
 after_clock None = Err fault.BadNote

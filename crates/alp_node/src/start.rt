@@ -11,8 +11,8 @@ ghost use Rattle.alp_vault.specs.Volumes.{AreNoteChanges, record_pages, live_byt
 ghost use Rattle.alp_node.specs.Durable.{Leaves};
 ghost use Rattle.alp_node.specs.Found.{HasBegun};
 ghost use Rattle.alp_node.specs.Halts.{IsUncounted};
-ghost use Rattle.alp_node.specs.Nodes.{IsNew};
-ghost use Rattle.alp_node.specs.Starts.{AreOfServer, HasRaised, IsKeptOrRaised, PutsClock, after_clock, raised, HasStartCause, IsNoteFault};
+ghost use Rattle.alp_node.specs.Nodes.{IsNewNode};
+ghost use Rattle.alp_node.specs.Starts.{GaveFiles, HasRaised, IsKeptOrRaised, PutsClock, after_clock, raised, HasStartCause, IsNoteFault};
 ghost use Rattle.alp_node.specs.Writes.{clock_put};
 ghost use Rattle.alp_node.specs.declared.start.StartFault.TheVariants as start_fault;
 
@@ -106,9 +106,9 @@ impl<V: Vault> Node<V> {
     ) -> Result<Node<V>, (V, StartFault)>
         requires serving { IsTrue (V.serves vault) }
         requires server { (V.server vault ≡ server) × (V.servers vault ≡ servers) }
-        requires given { IsTrue (V.tells vault) → AreOfServer server (V.held vault) }
+        requires given { IsTrue (V.tells vault) → GaveFiles server (V.held vault) }
         ensures raised { IfOk result (λ n. HasRaised (V.tells vault) (V.server vault) (V.servers vault) (V.volume vault) (V.held vault) (V.held n.kept.vault) (record { epoch = n.kept.epoch; clock = n.kept.clock })) }
-        ensures new { IfOk result (IsNew V.Vault vault) }
+        ensures new { IfOk result (IsNewNode V.Vault vault) }
         ensures same { MatchResult result (λ n. IsSameVault V.tells V.volume V.server V.servers vault n.kept.vault) (λ e. IsSameVault V.tells V.volume V.server V.servers vault e.0) }
         ensures allowance { MatchResult result (λ n. Spends (V.allowance vault) (V.allowance n.kept.vault)) (λ e. Spends (V.allowance vault) (V.allowance e.0)) }
         ensures cause { IfErr result (λ e. HasStartCause (V.tells vault) (V.server vault) (V.servers vault) (V.volume vault) (V.held vault) (V.faults vault) (V.faults e.0) (V.allowance e.0) e.1) }

@@ -35,7 +35,7 @@ use Rattle.alp_node.specs.Nodes as node
 use Rattle.alp_node.specs.Nodes.{IsConsistent, start_in}
 use Rattle.alp_node.specs.NodeStates.{NodeState}
 use Rattle.alp_node.specs.Sessions.{no_sessions, session_at}
-use Rattle.alp_node.specs.Starts.{AreOfServer, HasRaised, epoch_after, after_note, raised, HasStartCause, IsNoteFault}
+use Rattle.alp_node.specs.Starts.{GaveFiles, HasRaised, epoch_after, after_note, raised, HasStartCause, IsNoteFault}
 use Rattle.alp_node.specs.declared.sessions.Sessions.{Sessions}
 use Rattle.alp_node.specs.declared.start.StartFault.{StartFault}
 use Rattle.alp_node.specs.declared.start.StartFault.TheVariants as start_fault
@@ -90,14 +90,14 @@ new_by sizes n image = go (eqb_tells n (2 + 2 * sizes.area + sizes.home)) (same_
     go (inr other) a one b two = inr (λ is. other.1 is.size)
 
 -- what a store that started holds was given by its server
-pub of_server : {D : Type 0} (g : Ghosts D) (sizes : Sizes) (server : ℕ) (d : D) (held : Contents) → (IsNew sizes (g.size d) (g.seen d) → held ≡ nothing) → ((IsNew sizes (g.size d) (g.seen d) → ⊥) → AreOfServer server held) → AreOfServer server held
+pub of_server : {D : Type 0} (g : Ghosts D) (sizes : Sizes) (server : ℕ) (d : D) (held : Contents) → (IsNew sizes (g.size d) (g.seen d) → held ≡ nothing) → ((IsNew sizes (g.size d) (g.seen d) → ⊥) → GaveFiles server held) → GaveFiles server held
 of_server g sizes server d held new old = go (new_by sizes (g.size d) (g.seen d))
   where
-    none : AreOfServer server nothing
+    none : GaveFiles server nothing
     none f c is = (let wrong : ◌≡◌ {A = Option Cell} None (Some c) = sym (get_cell [] (Leader f)) ∙ is in cc)
 
-    go : IsNew sizes (g.size d) (g.seen d) ⊎ (IsNew sizes (g.size d) (g.seen d) → ⊥) → AreOfServer server held
-    go (inl is) = subst (AreOfServer server) (sym (new is)) none
+    go : IsNew sizes (g.size d) (g.seen d) ⊎ (IsNew sizes (g.size d) (g.seen d) → ⊥) → GaveFiles server held
+    go (inl is) = subst (GaveFiles server) (sym (new is)) none
     go (inr is) = old is
 
 -- a disk that holds something for a server, by its numbers

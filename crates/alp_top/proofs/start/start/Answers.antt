@@ -3,9 +3,9 @@ use Rattle.std.proofs.Common.{◌≡◌, ◌≤◌, ℕ, arith, refl, sym, ◌�
 use Rattle.alp_base.specs.Crashes.{NoMore, Only}
 use Rattle.alp_base.specs.declared.faults.Sizes.{Sizes}
 use Rattle.alp_anchor.specs.declared.anchor.Anchor.{Anchor}
-use Rattle.alp_node.specs.NodeStates.{NodeState}
 use Rattle.alp_disk.specs.Disk.{Image}
-use Rattle.alp_node.specs.Starts.{AreOfServer as StartOfServer, HasStartCause, HasRaised, IsKeptOrRaised, IsNoteFault}
+use Rattle.alp_node.specs.NodeStates.{NodeState}
+use Rattle.alp_node.specs.Starts.{GaveFiles, HasStartCause, HasRaised, IsKeptOrRaised, IsNoteFault}
 use Rattle.alp_node.specs.declared.start.StartFault.{StartFault}
 use Rattle.alp_store.specs.Starts.{AreOfServer as StoredOfServer}
 use Rattle.alp_store.specs.Holding.{Holds, HoldsBy}
@@ -48,7 +48,7 @@ start-requires-2-clause-given g c tells =
     let h = c.in-Ok.ensures in
     let told = subst IsTrue h.below.tells tells in
     of_server g.D.Disk c.args.sizes c.args.server c.args.disk (contents_of g.D.Disk c.in-Ok.store.log) (λ is. (h.new told is).empty)
-    (λ old. subst (λ (k : ℕ). StartOfServer k (contents_of g.D.Disk c.in-Ok.store.log)) h.named.0 (h.mounted told old).own.files)
+    (λ old. subst (λ (k : ℕ). GaveFiles k (contents_of g.D.Disk c.in-Ok.store.log)) h.named.0 (h.mounted told old).own.files)
 
 pub returns-in-Err-start-clause-cause : goal.returns-in-Err-start-clause-cause
 returns-in-Err-start-clause-cause g c told =
