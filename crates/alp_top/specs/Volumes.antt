@@ -308,7 +308,7 @@ pub record IsUnplayed {D : Type 0} (g : Ghosts D) (lines : List NumberedLine) (s
   pub read : g.may_leave given (g.seen given)
   pub unfailed : g.faults given ≡ g.faults taken
 
--- The servers before this one were started, in order, and this one was not: that holds of its disk. No other disk was taken.
+-- The servers before this one were started, in order, and this one did not come to them: that holds of its disk. No other disk was taken.
 pub record StopsAt {D : Type 0} (g : Ghosts D) (lines : List NumberedLine) (server : ℕ) (before after : ℕ → Option D) (P : D → D → Type 0) : Type 0 where
   pub among : IsOneOf (servers_said lines) server
   pub returned : AreReturned g lines server before after (λ n taken given. (n ≡ server → P taken given) × ((n ≡ server → ⊥) → IsUnplayed g lines n taken given))
