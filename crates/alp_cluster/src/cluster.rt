@@ -96,7 +96,7 @@ impl<V: Vault> Cluster<V> {
     /// Plays a line. A client's line sends what its client asks; one of another event has it happen; and any other declares or sets
     /// something. Behind it messages are carried, where they are carried by themselves. Where a journal is full or a
     /// server has no epoch left, the rest of the line is not played. Of a disk that fails, a server that does not start again, and want of
-    /// memory the contract says which disk failed, and nothing of the journals.
+    /// memory the contract says which disk failed. However the line ends, each journal is the one before with more entries, or none.
     pub fn play_step(&mut self, line: &NumberedLine) -> Result<(), RunFault>
         requires step { InStep V.Vault self.old.parties.clients self.old.parties.stations }
         requires form { IsForm line.now.line }
@@ -147,7 +147,8 @@ impl<V: Vault> Cluster<V> {
     }
 
     /// All comes to rest: nobody stops a disk any more, each server that is down starts again with pick 0, each transaction times out where
-    /// it has an open part, and there are rounds of ticks and messages, one at least and eight at most.
+    /// it has an open part, and there are rounds of ticks and messages, one at least and eight at most. However it ends, each journal is the one
+    /// before with more entries, or none.
     pub fn settle(&mut self) -> Result<(), RunFault>
         requires on { AreOn V.Vault self.old.parties.stations }
         ensures gone { HaveGone V.Vault (Unit {0}) self.old.parties.stations self.new.parties.stations result }
@@ -179,7 +180,8 @@ impl<V: Vault> Cluster<V> {
     }
 
     /// Plays all lines on servers that did nothing yet, and lets all come to rest. Where a journal is full or a server has no epoch left,
-    /// the rest is not played. Of the other faults the contract says which disk failed, and nothing of the journals.
+    /// the rest is not played. Of the other faults the contract says which disk failed. However the run ends, each server is the one that was
+    /// opened, and its journal is the one before with more entries, or none.
     pub fn play_out(&mut self, lines: &[NumberedLine]) -> Result<(), RunFault>
         requires accepted { IsAccepted lines.now }
         requires new { HasPlayed V.Vault (servers_said lines.now) [] self.old.parties.clients self.old.parties.stations self.old.lists.items self.old.text.items }

@@ -27,10 +27,11 @@ use Rattle.alp_vault.specs.Contents.{Contents}
 use Rattle.alp_vault.specs.Vault.{IsSameVault}
 use Rattle.alp_vault.specs.declared.vault.Vault.{Ghosts as VaultGhosts}
 use Rattle.alp_cluster.specs.Fills.{IsEndFor, IsFullFor, server_due}
+use Rattle.alp_cluster.specs.Goes.{opening_in}
 use Rattle.alp_cluster.specs.Runs.{StopNone, HasEndedEarly}
 use Rattle.alp_cluster.specs.Servers.{AreCalm, IsOn, StaysDown, AreCountedIn, state_of}
 use Rattle.alp_cluster.specs.Station.{standing, HasVault, seat_for, seat_of}
-use Rattle.alp_cluster.specs.Stations.{AreCalmSince, IsManned, IsUnchanged, EndsFor, EndsAt, course_of, opening_in, openings_of, servers_of}
+use Rattle.alp_cluster.specs.Stations.{AreCalmSince, IsManned, IsUnchanged, EndsFor, EndsAt, course_of, openings_of, servers_of}
 use Rattle.alp_cluster.specs.declared.fault.RunFault.{RunFault}
 use Rattle.alp_cluster.specs.declared.fault.RunFault.TheVariants as run_fault
 use Rattle.alp_cluster.specs.declared.server.Server.{Server}

@@ -23,7 +23,7 @@ use Rattle.alp_cluster.specs.Gathered.{AreStationsOf}
 use Rattle.alp_cluster.specs.Runs.{StopNone}
 use Rattle.alp_cluster.specs.Servers.{HasGoneBy, IsFailure, IsToldFault, IsOfVolumeAt, IsFailureAt, AreCounted, AreCountedAt, AreCountedIn}
 use Rattle.alp_cluster.specs.Station.{standing, HasVault}
-use Rattle.alp_cluster.specs.Stations.{IsOfRun, HaveGone, opening_in, openings_of}
+use Rattle.alp_cluster.specs.Stations.{IsOfRun, HaveGone, openings_of}
 use Rattle.alp_cluster.specs.declared.fault.RunFault.{RunFault}
 use Rattle.alp_cluster.specs.declared.fault.RunFault.TheVariants as run_fault
 use Rattle.alp_cluster.specs.declared.station.Station.{Station}

@@ -29,10 +29,11 @@ use Rattle.alp_store.specs.Holding.{Holds}
 use Rattle.alp_vault.specs.Contents.{Contents}
 use Rattle.alp_vault.specs.declared.vault.Vault.{Ghosts as VaultGhosts}
 use Rattle.alp_cluster.specs.Gathered.{AreStationsOf}
+use Rattle.alp_cluster.specs.Goes.{opening_in}
 use Rattle.alp_cluster.specs.Runs.{StopNone, HasPlayedOut}
 use Rattle.alp_cluster.specs.Servers.{AreCalm, IsOn, state_of}
 use Rattle.alp_cluster.specs.Station.{standing, seat_for, seat_of}
-use Rattle.alp_cluster.specs.Stations.{AreCalmSince, HaveGone, IsManned, course_of, opening_in, openings_of}
+use Rattle.alp_cluster.specs.Stations.{AreCalmSince, HaveGone, IsManned, course_of, openings_of}
 use Rattle.alp_cluster.specs.declared.fault.RunFault.{RunFault}
 use Rattle.alp_cluster.specs.declared.station.Station.{Station}
 use Rattle.alp_cluster.specs.declared.stations.Stations.{Stations}
