@@ -131,6 +131,8 @@ module _ {V D T : Type 0} (G : VaultGhosts V) (g : Ghosts D) (tells : Bool) (all
     node = one.node;
     stands = one.stands;
     here = one.here;
+    kept = one.kept;
+    crash = one.crash;
     vault = one.vault;
     gone = gone_ok G (IsOfRun (length all)) (Unit {0}) one.node.kept.vault one.vault x y one.gone;
     held = one.held;
@@ -142,6 +144,8 @@ module _ {V D T : Type 0} (G : VaultGhosts V) (g : Ghosts D) (tells : Bool) (all
     node = one.node;
     stands = one.stands;
     here = one.here;
+    kept = one.kept;
+    crash = one.crash;
     vault = one.vault;
     gone = gone_elsewhere G (length all) (Unit {0}) one.node.kept.vault one.vault x f one.gone (subst (λ (n : ℕ). IsElsewhere {T = T} (length all) n (Err f)) (sym one.here) (goes m other));
     held = tt;
@@ -153,6 +157,8 @@ module _ {V D T : Type 0} (G : VaultGhosts V) (g : Ghosts D) (tells : Bool) (all
     node = one.node;
     stands = one.stands;
     here = one.here;
+    kept = one.kept;
+    crash = one.crash;
     vault = one.vault;
     gone = one.gone;
     held = tt;
@@ -214,6 +220,8 @@ module _ {V D : Type 0} (G : VaultGhosts V) (g : Ghosts D) (tells : Bool) (all :
         node = one.node;
         stands = one.stands;
         here = one.here;
+        kept = one.kept;
+        crash = one.crash;
         vault = one.vault;
         gone = gone_ok G (IsOfRun (length all)) (Unit {0}) one.node.kept.vault one.vault x y one.gone;
         held = one.held;
@@ -226,6 +234,8 @@ module _ {V D : Type 0} (G : VaultGhosts V) (g : Ghosts D) (tells : Bool) (all :
         node = one.node;
         stands = one.stands;
         here = one.here;
+        kept = one.kept;
+        crash = one.crash;
         vault = one.vault;
         gone = gone_err G (IsOfRun (length all)) (Unit {0}) one.node.kept.vault one.vault f one.gone;
         held = tt;

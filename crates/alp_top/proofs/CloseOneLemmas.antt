@@ -3,6 +3,7 @@ use Rattle.std.specs.Prelude.{Bool, IsTrue, Option, Result, Ok, Err, OnOk}
 use Rattle.std.proofs.Common.{◌≡◌, ℕ, ◌≤◌, List, refl, sym, ◌∙◌, ap, subst, arith}
 use Rattle.alp_disk.specs.declared.disk.Disk.{Ghosts}
 use Rattle.alp_node.specs.NodeStates.{NodeState}
+use Rattle.alp_node.specs.Nodes.{IsConsistent}
 use Rattle.alp_vault.specs.declared.vault.Vault.{Ghosts as VaultGhosts}
 use Rattle.alp_cluster.specs.Servers.{HasGoneBy}
 use Rattle.alp_cluster.specs.Station.{standing, HasVault}
@@ -30,6 +31,8 @@ module _ {V D : Type 0} (G : VaultGhosts V) (g : Ghosts D) (tells : Bool) (serve
       node = rest.node;
       stands = rest.stands;
       here = here_is;
+      kept = rest.on.kept;
+      crash = λ c may. subst (λ (w : V). G.may_leave w c) (up_vault s.server rest.node v rest.stands has) may;
       vault = v;
       gone =
           gone_elsewhere G servers {T = Unit {0}} (Unit {0}) rest.node.kept.vault v tt f
@@ -64,6 +67,8 @@ module _ {V D : Type 0} (G : VaultGhosts V) (g : Ghosts D) (tells : Bool) (serve
         node = n;
         stands = stands;
         here = at;
+        kept = subst (λ (k : NodeState V). IsConsistent G k) (sym same) rest.on.kept;
+        crash = looked.crash;
         vault = v;
         gone = gone_named G servers server n.kept.vault v r (first, last) by_number;
         held = held_then r looked.held;

@@ -20,12 +20,14 @@ use Rattle.alp_script.specs.declared.numbered.NumberedLine.{NumberedLine}
 use Rattle.alp_vault.specs.Vault.{IsSameVault}
 use Rattle.alp_vault.specs.declared.vault.Vault.{Ghosts as VaultGhosts}
 use Rattle.alp_cluster.specs.Gathered.{AreStationsOf}
+use Rattle.alp_cluster.specs.Goes.{AddsEntries}
 use Rattle.alp_cluster.specs.Runs.{StopNone}
 use Rattle.alp_cluster.specs.Servers.{HasGoneBy, IsFailure, IsToldFault, IsOfVolumeAt, IsFailureAt, AreCounted, AreCountedAt, AreCountedIn}
 use Rattle.alp_cluster.specs.Station.{standing, HasVault}
 use Rattle.alp_cluster.specs.Stations.{IsOfRun, HaveGone, openings_of}
 use Rattle.alp_cluster.specs.declared.fault.RunFault.{RunFault}
 use Rattle.alp_cluster.specs.declared.fault.RunFault.TheVariants as run_fault
+use Rattle.alp_cluster.specs.declared.server.Server.{Server}
 use Rattle.alp_cluster.specs.declared.station.Station.{Station}
 use Rattle.alp_cluster.specs.declared.stations.Stations.{Stations}
 use Rattle.alp_cluster.proofs.GoneLemmas.{gone_then}
@@ -36,6 +38,7 @@ use Rattle.alp_top.specs.declared.fault.NoReport.{NoReport}
 use Rattle.alp_top.specs.declared.fault.NoReport.TheVariants as fault
 use Rattle.alp_top.proofs.BeginLemmas.{holds_by}
 use Rattle.alp_top.proofs.GivenLemmas.{one_vault, up_vault, station_at, stations_many}
+use Rattle.alp_top.proofs.JournalLemmas.{HasJournal, journal_less, journal_left}
 use Rattle.alp_top.proofs.PairLemmas.{HasPair, paired_at, same_there}
 use Rattle.alp_top.proofs.StoredLemmas.{started_as}
 
@@ -53,6 +56,7 @@ pub record IsGoneAt {V D T : Type 0} (G : VaultGhosts V) (g : Ghosts D) (tells :
   pub stands : slice_get now.all.items (n - 1) ≡ Some left
   pub vault : V
   pub gone : HasGoneBy G (IsOfRun (servers_said lines)) (StopNone lines) node.kept.vault vault r
+  pub says : IsTrue (G.tells vault) → HasJournal (start_in G node) (G.may_leave vault)
   pub given : D
   pub back : IsGiven G g vault given
   pub there : IsTrue tells → after n ≡ Some given
@@ -113,6 +117,8 @@ module _ {V D : Type 0} (G : VaultGhosts V) (g : Ghosts D) (tells : Bool) (lines
             stands = q.at_one;
             vault = y.vault;
             gone = subst (λ (w : V). HasGoneBy G (IsOfRun (servers_said lines)) (StopNone lines) p.one.kept.vault w r) v (subst (λ (m : ℕ). HasGoneBy G (IsOfRun m) (StopNone lines) p.one.kept.vault l.vault r) first_many l.gone);
+            says = journal_left G p.one y.vault p.both.started.on.kept (subst (λ (w : V). IsSameVault G.tells G.volume G.server G.servers p.one.kept.vault w) v l.gone.same) q.one.server y.its
+                (subst (λ (s : Station V). AddsEntries p.one s.server) (sym one) l.adds) y.known;
             given = q.two;
             back = y.back;
             there = y.there;
@@ -136,6 +142,7 @@ module _ {V D : Type 0} (G : VaultGhosts V) (g : Ghosts D) (tells : Bool) (lines
         let v : l.vault ≡ y.node.kept.vault = up_vault c.one.server y.node l.vault y.stands (subst (λ (z : Station V). HasVault z.server l.vault) (sym one) l.its) in
         let first_gone : HasGoneBy {T = T} G (IsOfRun (servers_said lines)) (StopNone lines) p.one.kept.vault y.node.kept.vault (Ok x) =
         subst (λ (w : V). HasGoneBy {T = T} G (IsOfRun (servers_said lines)) (StopNone lines) p.one.kept.vault w (Ok x)) v (subst (λ (m : ℕ). HasGoneBy {T = T} G (IsOfRun m) (StopNone lines) p.one.kept.vault l.vault (Ok x)) first_many l.gone) in
+        let adds : AddsEntries p.one (standing y.node) = subst (λ (o : Option (Server V)). AddsEntries p.one o) (ap (λ (z : Station V). z.server) (sym one) ∙ y.stands) l.adds in
         record {
           at = record {
             node = p.one;
@@ -149,6 +156,8 @@ module _ {V D : Type 0} (G : VaultGhosts V) (g : Ghosts D) (tells : Bool) (lines
             vault = y.vault;
             gone = gone_then G (IsOfRun (servers_said lines)) (StopNone lines) (Unit {0}) (StopNone lines) p.one.kept.vault y.node.kept.vault y.vault x q (λ none. none) (λ none. tt) first_gone
                 (subst (λ (m : ℕ). HasGoneBy G (IsOfRun m) (Unit {0}) y.node.kept.vault y.vault q) (gone.many ∙ first_many) y.gone);
+            says = λ told_v. journal_less (start_in G p.one) (G.may_leave y.node.kept.vault) (G.may_leave y.vault) y.crash
+                (journal_left G p.one y.node.kept.vault p.both.started.on.kept first_gone.same (standing y.node) refl adds y.kept (subst IsTrue y.gone.same.telling told_v));
             given = c.two;
             back = y.back;
             there = y.there;
@@ -260,14 +269,18 @@ module _ {V D : Type 0} (G : VaultGhosts V) (g : Ghosts D) (tells : Bool) (lines
         let all : G.servers x.vault ≡ servers_said lines = same.of_all ∙ x.begun.started.on.kept.all ∙ x.begun.started.count in
         let volume : G.volume x.vault ≡ (start_in G x.node).sizes = same.sizes ∙ ap G.volume (sym x.begun.started.idle.opening) in
         let tells_node : IsTrue (G.tells x.node.kept.vault) = subst IsTrue (sym x.begun.started.telling) (x.begun.told told) in
+        let h : HasJournal (start_in G x.node) (G.may_leave x.vault) = x.says tells_v in
         record {
           opening = start_in G x.node;
           notes = notes_in G x.node;
+          journal = h.entries;
           started = started_as G g (sizes_said lines n) n (servers_said lines) x.node x.node x.vault x.taken x.given x.begun.started (x.begun.told told) x.begun.started.on x.begun.started.number refl tells_node;
           sound = (x.begun.started.on.kept.right tells_node).opening;
           new = x.begun.started.new (x.begun.told told);
           found = x.begun.started.found (x.begun.told told);
-          left = λ image may. (let (c, holds, may_be) = x.back.whole tells_v image may in (c, holds_by _ _ _ _ _ _ _ _ image c number all refl (ap (λ (z : Sizes). z.home) volume) holds));
+          lawful = h.lawful;
+          caused = h.caused;
+          left = λ image may. (let (c, holds, may_be) = x.back.whole tells_v image may in (c, holds_by _ _ _ _ _ _ _ _ image c number all refl (ap (λ (z : Sizes). z.home) volume) holds, h.left c may_be));
           read = x.back.read tells_v;
         }
 

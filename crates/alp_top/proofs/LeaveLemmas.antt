@@ -6,7 +6,7 @@ use Rattle.alp_vault.specs.declared.vault.Vault.{Ghosts as VaultGhosts}
 use Rattle.alp_course.specs.Courses.{IsOneOf}
 use Rattle.alp_cluster.specs.Station.{HasVault}
 use Rattle.alp_cluster.specs.declared.station.Station.{Station}
-use Rattle.alp_top.specs.Disks.{IsGivenAt, IsHeld, AreHeld, IsLeftAt, AreLeftBy}
+use Rattle.alp_top.specs.Disks.{IsGivenAt, IsHeld, AreHeld, IsServerRight, IsLeftAt, AreLeftBy}
 use Rattle.alp_top.specs.Pairs.{ArePaired}
 use Rattle.alp_top.proofs.PairLemmas.{paired_map}
 
@@ -32,18 +32,18 @@ module _ {V D : Type 0} (G : VaultGhosts V) (g : Ghosts D) (tells : Bool) (all :
   pub leaving_none : AreHeld G tells all → Leaving G g tells all all before before
   leaving_none held = record { done = []; are = sym (append-nil all); disks = []; each = tt; same = λ told n out. refl; held = held }
 
-  pub leaving_more : (left rest : List (Station V)) (s : Station V) (v : V) (now after : ℕ → Option D) → Leaving G g tells all left before now → left ≡ rest ++ s ∷ [] → HasVault s.server v → IsGivenAt G g tells now after (length rest + 1) v
+  pub leaving_more : (left rest : List (Station V)) (s : Station V) (v : V) (now after : ℕ → Option D) → Leaving G g tells all left before now → left ≡ rest ++ s ∷ [] → HasVault s.server v → IsServerRight G s.server → IsGivenAt G g tells now after (length rest + 1) v
       → Leaving G g tells all rest before after
-  leaving_more left rest s v now after h is has given =
+  leaving_more left rest s v now after h is has known given =
       let long : length left ≡ length rest + 1 = ap (λ (xs : List (Station V)). length xs) is ∙ length-append rest (s ∷ []) in
       record {
         done = s ∷ h.done;
         are = h.are ∙ ap (λ (xs : List (Station V)). xs ++ h.done) is ∙ append_assoc rest (s ∷ []) h.done;
         disks = given.device ∷ h.disks;
         each = (
-          record { vault = v; its = has; back = given.back; there = λ told. (given.filled told).here },
+          record { vault = v; its = has; known = known; back = given.back; there = λ told. (given.filled told).here },
           paired_map (IsLeftAt G g tells now) (IsLeftAt G g tells after) (length rest + 1 + 1) h.done h.disks
-              (λ m x d low one. record { vault = one.vault; its = one.its; back = one.back; there = λ told. (given.filled told).others m (λ same. omega (arith, low, same)) ∙ one.there told })
+              (λ m x d low one. record { vault = one.vault; its = one.its; known = one.known; back = one.back; there = λ told. (given.filled told).others m (λ same. omega (arith, low, same)) ∙ one.there told })
               (subst (λ (m : ℕ). ArePaired (IsLeftAt G g tells now) m h.done h.disks) (ap (λ (m : ℕ). m + 1) long) h.each),
         );
         same = λ told n out.

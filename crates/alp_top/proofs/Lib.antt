@@ -22,6 +22,7 @@ pub mod CountedLists
 pub mod CutLemmas
 pub mod PlayedOutLemmas
 pub mod GivenLemmas
+pub mod JournalLemmas
 pub mod GoneAtLemmas
 pub mod RestLemmas
 pub mod TogetherLemmas

@@ -2,6 +2,7 @@
 use Rattle.std.specs.Prelude.{Result, Ok, Err}
 use Rattle.std.proofs.Common.{◌≡◌, ◌≢◌, ℕ, refl, sym, ◌∙◌, subst}
 use Rattle.alp_base.specs.Causes.{Rose}
+use Rattle.alp_base.specs.Crashes.{NoMore}
 use Rattle.alp_base.specs.Faults.{HasVaultCause}
 use Rattle.alp_base.specs.declared.allowance.Allowance.TheVariants.{Free}
 use Rattle.alp_base.specs.declared.faults.VaultFault.{VaultFault}
@@ -32,13 +33,13 @@ module _ {V : Type 0} (G : Ghosts V) (server : ℕ) (u v : V) (same : IsSameVaul
 -- ---- one behind the other
 
 module _ {V : Type 0} (G : Ghosts V) where
-  pub looked_err : {T U : Type 0} (u v w : V) (f : RunFault) → G.held v ≡ G.held u → G.allowance v ≡ G.allowance u → HasLooked {T = T} G v w (Err f) → HasLooked {T = U} G u w (Err f)
-  looked_err u v w f held allowance h = record { held = h.held ∙ held; allowance = h.allowance ∙ allowance; serves = tt; room = h.room }
+  pub looked_err : {T U : Type 0} (u v w : V) (f : RunFault) → G.held v ≡ G.held u → G.allowance v ≡ G.allowance u → NoMore (G.may_leave u) (G.may_leave v) → HasLooked {T = T} G v w (Err f) → HasLooked {T = U} G u w (Err f)
+  looked_err u v w f held allowance crash h = record { held = h.held ∙ held; crash = λ c may. crash c (h.crash c may); allowance = h.allowance ∙ allowance; serves = tt; room = h.room }
 
   -- a fault that is handed on
-  pub looked_on : {T U : Type 0} (u v w : V) (f : RunFault) (r : Result U RunFault) → G.held v ≡ G.held u → G.allowance v ≡ G.allowance u → HasLooked {T = T} G v w (Err f) → r ≡ Err f → HasLooked {T = U} G u w r
-  looked_on {U = U} u v w f r held allowance h is = subst (λ (q : Result U RunFault). HasLooked {T = U} G u w q) (sym is) (looked_err u v w f held allowance h)
+  pub looked_on : {T U : Type 0} (u v w : V) (f : RunFault) (r : Result U RunFault) → G.held v ≡ G.held u → G.allowance v ≡ G.allowance u → NoMore (G.may_leave u) (G.may_leave v) → HasLooked {T = T} G v w (Err f) → r ≡ Err f → HasLooked {T = U} G u w r
+  looked_on {U = U} u v w f r held allowance crash h is = subst (λ (q : Result U RunFault). HasLooked {T = U} G u w q) (sym is) (looked_err u v w f held allowance crash h)
 
   -- memory was wanting
-  pub looked_wanting : {U : Type 0} (u v : V) (r : Result U RunFault) → G.held v ≡ G.held u → G.allowance v ≡ G.allowance u → r ≡ Err fault.OutOfMemory → HasLooked {T = U} G u v r
-  looked_wanting {U = U} u v r held allowance is = subst (λ (q : Result U RunFault). HasLooked {T = U} G u v q) (sym is) (record { held = held; allowance = allowance; serves = tt; room = tt })
+  pub looked_wanting : {U : Type 0} (u v : V) (r : Result U RunFault) → G.held v ≡ G.held u → G.allowance v ≡ G.allowance u → NoMore (G.may_leave u) (G.may_leave v) → r ≡ Err fault.OutOfMemory → HasLooked {T = U} G u v r
+  looked_wanting {U = U} u v r held allowance crash is = subst (λ (q : Result U RunFault). HasLooked {T = U} G u v q) (sym is) (record { held = held; crash = crash; allowance = allowance; serves = tt; room = tt })

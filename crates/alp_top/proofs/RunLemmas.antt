@@ -237,6 +237,7 @@ module _ {V D : Type 0} (G : VaultGhosts V) (g : Ghosts D) (tells : Bool) (lines
             stands = x.stands;
             vault = x.vault;
             gone = gone_memory G (IsOfRun (servers_said lines)) (StopNone lines) x.node.kept.vault x.vault u x.gone;
+            says = x.says;
             given = x.given;
             back = x.back;
             there = x.there;

@@ -1,7 +1,7 @@
 -- How the servers of a run are started on the disks of a bay, and how the disks are given back.
-use Rattle.std.specs.Prelude.{◌≡◌, ◌⊎◌, ◌≤◌, ◌<◌, ℕ, ◌+◌, Bool, false, IsTrue, List, [], ◌∷◌, ◌++◌, length, Option, Some, Result, Ok, Err, OnOk}
+use Rattle.std.specs.Prelude.{◌≡◌, ◌⊎◌, ◌≤◌, ◌<◌, ℕ, ◌+◌, Bool, false, IsTrue, List, [], ◌∷◌, ◌++◌, length, Option, None, Some, Result, Ok, Err, OnOk}
 use Rattle.alp_base.specs.Causes.{Rose}
-use Rattle.alp_base.specs.Crashes.{Only, SameOutcomes}
+use Rattle.alp_base.specs.Crashes.{Only, NoMore, SameOutcomes}
 use Rattle.alp_base.specs.Notes.{Notes}
 use Rattle.alp_base.specs.declared.allowance.Allowance.TheVariants.{Free}
 use Rattle.alp_base.specs.declared.faults.Sizes.{Sizes}
@@ -9,8 +9,9 @@ use Rattle.alp_bay.specs.Bays.{IsTaken, IsFilled}
 use Rattle.alp_disk.specs.Disk.{Image}
 use Rattle.alp_disk.specs.declared.disk.Disk.{Ghosts}
 use Rattle.alp_course.specs.Courses.{IsOneOf}
+use Rattle.alp_node.specs.Downs.{IsFallen}
 use Rattle.alp_node.specs.NodeStates.{NodeState}
-use Rattle.alp_node.specs.Nodes.{start_in}
+use Rattle.alp_node.specs.Nodes.{IsConsistent, start_in}
 use Rattle.alp_script.specs.Accepted.{servers_said}
 use Rattle.alp_script.specs.Volumes.{sizes_said}
 use Rattle.alp_script.specs.declared.numbered.NumberedLine.{NumberedLine}
@@ -26,6 +27,8 @@ use Rattle.alp_cluster.specs.Stations.{IsOfRun}
 use Rattle.alp_cluster.specs.declared.cluster.Cluster.{Cluster}
 use Rattle.alp_cluster.specs.declared.fault.RunFault.{RunFault}
 use Rattle.alp_cluster.specs.declared.fault.RunFault.TheVariants as run_fault
+use Rattle.alp_cluster.specs.declared.server.Server.{Server}
+use Rattle.alp_cluster.specs.declared.server.Server.TheVariants.{Up, Fallen}
 use Rattle.alp_cluster.specs.declared.station.Station.{Station}
 use Rattle.alp_top.specs.Endings.{IsRestPut}
 use Rattle.alp_top.specs.Pairs.{ArePaired}
@@ -194,10 +197,17 @@ abbrev pub AreHeld : {V : Type 0} → VaultGhosts V → Bool → List (Station V
 AreHeld G tells [] = Unit {0}
 AreHeld G tells (s ∷ ss) = IsHeld G tells s × AreHeld G tells ss
 
+-- what holds of a server, up or not, however a call of it ended
+abbrev pub IsServerRight : {V : Type 0} → VaultGhosts V → Option (Server V) → Type 0
+IsServerRight G (Some (Up n)) = IsConsistent G n
+IsServerRight G (Some (Fallen d)) = IsFallen G d
+IsServerRight G None = Unit {0}
+
 -- that of the server that stands there is given back at its place
 pub record IsLeftAt {V D : Type 0} (G : VaultGhosts V) (g : Ghosts D) (tells : Bool) (after : ℕ → Option D) (number : ℕ) (s : Station V) (given : D) : Type 0 where
   pub vault : V
   pub its : HasVault s.server vault
+  pub known : IsServerRight G s.server
   pub back : IsGiven G g vault given
   pub there : IsTrue tells → after number ≡ Some given
 
@@ -245,7 +255,9 @@ pub record IsClosedAt {V D T : Type 0} (G : VaultGhosts V) (g : Ghosts D) (tells
   pub node : NodeState V
   pub stands : s.server ≡ standing node
   pub here : G.server node.kept.vault ≡ number
+  pub kept : IsConsistent G node
   pub vault : V
+  pub crash : NoMore (G.may_leave node.kept.vault) (G.may_leave vault)
   pub gone : HasGoneBy G (IsOfRun servers) (Unit {0}) node.kept.vault vault r
   pub held : OnOk r (G.held vault ≡ G.held node.kept.vault)
   pub serves : OnOk r (IsTrue (G.serves vault))

@@ -16,7 +16,7 @@ use Rattle.alp_files.specs.Apart.{AreSized}
 use Rattle.alp_files.specs.Sound.{AreSound}
 use Rattle.alp_journal.specs.Opening.{Start, start_at}
 use Rattle.alp_journal.specs.Along.{Along, state_after}
-use Rattle.alp_journal.specs.Answered.{entries_limit}
+use Rattle.alp_journal.specs.Answered.{IsAnswered, entries_limit}
 use Rattle.alp_journal.specs.Laws.{IsLawful}
 use Rattle.alp_journal.specs.Moves.{next}
 use Rattle.alp_journal.specs.State.{State, opened}
@@ -313,20 +313,24 @@ pub record StopsAt {D : Type 0} (g : Ghosts D) (lines : List NumberedLine) (serv
   pub among : IsOneOf (servers_said lines) server
   pub returned : AreReturned g lines server before after (λ n taken given. (n ≡ server → P taken given) × ((n ≡ server → ⊥) → IsUnplayed g lines n taken given))
 
--- A server may be started on the disk that was taken. What the disk that is given back reads, and whatever a crash leaves of it, is a volume of
--- the server. Whether it was started, and what the volume holds, is not said.
+-- A server was started on the disk that was taken, and raised the epoch of its note. There is a journal from what it opened on that is lawful,
+-- each of whose entries has its cause. What the disk that is given back reads, and whatever a crash leaves of it, is what this journal says, or that
+-- with the whole of what was tried last. Whether the lines bring about these entries is not said.
 pub record IsLeftWhole {D : Type 0} (g : Ghosts D) (lines : List NumberedLine) (server : ℕ) (taken given : D) : Type 0 where
   pub opening : Start
   pub notes : Notes
+  pub journal : List Entry
   pub started : opening ≡ start_at server (servers_said lines) opening.sizes opening.cells notes
   pub sound : IsSoundStart opening
   pub new : IsNew (sizes_said lines server) (g.size taken) (g.seen taken) → IsOpenedNew (sizes_said lines server) opening notes
   pub found : (IsNew (sizes_said lines server) (g.size taken) (g.seen taken) → ⊥) → IsOpenedOn server (servers_said lines) (g.size taken) (g.seen taken) opening notes
-  pub left : (image : Image) → g.may_leave given image → (c : Contents) × Holds server (servers_said lines) (g.size given) opening.sizes.home image c
+  pub lawful : IsLawful opening journal
+  pub caused : IsAnswered opening journal
+  pub left : (image : Image) → g.may_leave given image → (c : Contents) × Holds server (servers_said lines) (g.size given) opening.sizes.home image c × IsLeftOf (state_after next (opened opening) journal) c
   pub read : g.may_leave given (g.seen given)
 
--- The disk of each server was taken and is given back, and is whole: so it is where memory was wanting when all were started. What the disks hold is
--- not said. Without a line that stops a disk none failed.
+-- The disk of each server was taken and is given back, and is whole: so it is where memory was wanting when all were started. Without a line that
+-- stops a disk none failed.
 pub record AreLeftWanting {D : Type 0} (g : Ghosts D) (lines : List NumberedLine) (before after : ℕ → Option D) : Type 0 where
   pub returned : AreReturned g lines (servers_said lines) before after (λ n taken given. (StopNone lines → g.faults given ≡ g.faults taken) × IsLeftWhole g lines n taken given)
 
@@ -352,7 +356,7 @@ IsAtItsEnd g lines server taken given = IsLeftAlone g (sizes_said lines server) 
 -- A disk is none to start on, or its server has no epoch left: the servers before did nothing, and it holds what it held. Where a disk failed, or
 -- memory was wanting, one of some cases stands, and no clause says which. The servers before did nothing, and no further disk was taken, where
 -- memory was wanting; or they did nothing, and of the last disk that was taken it is said what a start that did not come to its end left; or all
--- disks are given back, and each is a volume of its server, of which no more is said. A full journal, and an epoch that is the last one of a
+-- disks are given back, and each is what a lawful journal of its server says. A full journal, and an epoch that is the last one of a
 -- server in the run, come when all were started, and each disk comes back as its server's journal says. A server that starts again in the run
 -- finds its own notes good, in whatever it was stopped.
 abbrev pub HasRunCause : {D : Type 0} → Ghosts D → List NumberedLine → (before after : ℕ → Option D) → (bay_before bay_after : ℕ) → NoReport → Type 0

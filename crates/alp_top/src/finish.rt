@@ -3,7 +3,7 @@ ghost use Rattle.std.specs.Prelude.{◌≡◌, IsTrue, IfOk, OnOk, false};
 ghost use Rattle.alp_base.specs.declared.allowance.Allowance.TheVariants.{Free};
 ghost use Rattle.alp_cluster.specs.Servers.{IsOn, HasGoneBy};
 ghost use Rattle.alp_cluster.specs.Station.{HasVault};
-ghost use Rattle.alp_top.specs.Disks.{IsGiven};
+ghost use Rattle.alp_top.specs.Disks.{IsGiven, IsServerRight};
 ghost use Rattle.alp_top.specs.Endings.{AreNoRests, ArePutFirst, IsHeldOf, IsRestPut, IsReportOf, AreCellsOf, shown_text};
 ghost use Rattle.alp_top.specs.Looks.{HasLooked};
 
@@ -131,15 +131,18 @@ pub fn end_node<V: Vault>(
 /// The vault of a server, up or not.
 pub fn vault_of<V: Vault>(station: Station<V>) -> V
     requires stands { (v : V) × HasVault station.server v }
-    ensures { HasVault station.server result }
+    ensures vault { HasVault station.server result }
+    ensures known { IsServerRight V.Vault station.server }
 {
     let (server, _) = station.into_parts();
     match server {
         Server::Up(node) => {
+            node.knows();
             let (_, vault, _) = node.into_parts();
             vault
         }
         Server::Fallen(down) => {
+            down.knows();
             let (_, vault, _) = down.into_parts();
             vault
         }

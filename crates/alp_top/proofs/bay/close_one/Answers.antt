@@ -23,11 +23,11 @@ pub give-requires-clause-told : goal.give-requires-clause-told
 give-requires-clause-told g c κs lives told =
     let G = store_vault.ghosts (the_row g.row.B-Device g.B.Device.Disk) (fuse_disk.ghosts g.row.B-Device g.B.Device.Disk g.B.Device.Disk-dict g.B.Device.Destruct-dict) fuse_disk.no_dict fuse_disk.no_dict in
     let rest = c.requires.at_rest in
-    subst (λ v. IsTrue (G.tells v)) (sym (up_vault c.args.station.server rest.node c.vault_of.result rest.stands c.vault_of.ensures)) (rest.told told)
+    subst (λ v. IsTrue (G.tells v)) (sym (up_vault c.args.station.server rest.node c.vault_of.result rest.stands c.vault_of.ensures.vault)) (rest.told told)
 
 pub returns-in-Err-clause-closed : goal.returns-in-Err-clause-closed
 returns-in-Err-clause-closed g c servers most away =
-    closed_over _ g.B.Device.Disk (g.B.Bay.tells c.args.bay.now) servers c.args.server (g.B.Bay.at c.args.bay.now) (g.B.Bay.at c.give.new.bay) c.args.station c.requires.at_rest c.in-Err.fault c.vault_of.result c.vault_of.ensures c.give.ensures.given
+    closed_over _ g.B.Device.Disk (g.B.Bay.tells c.args.bay.now) servers c.args.server (g.B.Bay.at c.args.bay.now) (g.B.Bay.at c.give.new.bay) c.args.station c.requires.at_rest c.in-Err.fault c.vault_of.result c.vault_of.ensures.vault c.give.ensures.given
     (subst (λ e. IsElsewhere servers c.args.server e) c.in-Err.is away)
 
 -- ---- the server is up

@@ -43,7 +43,7 @@ pub give-requires-clause-told : goal.give-requires-clause-told
 give-requires-clause-told g c κs lives told =
     let G = store_vault.ghosts (the_row g.row.B-Device g.B.Device.Disk) (fuse_disk.ghosts g.row.B-Device g.B.Device.Disk g.B.Device.Disk-dict g.B.Device.Destruct-dict) fuse_disk.no_dict fuse_disk.no_dict in
     let one : IsHeld G (g.B.Bay.tells c.args.bay.now) c.in-Some.station = (held_last G (g.B.Bay.tells c.args.bay.now) c.pop.new.self.items c.in-Some.station (subst (AreHeld G (g.B.Bay.tells c.args.bay.now)) c.in-Some.ensures.items c.loop-station.invariant.going.held)).1 in
-    subst (λ v. IsTrue (G.tells v)) (one_vault c.in-Some.station.server one.vault c.vault_of.result one.its c.vault_of.ensures) (one.told (subst IsTrue c.loop-station.invariant.tells told))
+    subst (λ v. IsTrue (G.tells v)) (one_vault c.in-Some.station.server one.vault c.vault_of.result one.its c.vault_of.ensures.vault) (one.told (subst IsTrue c.loop-station.invariant.tells told))
 
 pub loop-station-preserved : goal.loop-station-preserved
 loop-station-preserved g c =
@@ -56,7 +56,7 @@ loop-station-preserved g c =
     let place : c.len.result + 1 ≡ length c.pop.new.self.items + 1 = omega (arith, c.len.ensures) in
     record {
       going =
-          leaving_more G h tells c.args.stations.items (g.B.Bay.at c.args.bay.now) c.loop-station.stations.items c.pop.new.self.items c.in-Some.station c.vault_of.result was now c.loop-station.invariant.going c.in-Some.ensures.items c.vault_of.ensures
+          leaving_more G h tells c.args.stations.items (g.B.Bay.at c.args.bay.now) c.loop-station.stations.items c.pop.new.self.items c.in-Some.station c.vault_of.result was now c.loop-station.invariant.going c.in-Some.ensures.items c.vault_of.ensures.vault c.vault_of.ensures.known
           (subst (λ (k : ℕ). IsGivenAt G h tells was now k c.vault_of.result) place (subst (λ (b : Bool). IsGivenAt G h b was now (c.len.result + 1) c.vault_of.result) c.loop-station.invariant.tells c.give.ensures.given));
       few = omega (arith, long, c.loop-station.invariant.few);
       tells = c.give.ensures.tells ∙ c.loop-station.invariant.tells;

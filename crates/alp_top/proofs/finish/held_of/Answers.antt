@@ -14,14 +14,14 @@ returns-in_err-owners-clause-gone g c =
 
 pub returns-in_err-owners-clause-looked : goal.returns-in_err-owners-clause-looked
 returns-in_err-owners-clause-looked g c =
-    looked_on g.V.Vault c.args.vault.now c.args.vault.now c.owner_records.new.vault c.in_err-owners.field-0.0 c.from_residual.result refl refl c.in_err-owners.ensures.looked
+    looked_on g.V.Vault c.args.vault.now c.args.vault.now c.owner_records.new.vault c.in_err-owners.field-0.0 c.from_residual.result refl refl (λ x may. may) c.in_err-owners.ensures.looked
     (handed_on c.in_err-owners.field-0.0 c.from_residual.result c.from_residual.ensures.0 c.from_residual.ensures.1)
 
 pub returns-clause-gone : goal.returns-clause-gone
 returns-clause-gone g c = gone_ok g.V.Vault (λ (s : ℕ). s ≡ c.args.server) (Unit {0}) c.args.vault.now c.owner_records.new.vault c.in_ok-owners.owners _ c.in_ok-owners.ensures.gone
 
 pub returns-clause-looked : goal.returns-clause-looked
-returns-clause-looked g c = record { held = c.in_ok-owners.ensures.looked.held; allowance = c.in_ok-owners.ensures.looked.allowance; serves = c.in_ok-owners.ensures.looked.serves; room = tt }
+returns-clause-looked g c = record { held = c.in_ok-owners.ensures.looked.held; crash = c.in_ok-owners.ensures.looked.crash; allowance = c.in_ok-owners.ensures.looked.allowance; serves = c.in_ok-owners.ensures.looked.serves; room = tt }
 
 pub returns-clause-numbers : goal.returns-clause-numbers
 returns-clause-numbers g c = record { server = refl; epoch = refl; clock = refl }

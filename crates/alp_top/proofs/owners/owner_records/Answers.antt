@@ -22,7 +22,7 @@ returns-in_err-names-clause-gone g c =
 
 pub returns-in_err-names-clause-looked : goal.returns-in_err-names-clause-looked
 returns-in_err-names-clause-looked g c =
-    looked_wanting g.V.Vault c.args.vault.now c.args.vault.now c.from_residual.result refl refl (handed_on fault.OutOfMemory c.from_residual.result c.from_residual.ensures.0 c.from_residual.ensures.1)
+    looked_wanting g.V.Vault c.args.vault.now c.args.vault.now c.from_residual.result refl refl (λ x may. may) (handed_on fault.OutOfMemory c.from_residual.result c.from_residual.ensures.0 c.from_residual.ensures.1)
 
 pub returns-in_err-records-clause-gone : goal.returns-in_err-records-clause-gone
 returns-in_err-records-clause-gone g c =
@@ -30,7 +30,7 @@ returns-in_err-records-clause-gone g c =
 
 pub returns-in_err-records-clause-looked : goal.returns-in_err-records-clause-looked
 returns-in_err-records-clause-looked g c =
-    looked_wanting g.V.Vault c.args.vault.now c.args.vault.now c.from_residual-in_err-records.result refl refl (handed_on fault.OutOfMemory c.from_residual-in_err-records.result c.from_residual-in_err-records.ensures.0 c.from_residual-in_err-records.ensures.1)
+    looked_wanting g.V.Vault c.args.vault.now c.args.vault.now c.from_residual-in_err-records.result refl refl (λ x may. may) (handed_on fault.OutOfMemory c.from_residual-in_err-records.result c.from_residual-in_err-records.ensures.0 c.from_residual-in_err-records.ensures.1)
 
 pub loop-name-init : goal.loop-name-init
 loop-name-init g c = record {
@@ -38,6 +38,7 @@ loop-name-init g c = record {
   gone = gone_nothing g.V.Vault (λ (s : ℕ). s ≡ c.args.server) (Unit {0}) c.args.vault.now (Ok 0) tt tt refl;
   server = c.requires.server;
   held = refl;
+  crash = λ x may. may;
   allowance = refl;
   serves = c.requires.serving;
 }
@@ -51,7 +52,7 @@ returns-in_err-record-clause-gone g c =
 
 pub returns-in_err-record-clause-looked : goal.returns-in_err-record-clause-looked
 returns-in_err-record-clause-looked g c =
-    looked_on g.V.Vault c.args.vault.now c.loop-name.vault c.owner_record.new.vault c.in_err-record.field-0.0 c.from_residual-in_err-record.result c.loop-name.invariant.held c.loop-name.invariant.allowance c.in_err-record.ensures.looked
+    looked_on g.V.Vault c.args.vault.now c.loop-name.vault c.owner_record.new.vault c.in_err-record.field-0.0 c.from_residual-in_err-record.result c.loop-name.invariant.held c.loop-name.invariant.allowance c.loop-name.invariant.crash c.in_err-record.ensures.looked
     (handed_on c.in_err-record.field-0.0 c.from_residual-in_err-record.result c.from_residual-in_err-record.ensures.0 c.from_residual-in_err-record.ensures.1)
 
 pub returns-in_err-push-clause-gone : goal.returns-in_err-push-clause-gone
@@ -63,6 +64,7 @@ returns-in_err-push-clause-gone g c =
 pub returns-in_err-push-clause-looked : goal.returns-in_err-push-clause-looked
 returns-in_err-push-clause-looked g c =
     looked_wanting g.V.Vault c.args.vault.now c.owner_record.new.vault c.from_residual-in_err-push.result (c.in_ok-record.ensures.looked.held ∙ c.loop-name.invariant.held) (c.in_ok-record.ensures.looked.allowance ∙ c.loop-name.invariant.allowance)
+    (λ x may. c.loop-name.invariant.crash x (c.in_ok-record.ensures.looked.crash x may))
     (handed_on fault.OutOfMemory c.from_residual-in_err-push.result c.from_residual-in_err-push.ensures.0 c.from_residual-in_err-push.ensures.1)
 
 pub loop-name-preserved : goal.loop-name-preserved
@@ -82,6 +84,7 @@ loop-name-preserved g c =
       gone = gone_both g.V.Vault (λ (s : ℕ). s ≡ c.args.server) (Unit {0}) c.args.vault.now c.loop-name.vault c.owner_record.new.vault 0 (Ok 0) before.gone (gone_ok g.V.Vault (λ (s : ℕ). s ≡ c.args.server) (Unit {0}) c.loop-name.vault c.owner_record.new.vault _ 0 one.gone);
       server = one.gone.same.number ∙ before.server;
       held = one.looked.held ∙ before.held;
+      crash = λ x may. before.crash x (one.looked.crash x may);
       allowance = one.looked.allowance ∙ before.allowance;
       serves = one.looked.serves;
     }
@@ -92,7 +95,7 @@ pub returns-clause-gone : goal.returns-clause-gone
 returns-clause-gone g c = gone_ok g.V.Vault (λ (s : ℕ). s ≡ c.args.server) (Unit {0}) c.args.vault.now c.loop-name.vault 0 _ c.loop-name.invariant.gone
 
 pub returns-clause-looked : goal.returns-clause-looked
-returns-clause-looked g c = record { held = c.loop-name.invariant.held; allowance = c.loop-name.invariant.allowance; serves = c.loop-name.invariant.serves; room = tt }
+returns-clause-looked g c = record { held = c.loop-name.invariant.held; crash = c.loop-name.invariant.crash; allowance = c.loop-name.invariant.allowance; serves = c.loop-name.invariant.serves; room = tt }
 
 pub returns-clause-owners : goal.returns-clause-owners
 returns-clause-owners g c told =
