@@ -1,4 +1,4 @@
-//! Tests of command lines, of the words and lines of scripts and scripts as a whole, of drills, and of what a report says.
+//! Tests of command lines, of the words and lines of scripts, of scripts as a whole, and of drills.
 #![tactic(auto)]
 
 #[cfg(test)]

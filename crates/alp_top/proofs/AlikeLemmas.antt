@@ -1,6 +1,6 @@
 -- a disk in a fuse, and out of it again
 use Rattle.std.specs.Prelude.{Option, Some, IsTrue}
-use Rattle.std.proofs.Common.{inl, inr, ap, refl, ◌≡◌, ◌≤◌, ℕ, List, sym, ◌∙◌, subst, arith}
+use Rattle.std.proofs.Common.{inl, inr, ◌⊎◌, ap, refl, ◌≡◌, ◌≤◌, ℕ, List, sym, ◌∙◌, subst, arith}
 use Rattle.alp_base.specs.Causes.{Rose}
 use Rattle.alp_base.specs.Crashes.{Only, NoMore, SameOutcomes}
 use Rattle.alp_base.specs.declared.faults.Sizes.{Sizes}
@@ -12,16 +12,25 @@ use Rattle.alp_disk.specs.declared.disk.Disk.{Ghosts}
 use Rattle.alp_node.specs.NodeStates.{NodeState}
 use Rattle.alp_node.specs.Nodes.{start_in}
 use Rattle.alp_store.specs.Holding.{Holds}
-use Rattle.alp_store.specs.Starts.{IsNew, WhyNotStarted}
+use Rattle.alp_store.specs.Starts.{IsNew, Making, Unmaking, WhyNotStarted}
 use Rattle.alp_vault.specs.declared.vault.Vault.{Ghosts as VaultGhosts}
 use Rattle.alp_top.specs.Disks.{ShowAlike, IsStarted, IsGiven, IsOfServer, IsCountedStart, notes_in}
-use Rattle.alp_top.specs.Volumes.{pages_of, IsOpenedOn, IsReturned, IsLeftAlone, HasNoEpoch, HoldsApart, WhyNotBegun}
+use Rattle.alp_top.specs.Volumes.{pages_of, IsOpenedOn, IsReturned, IsLeftAlone, HasNoEpoch, HoldsApart, ReadsAsBefore, HoldsOrRaised, HoldsNothing, IsNewAgain, IsHalfMade, WhyNotBegun}
 use Rattle.alp_top.specs.declared.fault.NoReport.{NoReport}
 use Rattle.alp_top.specs.declared.fault.NoReport.TheVariants as fault
 
 -- what a crash leaves of the second where of the first it leaves one image alone
 only_alike : {A : Type 0} (x y : A) (old new : A → Type 0) → NoMore old new → y ≡ x → Only x old → Only y new
 only_alike x y old new less same only c is = only c (less c is) ∙ sym same
+
+-- what a stop may leave while a disk is made a volume, of one of which a crash leaves more
+making_of : (server servers n : ℕ) (sizes : Sizes) (old new : Image → Type 0) (c : Image) → NoMore new old → Making server servers n sizes old c → Making server servers n sizes new c
+making_of server servers n sizes old new c more (inl (inl was)) = inl (inl (was.0, more was.0 was.1, was.2))
+making_of server servers n sizes old new c more (inl (inr reads)) = inl (inr reads)
+making_of server servers n sizes old new c more (inr reads) = inr reads
+
+unmaking_of : (server servers n : ℕ) (sizes : Sizes) (old new : Image → Type 0) (c : Image) → NoMore new old → Unmaking server servers n sizes old c → Unmaking server servers n sizes new c
+unmaking_of server servers n sizes old new c more x = record { made = x.made; making = making_of server servers n sizes old new x.made more x.making; behind = x.behind }
 
 module _ {A B : Type 0} (g : Ghosts A) (h : Ghosts B) (a : A) (b : B) (alike : ShowAlike g h a b) where
   at_alike : (P : ℕ → Image → Type 0) → P (g.size a) (g.seen a) → P (h.size b) (h.seen b)
@@ -85,11 +94,59 @@ module _ {A B : Type 0} (g : Ghosts A) (h : Ghosts B) (sizes : Sizes) (ta ga : A
     unfailed = given.faults ∙ x.unfailed ∙ sym taken.faults;
   }
 
+  -- a disk on which its server did not start, which was not new
+  old_alike : (server servers : ℕ) → ((IsNew sizes (g.size ta) (g.seen ta) → ⊥) → ReadsAsBefore g ta ga ⊎ HoldsOrRaised g server servers ta ga) → (IsNew sizes (h.size tb) (h.seen tb) → ⊥) → ReadsAsBefore h tb gb ⊎ HoldsOrRaised h server servers tb gb
+  old_alike server servers x old = elim (x (λ is. old (at_alike g h ta tb taken (IsNew sizes) is))) [
+    | inl y ↦ inl (record { seen = given.seen ∙ y.seen ∙ sym taken.seen; crash = λ i left. taken.leaves.no_fewer i (y.crash i (given.leaves.no_more i left)) })
+    | inr y ↦ inr (record {
+      home = y.home;
+      held = y.held;
+      holds = at_alike g h ta tb taken (λ n i. Holds server servers n y.home i y.held) y.holds;
+      left = λ image may. (let (c, holds, is) = y.left image (given.leaves.no_more image may) in (c, subst (λ (m : ℕ). Holds server servers m y.home image c) (sym given.size) holds, is));
+      read = subst (h.may_leave gb) (sym given.seen) (given.leaves.no_fewer (g.seen ga) y.read);
+    })
+  ]
+
+  -- and one that was
+  nothing_alike : (server servers : ℕ) → HoldsNothing g sizes server servers ga → HoldsNothing h sizes server servers gb
+  nothing_alike server servers y = record {
+    left = λ image may. (let (c, holds, is) = y.left image (given.leaves.no_more image may) in (c, subst (λ (m : ℕ). Holds server servers m sizes.home image c) (sym given.size) holds, is));
+    read = subst (h.may_leave gb) (sym given.seen) (given.leaves.no_fewer (g.seen ga) y.read);
+  }
+
+  again_alike : IsNewAgain g sizes ga → IsNewAgain h sizes gb
+  again_alike y = record { blank = at_alike g h ga gb given (IsNew sizes) y.blank; durable = only_alike (g.seen ga) (h.seen gb) (g.may_leave ga) (h.may_leave gb) given.leaves.no_more given.seen y.durable }
+
+  half_alike : (server servers : ℕ) → IsHalfMade g sizes server servers ta ga → IsHalfMade h sizes server servers tb gb
+  half_alike server servers y = record {
+    left = λ image may.
+        subst (λ (n : ℕ). Unmaking server servers n sizes (h.may_leave tb) image) (sym taken.size)
+        (unmaking_of server servers (g.size ta) sizes (g.may_leave ta) (h.may_leave tb) image taken.leaves.no_fewer (y.left image (given.leaves.no_more image may)));
+    read = subst (h.may_leave gb) (sym given.seen) (given.leaves.no_fewer (g.seen ga) y.read);
+  }
+
   -- why a server was not started
   pub cause_alike : (server servers : ℕ) (f : NoReport) → WhyNotBegun g sizes server servers f ta ga → WhyNotBegun h sizes server servers f tb gb
   cause_alike server servers fault.Bay x = absurd x
-  cause_alike server servers (fault.Disk s) x = (x.0, rose_alike x.1)
-  cause_alike server servers fault.OutOfMemory x = given.faults ∙ x ∙ sym taken.faults
+  cause_alike server servers (fault.Disk s) x = (
+    x.0,
+    record {
+      rose = rose_alike x.1.rose;
+      old = old_alike server servers x.1.old;
+      new = λ is. elim (x.1.new (at_first g h ta tb taken (IsNew sizes) is)) [
+        | inl y ↦ inl (half_alike server servers y)
+        | inr y ↦ inr (nothing_alike server servers y)
+      ];
+    },
+  )
+  cause_alike server servers fault.OutOfMemory x = record {
+    unfailed = given.faults ∙ x.unfailed ∙ sym taken.faults;
+    old = old_alike server servers x.old;
+    new = λ is. elim (x.new (at_first g h ta tb taken (IsNew sizes) is)) [
+      | inl y ↦ inl (again_alike y)
+      | inr y ↦ inr (nothing_alike server servers y)
+    ];
+  }
   cause_alike server servers fault.JournalFull x = absurd x
   cause_alike server servers (fault.EpochEnd s) x = (x.0, alone_alike x.1, at_alike g h ta tb taken (HasNoEpoch server servers) x.2)
   cause_alike server servers (fault.NotAVolume s found) x = (x.0, alone_alike x.1, at_alike g h ta tb taken (λ n i. WhyNotStarted server servers n i (vault_fault.NotAVolume found)) x.2)

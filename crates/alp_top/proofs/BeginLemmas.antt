@@ -6,7 +6,7 @@ use Rattle.std.specs.FinMap.{get-empty}
 use Rattle.std.proofs.lemmas.Bool.Decides.{eqb_tells}
 use Rattle.std.proofs.Common.{inl, inr, ◌⊎◌, ◌≡◌, ◌≢◌, ℕ, ◌+◌, ◌*◌, ◌≤◌, List, [], length, refl, sym, ◌∙◌, ap, subst, arith}
 use Rattle.alp_base.specs.Causes.{Rose}
-use Rattle.alp_base.specs.Crashes.{NoMore}
+use Rattle.alp_base.specs.Crashes.{NoMore, Only}
 use Rattle.alp_base.specs.Faults.{HasFaultCause, IsCountKept, IsOfVolume}
 use Rattle.alp_base.specs.Notes.{Notes, text_cmp}
 use Rattle.alp_base.specs.declared.allowance.Allowance.{Allowance}
@@ -54,7 +54,7 @@ use Rattle.alp_cluster.specs.Servers.{AreKept, IsOn, IsDone}
 use Rattle.alp_cluster.proofs.StepLemmas.{kept_epoch, kept_clock}
 use Rattle.alp_top.specs.Disks.{IsCountedStart, notes_in}
 use Rattle.alp_top.specs.Faults.{of_vault, of_start}
-use Rattle.alp_top.specs.Volumes.{IsBare, IsLeftAlone, HoldsApart, IsOpenedNew, IsOpenedOn, WhyNotBegun}
+use Rattle.alp_top.specs.Volumes.{IsBare, IsLeftAlone, HoldsApart, HoldsOrRaised, HoldsNothing, IsHalfMade, IsOpenedNew, IsOpenedOn, WhyNotBegun}
 use Rattle.alp_top.specs.declared.fault.NoReport.{NoReport}
 
 abbrev nothing : Contents
@@ -62,7 +62,7 @@ nothing = record { cells = map.empty; notes = map.empty }
 
 -- ---- a volume that holds nothing begins in its first epoch
 
-raised_nothing : (held : Contents) → held ≡ nothing → raised held ≡ Ok (record { epoch = 1; clock = 0 })
+pub raised_nothing : (held : Contents) → held ≡ nothing → raised held ≡ Ok (record { epoch = 1; clock = 0 })
 raised_nothing held none = ap raised none ∙ ap after_note (get-empty text_cmp clock_name)
 
 first_clock : (held : Contents) (c : ClockNote) → held ≡ nothing → raised held ≡ Ok c → c ≡ record { epoch = 1; clock = 0 }
@@ -219,34 +219,40 @@ module _ {D : Type 0} (g : Ghosts D) (sizes : Sizes) (server servers : ℕ) (d e
 
   -- the store did not start
   pub not_opened : (f : VaultFault) → HasFaultCause (g.faults d) (g.faults e) (g.allowance e) f → IsCountKept (g.faults d) (g.faults e) f → g.allowance e ≡ Free → (IsNewDisk → IsOfVolume f)
-      → ((IsNewDisk → ⊥) → WhyNotStarted server servers (g.size d) (g.seen d) f) → ReadsOn → WhyNotBegun g sizes server servers (of_vault server f) d e
-  not_opened vault_fault.Failed cause kept free new why on = (refl, cause.failed refl)
-  not_opened vault_fault.Stopped cause kept free new why on = absurd (spent_free (sym free ∙ cause.stopped refl))
-  not_opened vault_fault.OutOfMemory cause kept free new why on = kept
-  not_opened (vault_fault.NotAVolume found) cause kept free new why on = (refl, left_alone on new kept, why new)
-  not_opened (vault_fault.Damaged place) cause kept free new why on = (refl, inl (left_alone on new kept, why new))
+      → ((IsNewDisk → ⊥) → WhyNotStarted server servers (g.size d) (g.seen d) f) → ReadsOn
+      → (IsNewDisk → f ≡ vault_fault.OutOfMemory → IsNew sizes (g.size e) (g.seen e) × Only (g.seen e) (g.may_leave e)) → (IsNewDisk → IsHalfMade g sizes server servers d e) → WhyNotBegun g sizes server servers (of_vault server f) d e
+  not_opened vault_fault.Failed cause kept free new why on blank half = (refl, record { rose = cause.failed refl; old = λ old. inl (record { seen = on.seen old; crash = on.crash old }); new = λ is. inl (half is) })
+  not_opened vault_fault.Stopped cause kept free new why on blank half = absurd (spent_free (sym free ∙ cause.stopped refl))
+  not_opened vault_fault.OutOfMemory cause kept free new why on blank half = record {
+    unfailed = kept;
+    old = λ old. inl (record { seen = on.seen old; crash = on.crash old });
+    new = λ is. (let again = blank is refl in inl (record { blank = again.0; durable = again.1 }));
+  }
+  not_opened (vault_fault.NotAVolume found) cause kept free new why on blank half = (refl, left_alone on new kept, why new)
+  not_opened (vault_fault.Damaged place) cause kept free new why on blank half = (refl, inl (left_alone on new kept, why new))
 
   -- the store did, and the server on it did not
   pub not_started : (tells : Bool) (vol : Sizes) (held : Contents) (f : StartFault) (between : ℕ) (allowance : Allowance) (home : ℕ) → HasStartCause tells server servers vol held between (g.faults e) allowance f → allowance ≡ Free → between ≡ g.faults d → IsTrue tells → 1 ≤ server → server ≤ servers → 24 ≤ vol.area → AreServerNotes server servers held.notes
       → (f ≡ start_fault.BadNote → (IsNewDisk → ⊥) → (servers ≡ 1 → ⊥) → (AreTogether server servers (epoch_after held) vol held.cells held.notes → ⊥) → HoldsApart g sizes server servers d e)
       → (f ≡ start_fault.Vault vault_fault.OutOfMemory → g.faults e ≡ between) → (f ≡ start_fault.EpochEnd → g.faults e ≡ between)
-      → (IsNewDisk → held ≡ nothing) → ((IsNewDisk → ⊥) → Holds server servers (g.size d) home (g.seen d) held) → ((IsNewDisk → ⊥) → StartedOnOwn server servers held) → (f ≡ start_fault.EpochEnd → ReadsOn) → WhyNotBegun g sizes server servers (of_start server f) d e
-  not_started tells vol held (start_fault.Vault f) between allowance home cause free kept told low high room notes strange memory last_epoch new holds own on = go f cause memory
+      → (IsNewDisk → held ≡ nothing) → ((IsNewDisk → ⊥) → Holds server servers (g.size d) home (g.seen d) held) → ((IsNewDisk → ⊥) → StartedOnOwn server servers held) → (f ≡ start_fault.EpochEnd → ReadsOn)
+      → ((IsNewDisk → ⊥) → HoldsOrRaised g server servers d e) → (IsNewDisk → HoldsNothing g sizes server servers e) → WhyNotBegun g sizes server servers (of_start server f) d e
+  not_started tells vol held (start_fault.Vault f) between allowance home cause free kept told low high room notes strange memory last_epoch new holds own on stands empty = go f cause memory
     where
       go : (f : VaultFault) → HasStartCause tells server servers vol held between (g.faults e) allowance (start_fault.Vault f) → (start_fault.Vault f ≡ start_fault.Vault vault_fault.OutOfMemory → g.faults e ≡ between) → WhyNotBegun g sizes server servers (of_vault server f) d e
-      go vault_fault.Failed h memory = (refl, subst (λ (n : ℕ). Rose n (g.faults e)) kept (h.0.failed refl))
+      go vault_fault.Failed h memory = (refl, record { rose = subst (λ (n : ℕ). Rose n (g.faults e)) kept (h.0.failed refl); old = λ old. inr (stands old); new = λ is. inr (empty is) })
       go vault_fault.Stopped h memory = absurd (spent_free (sym free ∙ h.0.stopped refl))
-      go vault_fault.OutOfMemory h memory = memory refl ∙ kept
+      go vault_fault.OutOfMemory h memory = record { unfailed = memory refl ∙ kept; old = λ old. inr (stands old); new = λ is. inr (empty is) }
       go (vault_fault.NotAVolume found) h memory = absurd h.1
       go (vault_fault.Damaged place) h memory = absurd h.1
-  not_started tells vol held start_fault.BadNote between allowance home cause free kept told low high room notes strange memory last_epoch new holds own on =
+  not_started tells vol held start_fault.BadNote between allowance home cause free kept told low high room notes strange memory last_epoch new holds own on stands empty =
       let apart : AreNotesSoFar server servers held.notes → ⊥ = (λ clock. cause.alone (none_ready held.notes clock) (together_so_far server servers (epoch_after held) vol.area held.notes room clock)) in
       let old : IsNewDisk → ⊥ = (λ is. apart (nothing_noted held (new is))) in
       let several : servers ≡ 1 → ⊥ = (λ one.
       let first : server ≡ 1 = omega (arith, low, high, one) in
       apart (alone_so_far held.notes (subst (λ (b : ℕ). AreServerNotes 1 b held.notes) one (subst (λ (a : ℕ). AreServerNotes a servers held.notes) first notes)))) in
       (refl, inr (refl, strange refl old several (cause.told told)))
-  not_started tells vol held start_fault.EpochEnd between allowance home cause free kept told low high room notes strange memory last_epoch new holds own on =
+  not_started tells vol held start_fault.EpochEnd between allowance home cause free kept told low high room notes strange memory last_epoch new holds own on stands empty =
       let old : IsNewDisk → ⊥ = (λ is. not_last held (new is) cause) in
       (refl, left_alone (on refl) old (last_epoch refl ∙ kept), record { home = home; held = held; holds = holds old; own = own old; last = cause })
 

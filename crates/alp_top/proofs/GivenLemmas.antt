@@ -2,7 +2,6 @@
 use Rattle.std.specs.Prelude.{Bool, IsTrue, map as list_map, slice_get, Option, None, Some, Result, Ok, Err}
 use Rattle.std.proofs.Common.{inl, inr, ◌⊎◌, ◌≡◌, ℕ, zero, suc, ◌+◌, ◌-◌, ◌<◌, ◌≤◌, List, [], ◌∷◌, length, refl, sym, ◌∙◌, ap, subst, arith}
 use Rattle.std.proofs.lemmas.Bool.{cases_eq}
-use Rattle.alp_base.specs.Causes.{Rose}
 use Rattle.alp_bay.specs.Bays.{IsTaken}
 use Rattle.alp_bay.specs.declared.bay.BayFault.{BayFault}
 use Rattle.alp_bay.specs.declared.bay.BayFault.TheVariants as bay_fault
@@ -36,7 +35,7 @@ use Rattle.alp_cluster.specs.declared.stations.Stations.{Stations}
 use Rattle.alp_top.specs.Disks.{IsStarted, IsBegunAt, AreBegun, AreOthersSame, IsUntaken, IsOfServer, IsRefused, notes_in, HaveBegunSome, IsGiven, IsLeftAt, AreLeftBy}
 use Rattle.alp_top.specs.Faults.{of_bay}
 use Rattle.alp_top.specs.Pairs.{ArePaired}
-use Rattle.alp_top.specs.Volumes.{pages_of, IsUnplayed, IsReturned, AreReturned, WhyNotBegun, StopsAt, IsAtItsEnd, IsNoVolume, IsDamaged, HasRunCause}
+use Rattle.alp_top.specs.Volumes.{pages_of, IsUnplayed, IsReturned, AreReturned, WhyNotBegun, StopsAt, IsAtItsEnd, IsFailing, IsWanting, IsNoVolume, IsDamaged, HasRunCause}
 use Rattle.alp_top.specs.declared.fault.NoReport.{NoReport}
 use Rattle.alp_top.specs.declared.fault.NoReport.TheVariants as fault
 use Rattle.alp_top.proofs.BeginLemmas.{holds_by}
@@ -232,10 +231,10 @@ module _ {V D : Type 0} (G : VaultGhosts V) (g : Ghosts D) (tells : Bool) (told 
       go fault.Bay (inl x) of make = (k, h.few, all_back (IsUnplayed g lines) (λ n here d e u. u) x.0, x.1)
       go fault.Bay (inr x) of make = absurd x.left
       go fault.OutOfMemory (inl x) of make = inl (k, h.few, all_back (IsUnplayed g lines) (λ n here d e u. u) x.0)
-      go fault.OutOfMemory (inr x) of make = inr (inl (k + 1, stops (λ n d e. g.faults e ≡ g.faults d) (k + 1) refl (make (λ n d e. g.faults e ≡ g.faults d) x (λ d e why. why))))
+      go fault.OutOfMemory (inr x) of make = inr (inl (k + 1, stops (λ n. IsWanting g (sizes_said lines n) n (servers_said lines)) (k + 1) refl (make (λ n. IsWanting g (sizes_said lines n) n (servers_said lines)) x (λ d e why. why))))
       go fault.JournalFull x of make = absurd of
       go (fault.Disk s) (inl x) of make = absurd x.1
-      go (fault.Disk s) (inr x) of make = inl (stops (λ n d e. Rose (g.faults d) (g.faults e)) s of.0 (make (λ n d e. Rose (g.faults d) (g.faults e)) x (λ d e why. why.1)))
+      go (fault.Disk s) (inr x) of make = inl (stops (λ n. IsFailing g (sizes_said lines n) n (servers_said lines)) s of.0 (make (λ n. IsFailing g (sizes_said lines n) n (servers_said lines)) x (λ d e why. why.1)))
       go (fault.EpochEnd s) (inl x) of make = absurd x.1
       go (fault.EpochEnd s) (inr x) of make = inl (stops (IsAtItsEnd g lines) s of (make (IsAtItsEnd g lines) x (λ d e why. (why.1, why.2))))
       go (fault.NotAVolume s found) (inl x) of make = absurd x.1

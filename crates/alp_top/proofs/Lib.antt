@@ -1,5 +1,6 @@
 pub mod AlikeLemmas
 pub mod AloneLemmas
+pub mod BackLemmas
 pub mod LonelyLemmas
 pub mod BeginLemmas
 pub mod BegunLemmas

@@ -24,11 +24,11 @@ use Rattle.alp_journal.specs.declared.entry.Entry.{Entry}
 use Rattle.alp_node.specs.Downs.{IsLeftOf}
 use Rattle.alp_node.specs.Durable.{IsSaid, IsSaidThen}
 use Rattle.alp_node.specs.Nodes.{IsSoundStart}
-use Rattle.alp_node.specs.Starts.{raised, epoch_after}
+use Rattle.alp_node.specs.Starts.{raised, epoch_after, IsKeptOrRaised}
 use Rattle.alp_regain.specs.Together.{AreTogether}
 use Rattle.alp_node.specs.declared.start.StartFault.TheVariants.{EpochEnd}
 use Rattle.alp_store.specs.Holding.{Holds}
-use Rattle.alp_store.specs.Starts.{AreOfServer, IsNew, WhyNotStarted}
+use Rattle.alp_store.specs.Starts.{AreOfServer, IsNew, Unmaking, WhyNotStarted}
 use Rattle.alp_vault.specs.Contents.{Contents}
 use Rattle.alp_script.specs.Accepted.{servers_said}
 use Rattle.alp_script.specs.Volumes.{sizes_said}
@@ -234,16 +234,64 @@ pub record HoldsApart {D : Type 0} (g : Ghosts D) (sizes : Sizes) (server server
   pub durable : Only (g.seen given) (g.may_leave given)
   pub unfailed : g.faults given ≡ g.faults taken
 
--- The disk failed, or it holds no volume of the server, or a damaged one, or one without a further epoch: so the server did not start.
+-- the disk reads as before, and a crash leaves no more of it
+pub record ReadsAsBefore {D : Type 0} (g : Ghosts D) (taken given : D) : Type 0 where
+  pub seen : g.seen given ≡ g.seen taken
+  pub crash : NoMore (g.may_leave taken) (g.may_leave given)
+
+-- It held a volume of the server. What it reads, and whatever a crash leaves of it, holds the same, or that with the next epoch in its note.
+pub record HoldsOrRaised {D : Type 0} (g : Ghosts D) (server servers : ℕ) (taken given : D) : Type 0 where
+  pub home : ℕ
+  pub held : Contents
+  pub holds : Holds server servers (g.size taken) home (g.seen taken) held
+  pub left : (image : Image) → g.may_leave given image → (c : Contents) × Holds server servers (g.size given) home image c × IsKeptOrRaised held c
+  pub read : g.may_leave given (g.seen given)
+
+-- neither files nor notes
+abbrev pub empty_contents : Contents
+empty_contents = record { cells = map.empty; notes = map.empty }
+
+-- What the disk reads, and whatever a crash leaves of it, is a volume of the server with so many home pages, which holds nothing, or just the
+-- note of its first epoch.
+pub record HoldsNothing {D : Type 0} (g : Ghosts D) (sizes : Sizes) (server servers : ℕ) (given : D) : Type 0 where
+  pub left : (image : Image) → g.may_leave given image → (c : Contents) × Holds server servers (g.size given) sizes.home image c × IsKeptOrRaised empty_contents c
+  pub read : g.may_leave given (g.seen given)
+
+-- the disk is new again, after a crash too
+pub record IsNewAgain {D : Type 0} (g : Ghosts D) (sizes : Sizes) (given : D) : Type 0 where
+  pub blank : IsNew sizes (g.size given) (g.seen given)
+  pub durable : Only (g.seen given) (g.may_leave given)
+
+-- What the disk reads, and whatever a crash leaves of it, is what a stop may leave within the call that makes a new disk a volume.
+pub record IsHalfMade {D : Type 0} (g : Ghosts D) (sizes : Sizes) (server servers : ℕ) (taken given : D) : Type 0 where
+  pub left : (image : Image) → g.may_leave given image → Unmaking server servers (g.size taken) sizes (g.may_leave taken) image
+  pub read : g.may_leave given (g.seen given)
+
+-- Its server did not start on this disk, or found no room among the others, since memory was wanting. The disk did not fail. One that was not new
+-- reads as before, or holds what it held, or that with the next epoch in its note. One that was new is new again, or a volume that holds nothing.
+pub record IsWanting {D : Type 0} (g : Ghosts D) (sizes : Sizes) (server servers : ℕ) (taken given : D) : Type 0 where
+  pub unfailed : g.faults given ≡ g.faults taken
+  pub old : (IsNew sizes (g.size taken) (g.seen taken) → ⊥) → ReadsAsBefore g taken given ⊎ HoldsOrRaised g server servers taken given
+  pub new : IsNew sizes (g.size taken) (g.seen taken) → IsNewAgain g sizes given ⊎ HoldsNothing g sizes server servers given
+
+-- Its server did not start on this disk, since that failed. One that was not new reads as before, or holds what it held, or that with the next
+-- epoch in its note. One that was new is half made, or a volume that holds nothing.
+pub record IsFailing {D : Type 0} (g : Ghosts D) (sizes : Sizes) (server servers : ℕ) (taken given : D) : Type 0 where
+  pub rose : Rose (g.faults taken) (g.faults given)
+  pub old : (IsNew sizes (g.size taken) (g.seen taken) → ⊥) → ReadsAsBefore g taken given ⊎ HoldsOrRaised g server servers taken given
+  pub new : IsNew sizes (g.size taken) (g.seen taken) → IsHalfMade g sizes server servers taken given ⊎ HoldsNothing g sizes server servers given
+
+-- The disk failed, or it holds no volume of the server, or a damaged one, or one without a further epoch: so the server did not start. Or memory was
+-- wanting.
 abbrev pub WhyNotBegun : {D : Type 0} → Ghosts D → Sizes → (server servers : ℕ) → NoReport → D → D → Type 0
-WhyNotBegun g sizes server servers (fault.Disk s) taken given = (s ≡ server) × Rose (g.faults taken) (g.faults given)
+WhyNotBegun g sizes server servers (fault.Disk s) taken given = (s ≡ server) × IsFailing g sizes server servers taken given
 WhyNotBegun g sizes server servers (fault.NotAVolume s found) taken given =
     (s ≡ server) × IsLeftAlone g sizes taken given × WhyNotStarted server servers (g.size taken) (g.seen taken) (vault_fault.NotAVolume found)
 WhyNotBegun g sizes server servers (fault.Damaged s place) taken given =
     (s ≡ server)
     × ((IsLeftAlone g sizes taken given × WhyNotStarted server servers (g.size taken) (g.seen taken) (vault_fault.Damaged place)) ⊎ ((place ≡ 0) × HoldsApart g sizes server servers taken given))
 WhyNotBegun g sizes server servers (fault.EpochEnd s) taken given = (s ≡ server) × IsLeftAlone g sizes taken given × HasNoEpoch server servers (g.size taken) (g.seen taken)
-WhyNotBegun g sizes server servers fault.OutOfMemory taken given = g.faults given ≡ g.faults taken
+WhyNotBegun g sizes server servers fault.OutOfMemory taken given = IsWanting g sizes server servers taken given
 WhyNotBegun g sizes server servers fault.JournalFull taken given = ⊥
 WhyNotBegun g sizes server servers fault.Bay taken given = ⊥
 
@@ -260,12 +308,13 @@ pub record IsUnplayed {D : Type 0} (g : Ghosts D) (lines : List NumberedLine) (s
   pub read : g.may_leave given (g.seen given)
   pub unfailed : g.faults given ≡ g.faults taken
 
--- The servers before this one were started, in order, and this one was not: that holds of its disk. No other disk was taken.
+-- The servers before this one were started, in order, and this one did not come to them: that holds of its disk. No other disk was taken.
 pub record StopsAt {D : Type 0} (g : Ghosts D) (lines : List NumberedLine) (server : ℕ) (before after : ℕ → Option D) (P : D → D → Type 0) : Type 0 where
   pub among : IsOneOf (servers_said lines) server
   pub returned : AreReturned g lines server before after (λ n taken given. (n ≡ server → P taken given) × ((n ≡ server → ⊥) → IsUnplayed g lines n taken given))
 
--- A server was started on this disk. What the disk that is given back reads, and whatever a crash leaves of it, is a volume of the server.
+-- A server may be started on the disk that was taken. What the disk that is given back reads, and whatever a crash leaves of it, is a volume of
+-- the server. Whether it was started, and what the volume holds, is not said.
 pub record IsLeftWhole {D : Type 0} (g : Ghosts D) (lines : List NumberedLine) (server : ℕ) (taken given : D) : Type 0 where
   pub opening : Start
   pub notes : Notes
@@ -276,11 +325,13 @@ pub record IsLeftWhole {D : Type 0} (g : Ghosts D) (lines : List NumberedLine) (
   pub left : (image : Image) → g.may_leave given image → (c : Contents) × Holds server (servers_said lines) (g.size given) opening.sizes.home image c
   pub read : g.may_leave given (g.seen given)
 
--- All servers were started, and memory was wanting. Each disk is given back and is whole. Without a line that stops a disk none failed.
+-- The disk of each server was taken and is given back, and is whole: so it is where memory was wanting when all were started. What the disks hold is
+-- not said. Without a line that stops a disk none failed.
 pub record AreLeftWanting {D : Type 0} (g : Ghosts D) (lines : List NumberedLine) (before after : ℕ → Option D) : Type 0 where
   pub returned : AreReturned g lines (servers_said lines) before after (λ n taken given. (StopNone lines → g.faults given ≡ g.faults taken) × IsLeftWhole g lines n taken given)
 
--- All were started, and the disk of this one failed. Each disk is given back and is whole. Without a line that stops a disk no other one failed.
+-- So is each, and the disk of this server failed: so it is where it failed when all were started. Without a line that stops a disk no other one
+-- failed.
 pub record AreLeftFailing {D : Type 0} (g : Ghosts D) (lines : List NumberedLine) (server : ℕ) (before after : ℕ → Option D) : Type 0 where
   pub cause : IsOneOf (servers_said lines) server
   pub returned : AreReturned g lines (servers_said lines) before after (λ n taken given. (n ≡ server → Rose (g.faults taken) (g.faults given)) × ((n ≡ server → ⊥) → StopNone lines → g.faults given ≡ g.faults taken) × IsLeftWhole g lines n taken given)
@@ -297,22 +348,24 @@ IsDamaged g lines server place taken given =
 abbrev pub IsAtItsEnd : {D : Type 0} → Ghosts D → List NumberedLine → (server : ℕ) → D → D → Type 0
 IsAtItsEnd g lines server taken given = IsLeftAlone g (sizes_said lines server) taken given × HasNoEpoch server (servers_said lines) (g.size taken) (g.seen taken)
 
--- Why a run ended before its report, and how the bay stands then. Where not all servers were started, those that were did nothing. The bay
--- failed, or memory was wanting, and the next disk was not taken; or the next server was not started on its disk, since that failed or is none to
--- start on, the first one that is not, or memory was wanting. Where all were started, a disk failed or memory was wanting, and all disks are given
--- back. A full journal, and an epoch that is the last one of a server in the run, come when all were started, and each disk comes back as its
--- server's journal says. A server that starts again in the run finds its own notes good, in whatever it was stopped.
+-- Why a run ended before its report, and how the bay stands then. The bay failed: the servers before did nothing, and no further disk was taken.
+-- A disk is none to start on, or its server has no epoch left: the servers before did nothing, and it holds what it held. Where a disk failed, or
+-- memory was wanting, one of some cases stands, and no clause says which. The servers before did nothing, and no further disk was taken, where
+-- memory was wanting; or they did nothing, and of the last disk that was taken it is said what a start that did not come to its end left; or all
+-- disks are given back, and each is a volume of its server, of which no more is said. A full journal, and an epoch that is the last one of a
+-- server in the run, come when all were started, and each disk comes back as its server's journal says. A server that starts again in the run
+-- finds its own notes good, in whatever it was stopped.
 abbrev pub HasRunCause : {D : Type 0} → Ghosts D → List NumberedLine → (before after : ℕ → Option D) → (bay_before bay_after : ℕ) → NoReport → Type 0
 HasRunCause g lines before after bay_before bay_after fault.Bay = (count : ℕ) × (count < servers_said lines) × AreReturned g lines count before after (IsUnplayed g lines) × Rose bay_before bay_after
 HasRunCause g lines before after bay_before bay_after fault.OutOfMemory =
     ((count : ℕ) × (count < servers_said lines) × AreReturned g lines count before after (IsUnplayed g lines))
-    ⊎ ((server : ℕ) × StopsAt g lines server before after (λ taken given. g.faults given ≡ g.faults taken))
+    ⊎ ((server : ℕ) × StopsAt g lines server before after (IsWanting g (sizes_said lines server) server (servers_said lines)))
     ⊎ AreLeftWanting g lines before after
 HasRunCause g lines before after bay_before bay_after fault.JournalFull =
     (last : Course) × IsCutShort lines run_fault.JournalFull last × (server : ℕ) × IsOneOf (servers_said lines) server
     × AreReturned g lines (servers_said lines) before after (λ n taken given. IsLeftBy g lines last n taken given × (n ≡ server → HasFilled g lines last n taken given))
 HasRunCause g lines before after bay_before bay_after (fault.Disk server) =
-    StopsAt g lines server before after (λ taken given. Rose (g.faults taken) (g.faults given)) ⊎ AreLeftFailing g lines server before after
+    StopsAt g lines server before after (IsFailing g (sizes_said lines server) server (servers_said lines)) ⊎ AreLeftFailing g lines server before after
 HasRunCause g lines before after bay_before bay_after (fault.EpochEnd server) =
     StopsAt g lines server before after (IsAtItsEnd g lines server)
     ⊎ ((last : Course) × IsCutShort lines (run_fault.Start server EpochEnd) last × IsOneOf (servers_said lines) server

@@ -114,6 +114,7 @@ fn add_one<B: Bay>(
         Ok(()) => Ok(()),
         Err((node, OutOfMemory)) => {
             let (_, vault, _) = node.into_parts();
+            vault.knows();
             give(bay, server, vault);
             Err(NoReport::OutOfMemory)
         }

@@ -1,11 +1,13 @@
 use Rattle.std.specs.Prelude.{IsTrue, Option}
 use Rattle.std.proofs.Common.{inr, ◌≡◌, ◌≤◌, ℕ, refl, sym, ◌∙◌, ap, subst, arith}
 use Rattle.alp_script.specs.Accepted.{servers_said}
+use Rattle.alp_script.specs.Volumes.{sizes_said}
 use Rattle.alp_node.specs.NodeStates.{NodeState}
 use Rattle.alp_store.specs.contracts.store.StoreVault.TheImpl as store_vault
 use Rattle.alp_disk.specs.contracts.fuse.Fuse.{the_row}
 use Rattle.alp_disk.specs.contracts.fuse.FuseDisk.TheImpl as fuse_disk
-use Rattle.alp_top.specs.Volumes.{pages_of}
+use Rattle.alp_top.specs.Volumes.{pages_of, IsWanting}
+use Rattle.alp_top.proofs.BackLemmas.{wanting_back}
 use Rattle.alp_top.proofs.RefusedLemmas.{err_of, told_of}
 use Rattle.alp_top.proofs.bay.add_one.Goals as goal
 
@@ -40,6 +42,11 @@ returns-in-Err-clause-refused g c =
     let n = c.in_ok-node.node in
     let at = ap (λ p. p.1) c.into_parts-vault.ensures ∙ ap (λ (m : NodeState _). m.kept.vault) c.in-Err.ensures.back in
     let placed = c.give.ensures.given in
+    let back : IsTrue (g.B.Bay.tells c.args.bay.now) → IsWanting h (sizes_said c.args.lines.now c.args.server) c.args.server (servers_said c.args.lines.now) one.disk placed.device = (λ told.
+    let its = one.is.told told in
+    let tells : IsTrue (V.tells c.into_parts-vault.result.1) = subst (λ v. IsTrue (V.tells v)) (sym at) (subst IsTrue (sym one.is.started.telling) its) in
+    let serves : IsTrue (V.serves c.into_parts-vault.result.1) = subst (λ v. IsTrue (V.serves v)) (sym at) (one.is.started.on.kept.ready.serving one.is.started.idle.up) in
+    wanting_back V h (sizes_said c.args.lines.now c.args.server) c.args.server (servers_said c.args.lines.now) n c.into_parts-vault.result.1 one.disk placed.device one.is.started its at (c.knows.ensures.settled tells serves) placed.back) in
     record {
       refused = λ told. inr (record {
         taken = one.disk;
@@ -48,7 +55,7 @@ returns-in-Err-clause-refused g c =
         there = (placed.filled (subst IsTrue (sym c.in_ok-node.ensures.tells) told)).here;
         size = placed.back.sized ∙ ap (λ v. pages_of (V.volume v)) at ∙ sym one.is.started.sized;
         later = (let now = placed.back.faults ∙ ap V.faults at ∙ one.is.started.faults in omega (arith, now));
-        left = placed.back.faults ∙ ap V.faults at ∙ one.is.started.faults;
+        left = back told;
       });
       others = λ told k away. (placed.filled (subst IsTrue (sym c.in_ok-node.ensures.tells) told)).others k away ∙ one.others told k away;
       of_server = tt;

@@ -3,8 +3,9 @@ use Rattle.std.proofs.Common.{◌≡◌, ◌≤◌, ℕ, arith, refl, sym, ◌�
 use Rattle.alp_base.specs.Crashes.{NoMore, Only}
 use Rattle.alp_base.specs.declared.faults.Sizes.{Sizes}
 use Rattle.alp_anchor.specs.declared.anchor.Anchor.{Anchor}
+use Rattle.alp_disk.specs.Disk.{Image}
 use Rattle.alp_node.specs.NodeStates.{NodeState}
-use Rattle.alp_node.specs.Starts.{GaveFiles, HasStartCause, HasRaised, IsNoteFault}
+use Rattle.alp_node.specs.Starts.{GaveFiles, HasStartCause, HasRaised, IsKeptOrRaised, IsNoteFault}
 use Rattle.alp_node.specs.declared.start.StartFault.{StartFault}
 use Rattle.alp_store.specs.Starts.{AreOfServer as StoredOfServer}
 use Rattle.alp_store.specs.Holding.{Holds, HoldsBy}
@@ -27,9 +28,12 @@ use Rattle.alp_top.proofs.start.start.Goals as goal
 pub returns-in-Err-clause-cause : goal.returns-in-Err-clause-cause
 returns-in-Err-clause-cause g c told =
     let h = c.in-Err.ensures in
+    let there : IsTrue (g.D.Disk.tells c.in-Err.disk) = subst IsTrue (sym h.below.tells) told in
     subst (λ (f : NoReport). WhyNotBegun g.D.Disk c.args.sizes c.args.server c.args.servers f c.args.disk c.in-Err.disk) (sym c.of_vault.ensures)
     (not_opened g.D.Disk c.args.sizes c.args.server c.args.servers c.args.disk c.in-Err.disk c.in-Err.fault h.cause.cause h.cause.still (stays_free _ _ h.below.allowance c.requires.free) (λ is. (h.new told is).volume) (λ old. h.why_not told old)
-    (record { seen = λ old. (h.looked told old).seen; crash = λ old. (h.looked told old).crash }))
+    (record { seen = λ old. (h.looked told old).seen; crash = λ old. (h.looked told old).crash })
+    (λ is memory. (h.new told is).memory memory)
+    (λ is. record { left = λ image may. (h.new told is).refused.within image (g.met.D.Disk.counts_now c.args.disk c.in-Err.disk image may); read = g.met.D.Disk.as_read c.in-Err.disk there }))
 
 pub returns-in-Err-clause-counted : goal.returns-in-Err-clause-counted
 returns-in-Err-clause-counted g c =
@@ -58,13 +62,21 @@ returns-in-Err-start-clause-cause g c told =
     let cause : HasStartCause (G.tells (disk_of s)) c.args.server c.args.servers (anchor_of s).sizes (contents_of G s) (G.faults (disk_of s)) (G.faults e) (G.allowance e) f =
     subst (λ (b : ℕ). HasStartCause (G.tells (disk_of s)) c.args.server b (anchor_of s).sizes (contents_of G s) (G.faults (disk_of s)) (G.faults e) (G.allowance e) f) h.named.1
     (subst (λ (a : ℕ). HasStartCause (G.tells (disk_of s)) a (anchor_of s).servers (anchor_of s).sizes (contents_of G s) (G.faults (disk_of s)) (G.faults e) (G.allowance e) f) h.named.0 k.cause) in
+    let into = c.into_disk.ensures in
+    let here : IsTrue (G.tells (disk_of s)) = subst IsTrue (sym h.below.tells) told in
+    let there : IsTrue (G.tells e) = subst IsTrue (sym k.same.telling) here in
+    let stays : (image : Image) → G.may_leave e image → (x : Contents) × HoldsBy G c.in-Err-start.store.log image x × IsKeptOrRaised (contents_of G s) x = (λ image may.
+    let now : IsTrue (G.tells c.into_disk.result) = subst IsTrue (sym (ap G.tells into.disk)) there in
+    let (x, holds) = into.whole now image (subst (λ (q : g.row.D.Denot). G.may_leave q image) (sym into.disk) may) in (
+      x,
+      holds,
+      (k.crash here).crash x (record { image = image; left = may; holds = holds }),
+    )) in
     subst (λ (q : NoReport). WhyNotBegun G c.args.sizes c.args.server c.args.servers q d c.into_disk.result) (sym c.of_start.ensures)
     (subst (λ (q : g.row.D.Denot). WhyNotBegun G c.args.sizes c.args.server c.args.servers (of_start c.args.server f) d q) (sym c.into_disk.ensures.disk)
     (not_started G c.args.sizes c.args.server c.args.servers d e (G.tells (disk_of s)) (anchor_of s).sizes (contents_of G s) f (G.faults (disk_of s)) (G.allowance e) (anchor_of s).sizes.home cause (stays_free _ _ k.allowance (stays_free _ _ h.below.allowance c.requires.free)) h.cause.still (subst IsTrue (sym h.below.tells) told) c.requires.server.first c.requires.server.among ((let least : 64 ≤ (anchor_of s).sizes.area = h.sized.least_area in omega (arith, least))) h.notes
     (λ bad old several apart. (
-    let into = c.into_disk.ensures in
     let quiet = k.noted (subst IsNoteFault (sym bad) tt) in
-    let here : IsTrue (G.tells (disk_of s)) = subst IsTrue (sym h.below.tells) told in
     let now : IsTrue (G.tells c.into_disk.result) = subst IsTrue (sym (ap G.tells into.disk ∙ k.same.telling)) here in
     record {
       old = old;
@@ -93,7 +105,28 @@ returns-in-Err-start-clause-cause g c told =
       seen = λ old. ap (λ v. G.seen (disk_of v.log)) same ∙ (h.looked told old).seen;
       crash = λ old. subst (λ (q : g.row.D.Denot). NoMore (G.may_leave d) (G.may_leave q)) (sym (ap (λ v. disk_of v.log) same)) (h.looked told old).crash;
     }
-    ))))
+    ))
+    (λ old. record {
+      home = (anchor_of s).sizes.home;
+      held = contents_of G s;
+      holds = holds_by _ _ _ _ _ _ _ _ (G.seen d) (contents_of G s) h.named.0 h.named.1 (h.looked told old).size refl (h.mounted told old).holds;
+      left = λ image may.
+          let (x, holds, is) = stays image may in (
+            x,
+            holds_by _ _ _ _ _ _ _ _ image x (k.same.number ∙ h.named.0) (k.same.of_all ∙ h.named.1) refl (ap (λ (z : Sizes). z.home) k.same.sizes) holds,
+            is,
+          );
+      read = g.met.D.Disk.as_read e there;
+    })
+    (λ new. record {
+      left = λ image may.
+          let (x, holds, is) = stays image may in (
+            x,
+            holds_by _ _ _ _ _ _ _ _ image x (k.same.number ∙ h.named.0) (k.same.of_all ∙ h.named.1) refl (ap (λ (z : Sizes). z.home) k.same.sizes ∙ ap (λ (a : Anchor). a.sizes.home) (h.new told new).anchor) holds,
+            subst (λ (y : Contents). IsKeptOrRaised y x) (h.new told new).empty is,
+          );
+      read = g.met.D.Disk.as_read e there;
+    })))
 
 pub returns-in-Err-start-clause-counted : goal.returns-in-Err-start-clause-counted
 returns-in-Err-start-clause-counted g c =

@@ -1,4 +1,4 @@
-//! Tests of alp_report: what replies, refusals and ends look like, and the whole of a report.
+//! What replies, refusals and ends look like, and the whole of a report.
 use alp_base::{
     AccessList, Bytes, FileId, Name, OutOfMemory, OwnerRecord, Page, PageList, PageRef, Props,
     Stamp, TransId,
