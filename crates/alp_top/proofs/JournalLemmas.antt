@@ -58,9 +58,9 @@ module _ {V : Type 0} (G : Ghosts V) where
   module _ (n : NodeState V) (v : V) (on : IsConsistent G n) (same : IsSameVault G.tells G.volume G.server G.servers n.kept.vault v) where
     -- a server that was opened on the same opened so
     opens_as : (server : ℕ) (opening : Opened V) (w : V) → v ≡ w → G.server w ≡ server → opening ≡ n.opening → start_by G server opening.vault.value ≡ start_in G n
-    opens_as server opening w is number opened =
+    opens_as server opening w is number alike =
         let there : server ≡ n.kept.server = sym number ∙ ap G.server (sym is) ∙ same.number ∙ on.number in
-        (λ i. start_by G (there i) (ap (λ (o : Opened V). o.vault.value) opened i))
+        (λ i. start_by G (there i) (ap (λ (o : Opened V). o.vault.value) alike i))
 
     moved : (o : Start) (w : V) → v ≡ w → o ≡ start_in G n → HasJournal o (G.may_leave w) → HasJournal (start_in G n) (G.may_leave v)
     moved o w is at h = subst (λ (z : Start). HasJournal z (G.may_leave v)) at (subst (λ (u : V). HasJournal o (G.may_leave u)) (sym is) h)
