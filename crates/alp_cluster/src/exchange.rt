@@ -162,7 +162,6 @@ fn refuse<V: Vault>(
 
 /// A server is handed the frame of a client and hands back its reply: the bytes are read, the server takes its step, or says that
 /// it is down, and the reply is spelled.
-#[tactic(auto, using(crate::proofs::AddsLemmas::adds_none))]
 pub(crate) fn hand<V: Vault>(
     alloc: Global,
     node: &mut Node<V>,

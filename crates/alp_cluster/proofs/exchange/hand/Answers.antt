@@ -18,6 +18,12 @@ pub returns-in_err-request-clause-filled : goal.returns-in_err-request-clause-fi
 returns-in_err-request-clause-filled g c =
     end_memory c.from_residual.result _ (handed_on fault.OutOfMemory c.from_residual.result c.from_residual.ensures.0 c.from_residual.ensures.1)
 
+pub returns-in_ok-refuse-in-None-clause-adds : goal.returns-in_ok-refuse-in-None-clause-adds
+returns-in_ok-refuse-in-None-clause-adds g c = adds_none c.args.node.now
+
+pub returns-in_err-refuse-in-None-clause-adds : goal.returns-in_err-refuse-in-None-clause-adds
+returns-in_err-refuse-in-None-clause-adds g c = adds_none c.args.node.now
+
 pub returns-in-Some-clause-filled : goal.returns-in-Some-clause-filled
 returns-in-Some-clause-filled g c =
     full_map _ _ c.ask.result (λ room. (subst (λ (o : Option Request). IsSome o) c.in_ok-request.ensures.exact (rw c.in-Some.is refl), room)) c.ask.ensures.filled
