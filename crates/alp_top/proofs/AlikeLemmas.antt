@@ -102,6 +102,7 @@ module _ {A B : Type 0} (g : Ghosts A) (h : Ghosts B) (sizes : Sizes) (ta ga : A
       home = y.home;
       held = y.held;
       holds = at_alike g h ta tb taken (λ n i. Holds server servers n y.home i y.held) y.holds;
+      own = y.own;
       left = λ image may. (let (c, holds, is) = y.left image (given.leaves.no_more image may) in (c, subst (λ (m : ℕ). Holds server servers m y.home image c) (sym given.size) holds, is));
       read = subst (h.may_leave gb) (sym given.seen) (given.leaves.no_fewer (g.seen ga) y.read);
     })

@@ -51,6 +51,7 @@ module _ {V D : Type 0} (G : VaultGhosts V) (g : Ghosts D) (sizes : Sizes) (serv
         home = o.sizes.home;
         held = was.held;
         holds = was.holds;
+        own = was.own;
         left = λ image may.
             let (c, holds, may_be) = back.whole telling image may in (
               c,

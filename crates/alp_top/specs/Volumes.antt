@@ -239,13 +239,18 @@ pub record ReadsAsBefore {D : Type 0} (g : Ghosts D) (taken given : D) : Type 0 
   pub seen : g.seen given ≡ g.seen taken
   pub crash : NoMore (g.may_leave taken) (g.may_leave given)
 
--- It held a volume of the server. What it reads, and whatever a crash leaves of it, holds the same, or that with the next epoch in its note.
+-- It held a volume of the server, its own. What it reads, and whatever a crash leaves of it, holds the same, or that with the next epoch in its note.
 pub record HoldsOrRaised {D : Type 0} (g : Ghosts D) (server servers : ℕ) (taken given : D) : Type 0 where
   pub home : ℕ
   pub held : Contents
   pub holds : Holds server servers (g.size taken) home (g.seen taken) held
+  pub own : AreOfServer server servers held
   pub left : (image : Image) → g.may_leave given image → (c : Contents) × Holds server servers (g.size given) home image c × IsKeptOrRaised held c
   pub read : g.may_leave given (g.seen given)
+
+-- Where the disk was not new, it reads as before, or holds what it held, or that with the next epoch in its note.
+abbrev pub IsLeftOld : {D : Type 0} → Ghosts D → Sizes → (server servers : ℕ) → D → D → Type 0
+IsLeftOld g sizes server servers taken given = (IsNew sizes (g.size taken) (g.seen taken) → ⊥) → ReadsAsBefore g taken given ⊎ HoldsOrRaised g server servers taken given
 
 -- neither files nor notes
 abbrev pub empty_contents : Contents
@@ -262,27 +267,27 @@ pub record IsNewAgain {D : Type 0} (g : Ghosts D) (sizes : Sizes) (given : D) : 
   pub blank : IsNew sizes (g.size given) (g.seen given)
   pub durable : Only (g.seen given) (g.may_leave given)
 
--- What the disk reads, and whatever a crash leaves of it, is what a stop may leave within the call that makes a new disk a volume.
+-- What the disk reads, and whatever a crash leaves of it, is what a stop may leave within the call that makes a new disk a volume. Of its anchors,
+-- of the first page of its log and of its home pages that says nothing.
 pub record IsHalfMade {D : Type 0} (g : Ghosts D) (sizes : Sizes) (server servers : ℕ) (taken given : D) : Type 0 where
   pub left : (image : Image) → g.may_leave given image → Unmaking server servers (g.size taken) sizes (g.may_leave taken) image
   pub read : g.may_leave given (g.seen given)
 
--- Its server did not start on this disk, or found no room among the others, since memory was wanting. The disk did not fail. One that was not new
--- reads as before, or holds what it held, or that with the next epoch in its note. One that was new is new again, or a volume that holds nothing.
+-- The disk is left as one on which its server did not start, or found no room among the others, since memory was wanting. It did not fail. One
+-- that was new is new again, or a volume that holds nothing.
 pub record IsWanting {D : Type 0} (g : Ghosts D) (sizes : Sizes) (server servers : ℕ) (taken given : D) : Type 0 where
   pub unfailed : g.faults given ≡ g.faults taken
-  pub old : (IsNew sizes (g.size taken) (g.seen taken) → ⊥) → ReadsAsBefore g taken given ⊎ HoldsOrRaised g server servers taken given
+  pub old : IsLeftOld g sizes server servers taken given
   pub new : IsNew sizes (g.size taken) (g.seen taken) → IsNewAgain g sizes given ⊎ HoldsNothing g sizes server servers given
 
--- Its server did not start on this disk, since that failed. One that was not new reads as before, or holds what it held, or that with the next
--- epoch in its note. One that was new is half made, or a volume that holds nothing.
+-- The disk is left as one on which its server did not start, since that failed. One that was new is half made, or a volume that holds nothing.
 pub record IsFailing {D : Type 0} (g : Ghosts D) (sizes : Sizes) (server servers : ℕ) (taken given : D) : Type 0 where
   pub rose : Rose (g.faults taken) (g.faults given)
-  pub old : (IsNew sizes (g.size taken) (g.seen taken) → ⊥) → ReadsAsBefore g taken given ⊎ HoldsOrRaised g server servers taken given
+  pub old : IsLeftOld g sizes server servers taken given
   pub new : IsNew sizes (g.size taken) (g.seen taken) → IsHalfMade g sizes server servers taken given ⊎ HoldsNothing g sizes server servers given
 
--- The disk failed, or it holds no volume of the server, or a damaged one, or one without a further epoch: so the server did not start. Or memory was
--- wanting.
+-- Why a server did not come to the others, and how its disk is left: that failed; or it holds no volume of the server, or a damaged one, or
+-- notes that do not go together, or no further epoch; or memory was wanting.
 abbrev pub WhyNotBegun : {D : Type 0} → Ghosts D → Sizes → (server servers : ℕ) → NoReport → D → D → Type 0
 WhyNotBegun g sizes server servers (fault.Disk s) taken given = (s ≡ server) × IsFailing g sizes server servers taken given
 WhyNotBegun g sizes server servers (fault.NotAVolume s found) taken given =
@@ -308,14 +313,14 @@ pub record IsUnplayed {D : Type 0} (g : Ghosts D) (lines : List NumberedLine) (s
   pub read : g.may_leave given (g.seen given)
   pub unfailed : g.faults given ≡ g.faults taken
 
--- The servers before this one were started, in order, and this one did not come to them: that holds of its disk. No other disk was taken.
+-- The servers before this one were started, in order, and did nothing, and that holds of the disk of this one. No other place changed.
 pub record StopsAt {D : Type 0} (g : Ghosts D) (lines : List NumberedLine) (server : ℕ) (before after : ℕ → Option D) (P : D → D → Type 0) : Type 0 where
   pub among : IsOneOf (servers_said lines) server
   pub returned : AreReturned g lines server before after (λ n taken given. (n ≡ server → P taken given) × ((n ≡ server → ⊥) → IsUnplayed g lines n taken given))
 
 -- A server was started on the disk that was taken, and raised the epoch of its note. There is a journal from what it opened on that is lawful,
 -- each of whose entries has its cause. What the disk that is given back reads, and whatever a crash leaves of it, is what this journal says, or that
--- with the whole of what was tried last. Whether the lines bring about these entries is not said.
+-- with the whole of what was tried last. Whether the lines bring about these entries, and whether a server starts on the disk again, is not said.
 pub record IsLeftWhole {D : Type 0} (g : Ghosts D) (lines : List NumberedLine) (server : ℕ) (taken given : D) : Type 0 where
   pub opening : Start
   pub notes : Notes

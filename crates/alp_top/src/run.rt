@@ -123,8 +123,8 @@ pub fn run_alpine<S: Source, K: Sink, B: Bay>(
     ensures unread { name_named (map string_bytes words.now) ≡ Some (codes "drill") → script.new ≡ script.old }
     // A fault of a stream or of the bay is told just where it came in this call.
     ensures faults { IsReadFaultTold result (S.faults script.old) (S.faults script.new) × IsWriteFaultTold result (K.faults out.old) (K.faults out.new) × IsBayFaultTold result (B.faults bay.old) (B.faults bay.new) }
-    // Why a run ended before its report, and what the disks hold then: the bay or a disk failed in this call, a disk is none of its server's, a
-    // journal was full, an epoch was the last, or memory was wanting.
+    // Why a run ended before its report, and what is said of the disks then: the bay or a disk failed in this call, a disk is none that its
+    // server starts on, a journal was full, an epoch was the last, or memory was wanting.
     ensures disk { IsTold (map string_bytes words.now) (B.tells bay.new) → OnCutShort result (bay.new ≡ bay.old) (HasCause B.Device.Disk (map string_bytes words.now) (S.left script.old) (S.left script.new) (B.at bay.old) (B.at bay.new) (B.faults bay.old) (B.faults bay.new)) }
     // Of any bay, also of one that does not tell what stands in it: what is written is the report of a run of the script, and limits and
     // servers are what they may be. That the disk of the server failed in this call, and that a journal was full, `disk` says.

@@ -110,6 +110,7 @@ returns-in-Err-start-clause-cause g c told =
       home = (anchor_of s).sizes.home;
       held = contents_of G s;
       holds = holds_by _ _ _ _ _ _ _ _ (G.seen d) (contents_of G s) h.named.0 h.named.1 (h.looked told old).size refl (h.mounted told old).holds;
+      own = subst (λ (b : ℕ). StoredOfServer c.args.server b (contents_of G s)) h.named.1 (subst (λ (a : ℕ). StoredOfServer a (anchor_of s).servers (contents_of G s)) h.named.0 (h.mounted told old).own);
       left = λ image may.
           let (x, holds, is) = stays image may in (
             x,
