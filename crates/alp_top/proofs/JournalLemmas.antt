@@ -24,7 +24,7 @@ use Rattle.alp_cluster.specs.declared.server.Server.TheVariants.{Up, Fallen}
 use Rattle.alp_top.specs.Disks.{IsServerRight}
 
 -- There is a journal of a server that opened so: it is lawful, each of its entries has its cause, and what may be left is what it says, or that
--- with the whole of what was tried last.
+-- with the whole of what was tried last, with its last epoch or the next one in its note.
 pub record HasJournal (o : Start) (leaves : Contents → Type 0) : Type 0 where
   pub entries : List Entry
   pub lawful : IsLawful o entries

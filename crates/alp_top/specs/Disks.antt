@@ -203,7 +203,7 @@ IsServerRight G (Some (Up n)) = IsConsistent G n
 IsServerRight G (Some (Fallen d)) = IsFallen G d
 IsServerRight G None = Unit {0}
 
--- that of the server that stands there is given back at its place
+-- that of the server that stands there is given back at its place; and what holds of each server holds of this one
 pub record IsLeftAt {V D : Type 0} (G : VaultGhosts V) (g : Ghosts D) (tells : Bool) (after : ℕ → Option D) (number : ℕ) (s : Station V) (given : D) : Type 0 where
   pub vault : V
   pub its : HasVault s.server vault
@@ -250,7 +250,8 @@ pub record IsStationPut {V : Type 0} (G : VaultGhosts V) (s : Station V) (old ne
   pub stands : s.server ≡ standing node
   pub put : IsRestPut G node s.ranks.items old new
 
--- The server that stands there is at its end: its vault was looked at, or a fault came before, and is given back.
+-- The server that stands there is at its end: its vault was looked at, or a fault came before, and is given back. A crash leaves no more of it than
+-- before.
 pub record IsClosedAt {V D T : Type 0} (G : VaultGhosts V) (g : Ghosts D) (tells : Bool) (servers : ℕ) (after : ℕ → Option D) (r : Result T RunFault) (number : ℕ) (s : Station V) (given : D) : Type 0 where
   pub node : NodeState V
   pub stands : s.server ≡ standing node

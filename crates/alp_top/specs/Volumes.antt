@@ -318,9 +318,11 @@ pub record StopsAt {D : Type 0} (g : Ghosts D) (lines : List NumberedLine) (serv
   pub among : IsOneOf (servers_said lines) server
   pub returned : AreReturned g lines server before after (λ n taken given. (n ≡ server → P taken given) × ((n ≡ server → ⊥) → IsUnplayed g lines n taken given))
 
--- A server was started on the disk that was taken, and raised the epoch of its note. There is a journal from what it opened on that is lawful,
--- each of whose entries has its cause. What the disk that is given back reads, and whatever a crash leaves of it, is what this journal says, or that
--- with the whole of what was tried last. Whether the lines bring about these entries, and whether a server starts on the disk again, is not said.
+-- The disk that is given back has what a server leaves that was started on the one that was taken, in the epoch after that of its note, or in the
+-- first one. There is a journal from what it opened on that is lawful, each of whose entries has its cause. What the disk reads, and whatever a
+-- crash leaves of it, is what this journal says, or that with the whole of what was tried last, with its last epoch or the next one in its note.
+-- Whether the lines bring about these entries, whether the journals of several servers go together, and whether a server starts on the disk
+-- again, is not said.
 pub record IsLeftWhole {D : Type 0} (g : Ghosts D) (lines : List NumberedLine) (server : ℕ) (taken given : D) : Type 0 where
   pub opening : Start
   pub notes : Notes
@@ -361,7 +363,7 @@ IsAtItsEnd g lines server taken given = IsLeftAlone g (sizes_said lines server) 
 -- A disk is none to start on, or its server has no epoch left: the servers before did nothing, and it holds what it held. Where a disk failed, or
 -- memory was wanting, one of some cases stands, and no clause says which. The servers before did nothing, and no further disk was taken, where
 -- memory was wanting; or they did nothing, and of the last disk that was taken it is said what a start that did not come to its end left; or all
--- disks are given back, and each is what a lawful journal of its server says. A full journal, and an epoch that is the last one of a
+-- disks are given back, and each holds what a lawful journal of its server leaves (`IsLeftWhole`). A full journal, and an epoch that is the last one of a
 -- server in the run, come when all were started, and each disk comes back as its server's journal says. A server that starts again in the run
 -- finds its own notes good, in whatever it was stopped.
 abbrev pub HasRunCause : {D : Type 0} → Ghosts D → List NumberedLine → (before after : ℕ → Option D) → (bay_before bay_after : ℕ) → NoReport → Type 0

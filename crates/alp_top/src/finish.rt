@@ -128,7 +128,7 @@ pub fn end_node<V: Vault>(
     }
 }
 
-/// The vault of a server, up or not.
+/// The vault of a server, up or not, of which holds what holds of each server.
 pub fn vault_of<V: Vault>(station: Station<V>) -> V
     requires stands { (v : V) × HasVault station.server v }
     ensures vault { HasVault station.server result }
