@@ -70,9 +70,9 @@ fn list_of_ann(alloc: Global) -> Result<AccessList, OutOfMemory> {
 
 // Whether a name and a list are laid at their places, and nothing beside them.
 fn are_laid(page: &[u8; 512]) -> bool {
-    page[9..15] == *b"\xff\x03ann\x00".as_slice()
-        && page[34..36] == *b"\x00\xff".as_slice()
-        && page[86..93] == *b"\x01\x03ann\x00\x00".as_slice()
+    &page[9..15] == b"\xff\x03ann\x00".as_slice()
+        && &page[34..36] == b"\x00\xff".as_slice()
+        && &page[86..93] == b"\x01\x03ann\x00\x00".as_slice()
 }
 
 // Whether the list is read from its place.

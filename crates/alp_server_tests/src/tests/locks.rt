@@ -87,11 +87,11 @@ fn rising_count(alloc: Global, table: &LockTable, by: u32) -> Result<usize, OutO
 
 const WHOLE: Resource = Resource::Whole(FILE);
 
-const READ: &[(Resource, Mode)] = &[(WHOLE, Mode::Read)];
+const READ: [(Resource, Mode); 1] = [(WHOLE, Mode::Read)];
 
-const WRITE: &[(Resource, Mode)] = &[(WHOLE, Mode::Write)];
+const WRITE: [(Resource, Mode); 1] = [(WHOLE, Mode::Write)];
 
-const WRITE_OTHER: &[(Resource, Mode)] = &[(Resource::Whole(OTHER), Mode::Write)];
+const WRITE_OTHER: [(Resource, Mode); 1] = [(Resource::Whole(OTHER), Mode::Write)];
 
 const GRANTED: Result<Option<Grant>, OutOfMemory> = Ok(Some(Grant::Granted));
 
@@ -99,10 +99,10 @@ const QUEUED: Result<Option<Grant>, OutOfMemory> = Ok(Some(Grant::Queued));
 
 // Whether two read, and then one that came in between and the second of them wait to write.
 fn are_queued(alloc: Global, table: &mut LockTable) -> bool {
-    ask(alloc, table, 1, READ, Choice::Fail) == GRANTED
-        && ask(alloc, table, 2, READ, Choice::Fail) == GRANTED
-        && ask(alloc, table, 3, WRITE, Choice::Wait) == QUEUED
-        && ask(alloc, table, 2, WRITE, Choice::Wait) == QUEUED
+    ask(alloc, table, 1, &READ, Choice::Fail) == GRANTED
+        && ask(alloc, table, 2, &READ, Choice::Fail) == GRANTED
+        && ask(alloc, table, 3, &WRITE, Choice::Wait) == QUEUED
+        && ask(alloc, table, 2, &WRITE, Choice::Wait) == QUEUED
 }
 
 fn is_woken(table: &mut LockTable, by: u32) -> bool {
@@ -129,10 +129,10 @@ fn conversions_come_before_arrivals(rt: HostRuntime) {
 }
 
 fn wait_for_each_other(alloc: Global, table: &mut LockTable) -> bool {
-    ask(alloc, table, 1, WRITE, Choice::Wait) == GRANTED
-        && ask(alloc, table, 2, WRITE_OTHER, Choice::Wait) == GRANTED
-        && ask(alloc, table, 1, WRITE_OTHER, Choice::Wait) == QUEUED
-        && ask(alloc, table, 2, WRITE, Choice::Wait) == QUEUED
+    ask(alloc, table, 1, &WRITE, Choice::Wait) == GRANTED
+        && ask(alloc, table, 2, &WRITE_OTHER, Choice::Wait) == GRANTED
+        && ask(alloc, table, 1, &WRITE_OTHER, Choice::Wait) == QUEUED
+        && ask(alloc, table, 2, &WRITE, Choice::Wait) == QUEUED
 }
 
 // Whether neither goes on where a third lets go, and the second does where the first lets go.
@@ -201,18 +201,18 @@ fn plan_and_take(
 
 // Whether two plans to read are taken, and one to write is not.
 fn are_taken(alloc: Global, table: &mut LockTable) -> bool {
-    plan_and_take(alloc, table, 1, READ) == Ok(None)
-        && plan_and_take(alloc, table, 2, READ) == Ok(None)
-        && plan_and_take(alloc, table, 2, WRITE) == Ok(Some(trans(1)))
+    plan_and_take(alloc, table, 1, &READ) == Ok(None)
+        && plan_and_take(alloc, table, 2, &READ) == Ok(None)
+        && plan_and_take(alloc, table, 2, &WRITE) == Ok(Some(trans(1)))
         && table.mode_of(trans(2), &WHOLE) == Some(Mode::Read)
 }
 
 // Whether it is taken once the other reader is gone, who finds it in its way then.
 fn is_taken_alone(alloc: Global, table: &mut LockTable) -> bool {
     table.release_all(trans(1));
-    plan_and_take(alloc, table, 2, WRITE) == Ok(None)
+    plan_and_take(alloc, table, 2, &WRITE) == Ok(None)
         && table.mode_of(trans(2), &WHOLE) == Some(Mode::Write)
-        && plan_and_take(alloc, table, 1, READ) == Ok(Some(trans(2)))
+        && plan_and_take(alloc, table, 1, &READ) == Ok(Some(trans(2)))
         && table.mode_of(trans(1), &WHOLE).is_none()
 }
 
@@ -240,23 +240,23 @@ fn regain(
 
 const LEAF: Resource = Resource::Leaf(Key::PageOf(FILE, 3));
 
-const READ_LEAF: &[(Resource, Mode)] = &[(WHOLE, Mode::IntendRead), (LEAF, Mode::Read)];
+const READ_LEAF: [(Resource, Mode); 2] = [(WHOLE, Mode::IntendRead), (LEAF, Mode::Read)];
 
-const WRITE_LEAF: &[(Resource, Mode)] = &[(LEAF, Mode::Write), (WHOLE, Mode::IntendWrite)];
+const WRITE_LEAF: [(Resource, Mode); 2] = [(LEAF, Mode::Write), (WHOLE, Mode::IntendWrite)];
 
-const INTEND: &[(Resource, Mode)] = &[(WHOLE, Mode::IntendWrite)];
+const INTEND: [(Resource, Mode); 1] = [(WHOLE, Mode::IntendWrite)];
 
 // Whether a reader regains its locks, and a writer of the same leaf does not.
 fn are_regained(alloc: Global, table: &mut LockTable) -> bool {
-    regain(alloc, table, 1, READ_LEAF) == Ok(None)
+    regain(alloc, table, 1, &READ_LEAF) == Ok(None)
         && table.mode_of(trans(1), &LEAF) == Some(Mode::Read)
-        && regain(alloc, table, 2, WRITE_LEAF) == Ok(Some(trans(1)))
+        && regain(alloc, table, 2, &WRITE_LEAF) == Ok(Some(trans(1)))
         && table.mode_of(trans(2), &WHOLE).is_none()
 }
 
 // Whether others do that agree with the reader, or have no locks.
 fn are_others_regained(alloc: Global, table: &mut LockTable) -> bool {
-    regain(alloc, table, 3, INTEND) == Ok(None)
+    regain(alloc, table, 3, &INTEND) == Ok(None)
         && table.mode_of(trans(3), &WHOLE) == Some(Mode::IntendWrite)
         && regain(alloc, table, 4, &[]) == Ok(None)
 }
@@ -264,7 +264,7 @@ fn are_others_regained(alloc: Global, table: &mut LockTable) -> bool {
 // Whether the writer does once the reader is gone.
 fn is_writer_regained(alloc: Global, table: &mut LockTable) -> bool {
     table.release_all(trans(1));
-    regain(alloc, table, 2, WRITE_LEAF) == Ok(None)
+    regain(alloc, table, 2, &WRITE_LEAF) == Ok(None)
         && table.mode_of(trans(2), &LEAF) == Some(Mode::Write)
 }
 
