@@ -78,8 +78,8 @@ fn commit<R: Runtime + Files<File = File>>(
     serve(rt, &mut caller, commits)
 }
 
-fn run<R: Runtime + Files<File = File>>(rt: &R, alloc: Global) -> Result<(), Failed> {
-    let mut words = Vec::new(alloc);
+fn run(rt: &HostRuntime) -> Result<(), Failed> {
+    let mut words = Vec::new(rt.alloc());
     for word in env::args(rt)?.skip(1) {
         words.push(word)?;
     }
@@ -89,11 +89,11 @@ fn run<R: Runtime + Files<File = File>>(rt: &R, alloc: Global) -> Result<(), Fai
     let Some(commits) = read_count(count.as_str()) else {
         return Err(Failed::Words);
     };
-    commit(rt, alloc, folder.as_str(), commits)
+    commit(rt, rt.alloc(), folder.as_str(), commits)
 }
 
 fn main(rt: HostRuntime) -> ExitCode {
-    match run(&rt, rt.alloc()) {
+    match run(&rt) {
         Ok(()) => ExitCode::SUCCESS,
         Err(Failed::Words) => {
             let _ = eprint!(rt; "{USAGE}");
