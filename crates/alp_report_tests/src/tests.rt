@@ -102,29 +102,35 @@ fn prints(alloc: Global, reply: Reply, text: &str) -> Result<bool, Fail> {
     is_line(alloc, line.as_slice(), text)
 }
 
-fn replies_are_printed(alloc: Global) -> Result<bool, Fail> {
+// So where the memory is there.
+fn is_printed(alloc: Global, reply: Reply, text: &str) -> bool {
+    match prints(alloc, reply, text) {
+        Ok(same) => same,
+        Err(_fault) => false,
+    }
+}
+
+fn replies_are_printed(alloc: Global) -> bool {
     let created = Reply::Created {
         file: FILE,
         open_no: 1,
     };
-    Ok(
-        prints(alloc, Reply::Welcome { epoch: 9 }, "ok")?
-            && prints(alloc, Reply::Joined, "ok")?
-            && prints(alloc, Reply::Plain, "ok")?
-            && prints(alloc, Reply::Begun { trans: TRANS }, "ok trans 1.2.34")?
-            && prints(alloc, created, "ok file 1.2.3 open 1")?
-            && prints(alloc, Reply::Opened { open_no: 12 }, "ok open 12")?
-            && prints(
-                alloc,
-                Reply::Committed { stamp: STAMP },
-                "ok stamp 567 1.2.34",
-            )?,
-    )
+    is_printed(alloc, Reply::Welcome { epoch: 9 }, "ok")
+        && is_printed(alloc, Reply::Joined, "ok")
+        && is_printed(alloc, Reply::Plain, "ok")
+        && is_printed(alloc, Reply::Begun { trans: TRANS }, "ok trans 1.2.34")
+        && is_printed(alloc, created, "ok file 1.2.3 open 1")
+        && is_printed(alloc, Reply::Opened { open_no: 12 }, "ok open 12")
+        && is_printed(
+            alloc,
+            Reply::Committed { stamp: STAMP },
+            "ok stamp 567 1.2.34",
+        )
 }
 
 #[test]
 fn replies(rt: HostRuntime) -> Result<(), Fail> {
-    assert!(rt; replies_are_printed(rt.alloc())?);
+    assert!(rt; replies_are_printed(rt.alloc()));
     Ok(())
 }
 

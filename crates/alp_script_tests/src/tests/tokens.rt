@@ -3,17 +3,14 @@ use alp_tokens::*;
 use std::alloc::Global;
 use std::test::Fail;
 
-fn small_numbers_fit() -> bool {
+fn numbers_fit() -> bool {
     byte(b"255") == Ok(255u8)
         && byte(b"256") == Err(LineFault::Outside)
         && word16(b"65535") == Ok(65535u16)
         && word16(b"65536") == Err(LineFault::Outside)
         && word32(b"4294967295") == Ok(4294967295u32)
         && word32(b"4294967296") == Err(LineFault::Outside)
-}
-
-fn large_numbers_fit() -> bool {
-    word64(b"18446744073709551615") == Ok(18446744073709551615u64)
+        && word64(b"18446744073709551615") == Ok(18446744073709551615u64)
         && word64(b"18446744073709551616") == Err(LineFault::Outside)
         && word64(b"00") == Err(LineFault::Outside)
         && within(b"1000", 1, 1000) == Ok(1000u32)
@@ -22,7 +19,7 @@ fn large_numbers_fit() -> bool {
 
 #[test]
 fn numbers_fit_their_bits(rt: HostRuntime) -> Result<(), Fail> {
-    assert!(rt; small_numbers_fit() && large_numbers_fit());
+    assert!(rt; numbers_fit());
     Ok(())
 }
 

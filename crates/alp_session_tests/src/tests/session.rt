@@ -91,7 +91,7 @@ struct Sent {
     asked: Asked,
 }
 
-const fn sent(to: u8, epoch: u32, number: u32, asked: Asked) -> Sent {
+const fn describe(to: u8, epoch: u32, number: u32, asked: Asked) -> Sent {
     Sent {
         to,
         epoch,
@@ -102,7 +102,7 @@ const fn sent(to: u8, epoch: u32, number: u32, asked: Asked) -> Sent {
 
 fn read_frame(alloc: Global, frame: &Addressed) -> Result<Sent, Fail> {
     let request = decode_request(alloc, frame.bytes.as_slice())?.ok_or("a request")?;
-    Ok(sent(
+    Ok(describe(
         frame.server,
         request.epoch,
         request.number,
@@ -235,7 +235,7 @@ fn sends_nothing_again(alloc: Global) -> Result<bool, Fail> {
 
 fn sends_the_last_two(alloc: Global, desk: &Desk) -> Result<bool, Fail> {
     Ok(
-        desk.sends(alloc, &REPEAT, sent(1, 1, 2, Asked::Begin))?
+        desk.sends(alloc, &REPEAT, describe(1, 1, 2, Asked::Begin))?
             && desk.sends_bytes(alloc, &REPEAT, BEGINNING)?
             && desk.sends_bytes(alloc, &OLD, HELLO)?,
     )
@@ -291,11 +291,11 @@ fn greets_and_joins(alloc: Global, desk: &mut Desk, line: &Line) -> Result<bool,
 {
     let (call, welcome) = (Next::Call, Reply::Welcome { epoch: 4 });
     Ok(
-        desk.sends(alloc, line, sent(2, 0, 1, Asked::Hello))?
+        desk.sends(alloc, line, describe(2, 0, 1, Asked::Hello))?
             && desk.goes(alloc, line, call, welcome, call)?
-            && desk.sends(alloc, line, sent(2, 4, 2, Asked::Join(TRANS)))?
+            && desk.sends(alloc, line, describe(2, 4, 2, Asked::Join(TRANS)))?
             && desk.goes(alloc, line, call, Reply::Joined, call)?
-            && desk.sends(alloc, line, sent(2, 4, 3, Asked::ReadOwner))?
+            && desk.sends(alloc, line, describe(2, 4, 3, Asked::ReadOwner))?
             && desk.goes(alloc, line, call, Reply::Plain, Next::Over)?,
     )
 }
@@ -307,7 +307,7 @@ fn joins_the_next(alloc: Global, desk: &mut Desk, line: &Line) -> Result<bool, F
     desk.client.begins(&BEGIN);
     let begun = Reply::Begun { trans: OTHER };
     desk.goes(alloc, &BEGIN, Next::Call, begun, Next::Over)?;
-    desk.sends(alloc, line, sent(2, 4, 4, Asked::Join(OTHER)))
+    desk.sends(alloc, line, describe(2, 4, 4, Asked::Join(OTHER)))
 }
 
 // It ends the transaction where that began.
@@ -315,7 +315,7 @@ fn joins_there(alloc: Global) -> Result<bool, Fail> {
     let (mut desk, line) = (begun(alloc)?, owner_there()?);
     Ok(
         greets_and_joins(alloc, &mut desk, &line)?
-            && desk.sends(alloc, &COMMIT, sent(1, 1, 3, Asked::Commit))?
+            && desk.sends(alloc, &COMMIT, describe(1, 1, 3, Asked::Commit))?
             && joins_the_next(alloc, &mut desk, &line)?,
     )
 }
@@ -344,10 +344,10 @@ fn waits_and_goes_on(alloc: Global, desk: &mut Desk, line: &Line) -> Result<bool
     let (call, collect) = (Next::Call, Next::Collect);
     Ok(
         desk.goes(alloc, line, call, NOT_YET, collect)?
-            && desk.sends(alloc, &COLLECT, sent(2, 4, 3, Asked::Collect(2)))?
+            && desk.sends(alloc, &COLLECT, describe(2, 4, 3, Asked::Collect(2)))?
             && desk.goes(alloc, line, collect, Reply::Joined, call)?
             && desk.client.waiting.first().is_none()
-            && desk.sends(alloc, line, sent(2, 4, 4, Asked::ReadOwner))?,
+            && desk.sends(alloc, line, describe(2, 4, 4, Asked::ReadOwner))?,
     )
 }
 
@@ -373,9 +373,9 @@ fn greets_again(alloc: Global, desk: &mut Desk, line: &Line) -> Result<bool, Fai
     desk.goes(alloc, line, call, Reply::Joined, call)?;
     desk.goes(alloc, line, call, stale, call)?;
     Ok(
-        desk.sends(alloc, line, sent(2, 0, 1, Asked::Hello))?
+        desk.sends(alloc, line, describe(2, 0, 1, Asked::Hello))?
             && desk.goes(alloc, line, call, welcome, call)?
-            && desk.sends(alloc, line, sent(2, 5, 2, Asked::Join(TRANS)))?,
+            && desk.sends(alloc, line, describe(2, 5, 2, Asked::Join(TRANS)))?,
     )
 }
 
@@ -387,7 +387,7 @@ fn keeps_its_transaction(alloc: Global, desk: &mut Desk, line: &Line) -> Result<
     Ok(
         desk.goes(alloc, line, Next::Call, gone, Next::Over)?
             && desk.client.trans == Some(TRANS)
-            && desk.sends(alloc, &COMMIT, sent(1, 1, 3, Asked::Commit))?,
+            && desk.sends(alloc, &COMMIT, describe(1, 1, 3, Asked::Commit))?,
     )
 }
 
