@@ -34,7 +34,10 @@ impl<D: Disk> Restarts for Store<D> {
         alloc: Global,
         servers: u8,
         sizes: Sizes,
-    ) -> Result<Serving<Store<D>>, VaultFault> {
+    ) -> Result<Serving<Store<D>>, VaultFault>
+        requires server { IsServer 1 servers }
+        requires sizes { AreSizes sizes }
+    {
         match Store::start(alloc, disk.into_disk(), 1, servers, sizes) {
             Ok(store) => Ok(Serving::of(store)),
             Err((_disk, fault)) => Err(fault),

@@ -1,6 +1,6 @@
 //! What goes wrong in a test before it asserts anything.
 use alp_base::OutOfMemory;
-use std::alloc::AllocError;
+use std::alloc::{AllocError, AllocFailed};
 
 #[derive(Clone, Copy, Debug, PartialEq, Eq)]
 pub(super) enum Wrong {
@@ -15,6 +15,12 @@ pub(super) enum Wrong {
 
 impl From<OutOfMemory> for Wrong {
     fn from(_refused: OutOfMemory) -> Wrong {
+        Wrong::Memory
+    }
+}
+
+impl<T: Drop> From<AllocFailed<T>> for Wrong {
+    fn from(_refused: AllocFailed<T>) -> Wrong {
         Wrong::Memory
     }
 }
