@@ -1,11 +1,11 @@
 #!/usr/bin/env bash
 # Measures what the static library alp_bench does, beside plain copies: bench/measure.sh COMMAND, with the commands that
-# bench/measure.c names. It builds that program with the library, which the gate leaves, and so does `rt lib` in crates/alp_bench.
-# ALP_BENCH names another library than that.
+# bench/measure.c names. It builds that program with the library, which `rt lib` in crates/alp_bench makes: the gate proves it, and leaves
+# no library. ALP_BENCH names another library than that.
 set -eu
 cd "$(dirname "$(realpath "$0")")/.."
 library=${ALP_BENCH:-crates/alp_bench/out/libalp_bench.a}
-[ -r "$library" ] || { echo "build the library first: rt lib in crates/alp_bench, or the gate" >&2; exit 1; }
+[ -r "$library" ] || { echo "build the library first: rt lib in crates/alp_bench" >&2; exit 1; }
 kit=$(dirname "$(rt doc)")
 work=$(mktemp -d)
 trap 'rm -rf "$work"' EXIT

@@ -3,7 +3,8 @@ ghost use Rattle.std.specs.Prelude.{◌≡◌, IfOk, length};
 ghost use Rattle.alp_rpc.specs.Frames.{IsSendable};
 
 use crate::moment::{START, mark};
-use alp_base::{Choice, OutOfMemory, Page, PageList, PageRef, Run, TransId};
+use crate::pages::page_of;
+use alp_base::{Choice, OutOfMemory, PageList, Run, TransId};
 use alp_files::Call;
 use alp_rpc::{Request, decode_request, encode_request};
 use std::alloc::Global;
@@ -20,7 +21,8 @@ fn some_pages(alloc: Global) -> Result<PageList, OutOfMemory>
 {
     let mut pages = Vec::new(alloc);
     for number in 0..PAGES {
-        pages.push(PageRef::new(alloc, Page::new([number; 512]))?)?;
+        let page = page_of(alloc, number)?;
+        pages.push(page)?;
     }
     Ok(PageList::new(pages))
 }

@@ -2,6 +2,12 @@
 //! rounds, and answers a count. It has no clock: it marks the moments at which its caller is to take the time.
 #![tactic(auto)]
 
+mod buffers;
+mod desk;
 mod frames;
 mod locks;
+mod log;
 mod moment;
+mod pages;
+mod volume;
+mod waiting;

@@ -7,7 +7,8 @@ ghost use Rattle.alp_wal.specs.State.{IsBelow};
 ghost use Rattle.alp_wal.specs.Wal.{disk_of, anchor_of, IsLog};
 
 use crate::moment::{START, mark};
-use alp_base::{OutOfMemory, Page, PageRef, Sizes};
+use crate::pages::page_of;
+use alp_base::{OutOfMemory, Sizes};
 use alp_batch::{Batch, Images, NoteChanges, PageImage};
 use alp_disk::{Disk, MemDisk};
 use alp_format::format;
@@ -51,7 +52,7 @@ fn some_images(alloc: Global) -> Result<Vec<PageImage>, OutOfMemory>
 {
     let mut images = Vec::new(alloc);
     for at in 0..IMAGES {
-        let page = PageRef::new(alloc, Page::new([at as u8; 512]))?;
+        let page = page_of(alloc, at as u8)?;
         images.push(PageImage { at, page })?;
     }
     Ok(images)

@@ -10,6 +10,7 @@ ghost use Rattle.alp_vault.specs.Volumes.{fit_keys, fits_key};
 ghost use Rattle.alp_volume.specs.Known.{IsCatalog};
 
 use crate::moment::{START, mark};
+use crate::pages::page_of;
 use alp_base::{
     AccessList, Cell, Change, FileId, Key, Name, OutOfMemory, OwnerRecord, PAGES_PER_FILE, Page,
     PageRef, Props, Sequence, VaultFault,
@@ -80,13 +81,23 @@ impl PageReader for MemPages {
 fn new_volume(alloc: Global, home: u32) -> Result<MemPages, OutOfMemory>
     ensures { IfOk result (λ pages. pages.home ≡ home) }
 {
-    let mut pages = Vec::new(alloc);
-    pages.push(PageRef::new(alloc, new_header())?)?;
     let zero = PageRef::new(alloc, Page::zero())?;
-    for _ in 1..home {
-        pages.push(zero.share()?)?;
+    let mut pages = MemPages {
+        pages: Vec::from_elem(alloc, zero, home as usize)?,
+        home,
+    };
+    let header = PageRef::new(alloc, new_header())?;
+    put(&mut pages, 0, header);
+    Ok(pages)
+}
+
+// Puts a page in its place.
+fn put(pages: &mut MemPages, at: u32, page: PageRef)
+    ensures { pages.new.home ≡ pages.old.home }
+{
+    if let Some(place) = pages.pages.get_mut(at as usize) {
+        *place = page;
     }
-    Ok(MemPages { pages, home })
 }
 
 fn file_of(number: u32) -> FileId {
@@ -99,9 +110,12 @@ fn file_of(number: u32) -> FileId {
 
 // The name of one of 256 owners, two letters.
 fn owner_name(owner: u32) -> Name {
-    let first = (owner / 16 % 16) as u8;
-    let second = (owner % 16) as u8;
-    Name::parse(&[b'a' + first, b'a' + second]).unwrap_or(Name::spelled(b"none"))
+    let first = b'a' + (owner / 16 % 16) as u8;
+    let second = b'a' + (owner % 16) as u8;
+    match Name::parse(&[first, second]) {
+        Some(name) => name,
+        None => Name::spelled(b"none"),
+    }
 }
 
 fn owner_of(alloc: Global, name: Name, charge: u32) -> Cell {
@@ -150,9 +164,7 @@ fn apply(pages: &mut MemPages, images: &[(u32, PageRef)]) -> Result<(), OutOfMem
 {
     for image in images {
         let page = image.1.share()?;
-        if let Some(place) = pages.pages.get_mut(image.0 as usize) {
-            *place = page;
-        }
+        put(pages, image.0, page);
     }
     Ok(())
 }
@@ -199,7 +211,7 @@ fn put_page(
     ensures home { pages.new.home ≡ pages.old.home }
     ensures sized { IsCatalog pages.old.home catalog.new }
 {
-    let page = PageRef::new(alloc, Page::new([byte; 512]))?;
+    let page = page_of(alloc, byte)?;
     let mut puts = Vec::new(alloc);
     puts.push((Key::PageOf(file_of(file), 0), Cell::Page(page)))?;
     make_change(alloc, pages, catalog, puts)

@@ -9,7 +9,7 @@ use Rattle.alp_bench.proofs.Batches.{below-more}
 use Rattle.alp_bench.proofs.log.commit.Goals as goal
 
 pub commit-requires-clause-suits : goal.commit-requires-clause-suits
-commit-requires-clause-suits g c =
+commit-requires-clause-suits c =
     let log = c.args.log.now in
     let live : length c.note_names.result.now ≡ map.len (notes_of log) = ap length c.note_names.ensures ∙ length-names (map.entries (notes_of log)) ∙ sym (len-entries (notes_of log)) in
     let few : map.len (notes_of log) ≤ 65535 = omega (arith, live, c.if-note_names-gt-MOST_NOTES.false) in
