@@ -1,5 +1,5 @@
 #!/usr/bin/env bash
-# Kills a server for real: bench/kill.sh FOLDER ROUNDS. In each round `alpine_bench acknowledge` commits to the volume in
+# Kills a server for real: bench/kill.sh FOLDER ROUNDS. In each round the program `alp_stamps` commits to the volume in
 # FOLDER, and is killed by SIGKILL at a random moment after its first acknowledged commit. Then `alpine play --folder FOLDER`
 # mounts the volume and reads what the commits wrote: the last 32 of the commits whose lines came out are to be there, whole, and
 # at most the one behind them besides; of none there is a half. Their stamps are to rise, and the clock not to be behind the last.
@@ -11,15 +11,15 @@
 #
 # It shows that none of these is lost, and nothing half done is left, where the process dies at any moment of a commit or a
 # checkpoint. It cannot show what a power cut leaves: the host's cache outlives a killed process, so a sync that is missing is
-# not seen here. ALPINE_BENCH and ALPINE name other programs than those that the gate left.
+# not seen here. ALP_STAMPS and ALPINE name other programs than those that the gate left.
 set -eu
 [ $# -eq 2 ] && [ -d "$1" ] && [[ $2 =~ ^[1-9][0-9]{0,2}$ ]] && [ "$2" -le 200 ] || { echo "usage: bench/kill.sh FOLDER ROUNDS, a folder that is there, and 1 to 200 rounds" >&2; exit 1; }
 folder=$(realpath "$1")
 rounds=$2
 cd "$(dirname "$(realpath "$0")")/.."
-bench=${ALPINE_BENCH:-crates/alpine_bench/out/alpine_bench}
+stamps=${ALP_STAMPS:-crates/alp_stamps/out/alp_stamps}
 alpine=${ALPINE:-crates/alpine/out/alpine}
-[ -x "$bench" ] && [ -x "$alpine" ] || { echo "build the programs first: rt run in crates/alpine_bench and ./play --prove, or the gate" >&2; exit 1; }
+[ -x "$stamps" ] && [ -x "$alpine" ] || { echo "build the programs first: rt run in crates/alp_stamps and ./play --prove, or the gate" >&2; exit 1; }
 slots=32
 work=$(mktemp -d)
 running=
@@ -35,7 +35,7 @@ lost() { # WHAT
 run_killed() {
     local file=$work/told-$round waited=0
     : > "$file.all"
-    "$bench" acknowledge "$folder" 10000 >> "$file.all" 2> "$work/said" &
+    "$stamps" "$folder" 10000 >> "$file.all" 2> "$work/said" &
     running=$!
     until grep -q '^commit ' "$file.all"; do
         kill -0 "$running" 2> /dev/null || lost "the program ended by itself: $(cat "$work/said")"

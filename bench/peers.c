@@ -5,7 +5,7 @@
  *
  * Prints a line for each program that it was built with (-DWITH_SQLITE, -DWITH_LMDB, -DWITH_BERKELEY): transactions a second,
  * and what that is of appends of as many bytes, each with an fdatasync, to a file that is as long before as after.
- * bench/durable.sh builds it. */
+ * bench/durable.sh builds it, and bench/commits.sh without other programs. */
 #define _GNU_SOURCE
 #include <errno.h>
 #include <fcntl.h>
@@ -37,7 +37,7 @@ struct plan {
 
 static unsigned seed = 12345;
 
-/* The same pages as alpine_bench writes. */
+/* The same pages as the script writes that bench/folder.sh makes. */
 static unsigned random_page(void) {
     seed = seed * 1664525u + 1013904223u;
     return (seed >> 8) % FILE_PAGES;

@@ -3,7 +3,7 @@
 # 500 and 1,000 lines, with the built program, and prints the nanoseconds a line of each: the best of fifteen rounds, less
 # the time of a script of one line, which is the start of the program.
 cd "$(dirname "$0")/.." || exit 1
-program=crates/alpine/out/alpine
+program=${ALPINE:-crates/alpine/out/alpine}
 [ -x "$program" ] || { echo "build the program first: ./play --prove" >&2; exit 1; }
 folder=$(mktemp -d)
 trap 'rm -rf "$folder"' EXIT

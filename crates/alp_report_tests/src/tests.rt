@@ -90,85 +90,123 @@ fn line_of(alloc: Global, reply: Reply) -> Result<Vec<u8>, OutOfMemory> {
     Ok(text)
 }
 
+// Whether the line is this text behind the number of the call's line.
+fn is_line(alloc: Global, line: &[u8], text: &str) -> Result<bool, Fail> {
+    let wanted = format!(in alloc; "3 {text}\n")?;
+    Ok(line == wanted.as_bytes())
+}
+
 // Whether the reply is printed so, behind the number of its line.
-fn prints(alloc: Global, reply: Reply, want: &str) -> Result<bool, Fail> {
+fn prints(alloc: Global, reply: Reply, text: &str) -> Result<bool, Fail> {
     let line = line_of(alloc, reply)?;
-    let want = format!(in alloc; "3 {want}\n")?;
-    Ok(line.as_slice() == want.as_bytes())
+    is_line(alloc, line.as_slice(), text)
+}
+
+fn replies_are_printed(alloc: Global) -> Result<bool, Fail> {
+    let created = Reply::Created {
+        file: FILE,
+        open_no: 1,
+    };
+    Ok(
+        prints(alloc, Reply::Welcome { epoch: 9 }, "ok")?
+            && prints(alloc, Reply::Joined, "ok")?
+            && prints(alloc, Reply::Plain, "ok")?
+            && prints(alloc, Reply::Begun { trans: TRANS }, "ok trans 1.2.34")?
+            && prints(alloc, created, "ok file 1.2.3 open 1")?
+            && prints(alloc, Reply::Opened { open_no: 12 }, "ok open 12")?
+            && prints(
+                alloc,
+                Reply::Committed { stamp: STAMP },
+                "ok stamp 567 1.2.34",
+            )?,
+    )
 }
 
 #[test]
 fn replies(rt: HostRuntime) -> Result<(), Fail> {
-    let alloc = rt.alloc();
-    assert!(rt; prints(alloc, Reply::Welcome { epoch: 9 }, "ok")?);
-    assert!(rt; prints(alloc, Reply::Joined, "ok")?);
-    assert!(rt; prints(alloc, Reply::Plain, "ok")?);
-    assert!(rt; prints(alloc, Reply::Begun { trans: TRANS }, "ok trans 1.2.34")?);
-    assert!(rt;
-        prints(
-            alloc,
-            Reply::Created {
-                file: FILE,
-                open_no: 1
-            },
-            "ok file 1.2.3 open 1"
-        )?
-    );
-    assert!(rt; prints(alloc, Reply::Opened { open_no: 12 }, "ok open 12")?);
-    assert!(rt;
-        prints(
-            alloc,
-            Reply::Committed { stamp: STAMP },
-            "ok stamp 567 1.2.34"
-        )?
-    );
+    assert!(rt; replies_are_printed(rt.alloc())?);
     Ok(())
 }
 
+static ENDS: [(Ended, &str); 4] = [
+    (Ended::Running, "ok running"),
+    (Ended::Committed { stamp: STAMP }, "ok committed 567 1.2.34"),
+    (Ended::Aborted, "ok aborted"),
+    (Ended::Unknown, "ok unknown"),
+];
+
 #[test]
 fn outcomes(rt: HostRuntime) -> Result<(), Fail> {
-    let alloc = rt.alloc();
-    for (ended, want) in [
-        (Ended::Running, "ok running"),
-        (Ended::Committed { stamp: STAMP }, "ok committed 567 1.2.34"),
-        (Ended::Aborted, "ok aborted"),
-        (Ended::Unknown, "ok unknown"),
-    ] {
-        assert!(rt; prints(alloc, Reply::Ended(ended), want)?, "{want}");
+    for (ended, text) in ENDS {
+        assert!(rt; prints(rt.alloc(), Reply::Ended(ended), text)?, "{text}");
     }
     Ok(())
 }
 
-#[test]
-fn properties_and_owners(rt: HostRuntime) -> Result<(), Fail> {
-    let alloc = rt.alloc();
+fn properties_are_printed(alloc: Global) -> Result<bool, Fail> {
     let file = Reply::Props(HeldProps::new(alloc, props(alloc)?)?);
-    let want =
-        "ok props owner ann name a.txt type 7 time 18446744073709551615 bytes 1000 size 4 high 2 read ann,World modify -";
-    assert!(rt; prints(alloc, file, want)?);
-    let of_files = Reply::Owner(owner(alloc)?);
-    assert!(rt; prints(alloc, of_files, "ok owner ann charge 4 quota 10 create ann")?);
-    Ok(())
+    prints(
+        alloc,
+        file,
+        "ok props owner ann name a.txt type 7 time 18446744073709551615 bytes 1000 size 4 high 2 read ann,World modify -",
+    )
+}
+
+fn owners_are_printed(alloc: Global) -> Result<bool, Fail> {
+    prints(
+        alloc,
+        Reply::Owner(owner(alloc)?),
+        "ok owner ann charge 4 quota 10 create ann",
+    )
 }
 
 #[test]
-fn pages(rt: HostRuntime) -> Result<(), Fail> {
-    let alloc = rt.alloc();
+fn properties_and_owners(rt: HostRuntime) -> Result<(), Fail> {
+    assert!(rt; properties_are_printed(rt.alloc())? && owners_are_printed(rt.alloc())?);
+    Ok(())
+}
+
+// Pages of zeros, of texts, and one of which each byte is 255.
+fn some_pages(alloc: Global) -> Result<PageList, Fail> {
     let mut pages = Vec::new(alloc);
     pages.push(PageRef::new(alloc, Page::zero())?)?;
     for text in ["-", "--", "hello", "50% of\0a~!\x1f\x7f"] {
         pages.push(PageRef::new(alloc, Page::beginning(text.as_bytes()))?)?;
     }
     pages.push(PageRef::new(alloc, Page::new([255; 512]))?)?;
-    let mut want = vec![in alloc]?;
-    want.extend_from_slice(b"3 ok - %2d -- hello 50%25%20of%00a~!%1f%7f ")?;
-    for _ in 0..512 {
-        want.extend_from_slice(b"%ff")?;
+    Ok(PageList::new(pages))
+}
+
+// The line of those pages.
+fn page_line(alloc: Global) -> Result<Vec<u8>, Fail> {
+    let mut line = Vec::from_slice(alloc, b"3 ok - %2d -- hello 50%25%20of%00a~!%1f%7f ")?;
+    for _ in 0..512u32 {
+        line.extend_from_slice(b"%ff")?;
     }
-    want.extend_from_slice(b"\n")?;
-    let line = line_of(alloc, Reply::Pages(PageList::new(pages)))?;
-    assert!(rt; line.as_slice() == want.as_slice());
+    line.extend_from_slice(b"\n")?;
+    Ok(line)
+}
+
+fn pages_are_printed(alloc: Global) -> Result<bool, Fail> {
+    let line = line_of(alloc, Reply::Pages(some_pages(alloc)?))?;
+    let wanted = page_line(alloc)?;
+    Ok(line.as_slice() == wanted.as_slice())
+}
+
+#[test]
+fn pages(rt: HostRuntime) -> Result<(), Fail> {
+    assert!(rt; pages_are_printed(rt.alloc())?);
     Ok(())
+}
+
+// Whether each of these refusals is printed so.
+fn all_print(alloc: Global, refusals: &[(Refusal, &str)]) -> Result<bool, Fail> {
+    for (refusal, text) in refusals {
+        if !prints(alloc, Reply::Refused(*refusal), *text)? {
+            return Ok(false);
+        }
+    }
+    Ok(true)
 }
 
 static ALONE: [(Refusal, &str); 13] = [
@@ -189,10 +227,7 @@ static ALONE: [(Refusal, &str); 13] = [
 
 #[test]
 fn refusals_with_numbers_alone(rt: HostRuntime) -> Result<(), Fail> {
-    let alloc = rt.alloc();
-    for (refusal, want) in ALONE {
-        assert!(rt; prints(alloc, Reply::Refused(refusal), want)?, "{want}");
-    }
+    assert!(rt; all_print(rt.alloc(), &ALONE)?);
     Ok(())
 }
 
@@ -254,160 +289,233 @@ static WITH_FIELDS: [(Refusal, &str); 11] = [
 
 #[test]
 fn refusals_with_fields(rt: HostRuntime) -> Result<(), Fail> {
-    let alloc = rt.alloc();
-    for (refusal, want) in WITH_FIELDS {
-        assert!(rt; prints(alloc, Reply::Refused(refusal), want)?, "{want}");
-    }
+    assert!(rt; all_print(rt.alloc(), &WITH_FIELDS)?);
     Ok(())
 }
 
-static CAUSES: [(Cause, &str); 8] = [
-    (Cause::Asked, "refused 17 Asked"),
-    (Cause::TimedOut, "refused 17 TimedOut"),
+static CAUSES: [(Refusal, &str); 8] = [
     (
-        Cause::Voted {
-            server: 2,
-            why: Why::UnknownJoin,
+        Refusal::Aborted {
+            cause: Cause::Asked,
+        },
+        "refused 17 Asked",
+    ),
+    (
+        Refusal::Aborted {
+            cause: Cause::TimedOut,
+        },
+        "refused 17 TimedOut",
+    ),
+    (
+        Refusal::Aborted {
+            cause: Cause::Voted {
+                server: 2,
+                why: Why::UnknownJoin,
+            },
         },
         "refused 17 Voted 2 UnknownJoin",
     ),
     (
-        Cause::Voted {
-            server: 2,
-            why: Why::Waiting,
+        Refusal::Aborted {
+            cause: Cause::Voted {
+                server: 2,
+                why: Why::Waiting,
+            },
         },
         "refused 17 Voted 2 Waiting",
     ),
     (
-        Cause::Voted {
-            server: 2,
-            why: Why::LogFull { room: 3, asked: 4 },
+        Refusal::Aborted {
+            cause: Cause::Voted {
+                server: 2,
+                why: Why::LogFull { room: 3, asked: 4 },
+            },
         },
         "refused 17 Voted 2 LogFull 3 4",
     ),
     (
-        Cause::Voted {
-            server: 2,
-            why: Why::ReadFault,
+        Refusal::Aborted {
+            cause: Cause::Voted {
+                server: 2,
+                why: Why::ReadFault,
+            },
         },
         "refused 17 Voted 2 ReadFault",
     ),
     (
-        Cause::Voted {
-            server: 2,
-            why: Why::ClockEnd,
+        Refusal::Aborted {
+            cause: Cause::Voted {
+                server: 2,
+                why: Why::ClockEnd,
+            },
         },
         "refused 17 Voted 2 ClockEnd",
     ),
-    (Cause::Lost { epoch: 5 }, "refused 17 Lost 5"),
+    (
+        Refusal::Aborted {
+            cause: Cause::Lost { epoch: 5 },
+        },
+        "refused 17 Lost 5",
+    ),
 ];
 
 #[test]
 fn causes_of_aborts(rt: HostRuntime) -> Result<(), Fail> {
-    let alloc = rt.alloc();
-    for (cause, want) in CAUSES {
-        assert!(rt;
-            prints(alloc, Reply::Refused(Refusal::Aborted { cause }), want)?,
-            "{want}"
-        );
-    }
+    assert!(rt; all_print(rt.alloc(), &CAUSES)?);
     Ok(())
 }
+
+static TOO_MANY: [(Refusal, &str); 7] = [
+    (
+        Refusal::TooMany {
+            what: What::Run,
+            limit: 1,
+        },
+        "refused 15 Run 1",
+    ),
+    (
+        Refusal::TooMany {
+            what: What::Pages,
+            limit: 1,
+        },
+        "refused 15 Pages 1",
+    ),
+    (
+        Refusal::TooMany {
+            what: What::Opens,
+            limit: 1,
+        },
+        "refused 15 Opens 1",
+    ),
+    (
+        Refusal::TooMany {
+            what: What::Cells,
+            limit: 1,
+        },
+        "refused 15 Cells 1",
+    ),
+    (
+        Refusal::TooMany {
+            what: What::Locks,
+            limit: 1,
+        },
+        "refused 15 Locks 1",
+    ),
+    (
+        Refusal::TooMany {
+            what: What::Files,
+            limit: 1,
+        },
+        "refused 15 Files 1",
+    ),
+    (
+        Refusal::TooMany {
+            what: What::Owners,
+            limit: 1,
+        },
+        "refused 15 Owners 1",
+    ),
+];
 
 #[test]
 fn what_there_is_too_much_of(rt: HostRuntime) -> Result<(), Fail> {
-    let alloc = rt.alloc();
-    for (what, want) in [
-        (What::Run, "refused 15 Run 1"),
-        (What::Pages, "refused 15 Pages 1"),
-        (What::Opens, "refused 15 Opens 1"),
-        (What::Cells, "refused 15 Cells 1"),
-        (What::Locks, "refused 15 Locks 1"),
-        (What::Files, "refused 15 Files 1"),
-        (What::Owners, "refused 15 Owners 1"),
-    ] {
-        assert!(rt;
-            prints(
-                alloc,
-                Reply::Refused(Refusal::TooMany { what, limit: 1 }),
-                want
-            )?,
-            "{want}"
-        );
-    }
+    assert!(rt; all_print(rt.alloc(), &TOO_MANY)?);
     Ok(())
 }
 
-#[test]
-fn a_run(rt: HostRuntime) -> Result<(), Fail> {
-    let alloc = rt.alloc();
-    let owners = vec![in alloc; owner(alloc)?]?;
-    let mut text = Vec::new(alloc);
-    let begun = vec![in alloc;
-        item(Some(Reply::Welcome { epoch: 2 })),
-        item(Some(Reply::Begun { trans: TRANS })),
-    ]?;
-    put_line(&mut text, 3, &begun)?;
-    put_line(&mut text, 4, &vec![in alloc; item(None)]?)?;
-    put_line(&mut text, 10, &[])?;
-    let mut servers = Vec::new(alloc);
-    servers.push(Held {
-        server: 1,
+// Puts the line of what was handed for one call.
+fn put_handed(text: &mut Vec<u8>, line: u32, alloc: Global, item: Item) -> Result<(), OutOfMemory> {
+    let mut items = Vec::new(alloc);
+    items.push(item)?;
+    put_line(text, line, &items)
+}
+
+// Puts the lines of a call that was sent in a session that began, of one that got nothing, and of one that was not sent.
+fn put_lines(alloc: Global, text: &mut Vec<u8>) -> Result<(), OutOfMemory> {
+    let mut begun = Vec::new(alloc);
+    begun.push(item(Some(Reply::Welcome { epoch: 2 })))?;
+    begun.push(item(Some(Reply::Begun { trans: TRANS })))?;
+    put_line(text, 3, &begun)?;
+    put_handed(text, 4, alloc, item(None))?;
+    put_line(text, 10, &[])
+}
+
+// A server whose one owner is charged for four pages.
+fn held(alloc: Global, server: u8, clock: u64, files: u32) -> Result<Held, Fail> {
+    let mut owners = Vec::new(alloc);
+    owners.push(owner(alloc)?)?;
+    Ok(Held {
+        server,
         epoch: 2,
-        clock: 567,
-        files: 1,
+        clock,
+        files,
         owners,
-    })?;
+    })
+}
+
+fn a_run_is_printed(alloc: Global) -> Result<bool, Fail> {
+    let mut text = Vec::new(alloc);
+    put_lines(alloc, &mut text)?;
+    let mut servers = Vec::new(alloc);
+    servers.push(held(alloc, 1, 567, 1)?)?;
     let summary = Summary {
         servers: servers.as_slice(),
         committed: 8,
         aborted: 9,
     };
     put_summary(&mut text, &summary)?;
-    let want =
-        "3 ok trans 1.2.34\n4 silent\n10 none\nserver 1 epoch 2 clock 567 files 1 pages 4\nowner 1 ann charge 4 quota 10\ncommitted 8 aborted 9\n";
-    assert!(rt; text.as_slice() == want.as_bytes());
+    let wanted =
+        b"3 ok trans 1.2.34\n4 silent\n10 none\nserver 1 epoch 2 clock 567 files 1 pages 4\nowner 1 ann charge 4 quota 10\ncommitted 8 aborted 9\n";
+    Ok(text.as_slice() == wanted.as_slice())
+}
+
+#[test]
+fn a_run(rt: HostRuntime) -> Result<(), Fail> {
+    assert!(rt; a_run_is_printed(rt.alloc())?);
     Ok(())
+}
+
+// What was handed for a line of bytes: nothing is silence.
+fn raw_item(alloc: Global, reply: Option<Reply>) -> Result<Item, OutOfMemory> {
+    Ok(Item {
+        line: 5,
+        server: 1,
+        mark: Mark::Raw,
+        sent: Sent::Bytes(Bytes::new(Vec::from_slice(alloc, b"\x00\x00")?)),
+        reply,
+        place: None,
+    })
+}
+
+// What was handed for a line whose bytes spell a call.
+fn raw_call(reply: Option<Reply>) -> Item {
+    let mut item = item(reply);
+    item.mark = Mark::Raw;
+    item
+}
+
+fn raw_lines_are_printed(alloc: Global) -> Result<bool, Fail> {
+    let mut text = Vec::new(alloc);
+    let wrong = raw_item(alloc, Some(Reply::Refused(Refusal::BadFrame)))?;
+    put_handed(&mut text, 5, alloc, wrong)?;
+    let committed = Reply::Ended(Ended::Committed { stamp: STAMP });
+    put_handed(&mut text, 6, alloc, raw_call(Some(committed)))?;
+    put_handed(&mut text, 7, alloc, raw_call(None))?;
+    let wanted = b"5 refused 1\n6 ok committed 567 1.2.34\n7 silent\n";
+    Ok(text.as_slice() == wanted.as_slice())
 }
 
 // What a raw line is answered is printed as any reply: also where its bytes spell no request.
 #[test]
 fn raw_lines(rt: HostRuntime) -> Result<(), Fail> {
-    let alloc = rt.alloc();
-    let mut text = Vec::new(alloc);
-    let wrong = Item {
-        line: 5,
-        server: 1,
-        mark: Mark::Raw,
-        sent: Sent::Bytes(Bytes::new(Vec::from_slice(alloc, b"\x00\x00")?)),
-        reply: Some(Reply::Refused(Refusal::BadFrame)),
-        place: None,
-    };
-    put_line(&mut text, 5, &vec![in alloc; wrong]?)?;
-    let mut committed = item(Some(Reply::Ended(Ended::Committed { stamp: STAMP })));
-    committed.mark = Mark::Raw;
-    put_line(&mut text, 6, &vec![in alloc; committed]?)?;
-    let mut silent = item(None);
-    silent.mark = Mark::Raw;
-    put_line(&mut text, 7, &vec![in alloc; silent]?)?;
-    let want = "5 refused 1\n6 ok committed 567 1.2.34\n7 silent\n";
-    assert!(rt; text.as_slice() == want.as_bytes());
+    assert!(rt; raw_lines_are_printed(rt.alloc())?);
     Ok(())
 }
 
-// First come the lines of all servers, then those of their owners.
-#[test]
-fn servers_before_owners(rt: HostRuntime) -> Result<(), Fail> {
-    let alloc = rt.alloc();
+fn two_servers_are_printed(alloc: Global) -> Result<bool, Fail> {
     let mut servers = Vec::new(alloc);
-    for server in 1..3 {
-        servers.push(Held {
-            server,
-            epoch: 1,
-            clock: 2,
-            files: 0,
-            owners: vec![in alloc; owner(alloc)?]?,
-        })?;
+    for server in 1..3u8 {
+        servers.push(held(alloc, server, 2, 0)?)?;
     }
     let mut text = Vec::new(alloc);
     let summary = Summary {
@@ -416,8 +524,14 @@ fn servers_before_owners(rt: HostRuntime) -> Result<(), Fail> {
         aborted: 0,
     };
     put_summary(&mut text, &summary)?;
-    let want =
-        "server 1 epoch 1 clock 2 files 0 pages 4\nserver 2 epoch 1 clock 2 files 0 pages 4\nowner 1 ann charge 4 quota 10\nowner 2 ann charge 4 quota 10\ncommitted 2 aborted 0\n";
-    assert!(rt; text.as_slice() == want.as_bytes());
+    let wanted =
+        b"server 1 epoch 2 clock 2 files 0 pages 4\nserver 2 epoch 2 clock 2 files 0 pages 4\nowner 1 ann charge 4 quota 10\nowner 2 ann charge 4 quota 10\ncommitted 2 aborted 0\n";
+    Ok(text.as_slice() == wanted.as_slice())
+}
+
+// First come the lines of all servers, then those of their owners.
+#[test]
+fn servers_before_owners(rt: HostRuntime) -> Result<(), Fail> {
+    assert!(rt; two_servers_are_printed(rt.alloc())?);
     Ok(())
 }

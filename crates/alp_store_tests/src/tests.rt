@@ -5,23 +5,28 @@ mod fixtures;
 mod memory;
 mod notes;
 mod quiet_disk;
+mod restarts;
 mod serving;
+mod takes;
 mod turns;
+mod wrong;
 
-use alp_base::{Key, Page, Sizes};
+use alp_base::{Key, OutOfMemory, Page, Sizes};
 use alp_disk::Disk;
 use alp_files::CellMap;
 use alp_store::Store;
 use alp_vault::Vault;
 use commits::puts_of;
-use fixtures::{FILE, SIZES, agree, committed, mem_disk, put_file, put_pages, same_cell, started};
+use fixtures::{FILE, SIZES, Tested, agree, committed, mem_disk, put_file, put_pages};
 use quiet_disk::QuietDisk;
+use restarts::{Restarts, started};
 use serving::Serving;
 use std::alloc::Global;
 use std::test::*;
+use wrong::Wrong;
 
 // A file of three written pages.
-fn three_pages(alloc: Global) -> Result<CellMap, Fail> {
+fn three_pages(alloc: Global) -> Result<CellMap, OutOfMemory> {
     let mut cells = CellMap::new(alloc);
     put_file(alloc, &mut cells, 3, 400)?;
     put_pages(alloc, &mut cells, 0, 3, 7)?;
@@ -31,40 +36,40 @@ fn three_pages(alloc: Global) -> Result<CellMap, Fail> {
 // ---- failing reads
 
 // The pages of the disk.
-fn pages_of<D: Disk>(alloc: Global, disk: QuietDisk<D>) -> Result<Vec<Page>, Fail> {
-    let mut disk = disk;
+fn pages_of<D: Disk>(alloc: Global, disk: &mut QuietDisk<D>) -> Result<Vec<Page>, Wrong> {
     let mut pages = Vec::new(alloc);
     for at in 0..disk.pages() {
-        let (next, page) = disk.read_page(at)?;
-        disk = next;
+        let mut page = Page::zero();
+        disk.read_page(at, &mut page)?;
         pages.push(page)?;
     }
     Ok(pages)
 }
 
 // The pages of the disk once a store on it holds these cells.
-fn written_pages<D: Disk>(
+fn written_pages<V: Restarts>(
     alloc: Global,
-    disk: QuietDisk<D>,
+    disk: QuietDisk<V::Device>,
     cells: &CellMap,
-) -> Result<Vec<Page>, Fail> {
-    let store = committed(alloc, started(alloc, disk, SIZES)?, cells, 1)?;
-    pages_of(alloc, store.into_disk()?)
+) -> Result<Vec<Page>, Wrong> {
+    let store = started::<V>(alloc, disk, SIZES)?;
+    let store = committed(alloc, store, cells, 1)?;
+    let mut disk = V::close(store)?;
+    pages_of(alloc, &mut disk)
 }
 
-// The disk with these pages.
-fn filled<D: Disk>(disk: QuietDisk<D>, pages: &[Page]) -> Result<QuietDisk<D>, Fail> {
-    let mut disk = disk;
+// Puts these pages on the disk.
+fn fill<D: Disk>(disk: &mut QuietDisk<D>, pages: &[Page]) -> Result<(), Wrong> {
     let mut at = 0u32;
     for page in pages {
-        disk = disk.write_page(at, page)?;
+        disk.write_page(at, page)?;
         at = at.saturating_add(1);
     }
     disk.sync()
 }
 
 // The numbers of calls from one on, more than a start makes behind the first that fails.
-fn calls_after(alloc: Global, call: u64) -> Result<Vec<u64>, Fail> {
+fn calls_after(alloc: Global, call: u64) -> Result<Vec<u64>, OutOfMemory> {
     let mut fails = Vec::new(alloc);
     for more in 1..=40u64 {
         fails.push(call.saturating_add(more))?;
@@ -72,18 +77,49 @@ fn calls_after(alloc: Global, call: u64) -> Result<Vec<u64>, Fail> {
     Ok(fails)
 }
 
-// Whether a second fetch of a written page gives the same cell, where a store starts on the disk and a first fetch gives it.
-fn is_fetched_twice<D: Disk>(alloc: Global, disk: QuietDisk<D>, cells: &CellMap) -> Option<bool> {
+// Whether two fetches of a written page give its cell; nothing where the first fails.
+fn fetches_twice<V: Vault>(store: Serving<V>, cells: &CellMap) -> Option<bool> {
     let key = Key::PageOf(FILE, 1);
-    let store = disk.start(alloc, SIZES)?;
-    let Ok((store, first)) = store.fetch(&key) else {
-        return None;
-    };
-    let same = same_cell(&first, cells.get(&key));
-    match store.fetch(&key) {
-        Ok((_store, second)) => Some(same && first == second),
-        Err(_) => Some(false),
+    match store.holds(cells, &key) {
+        Ok((store, first)) => match store.holds(cells, &key) {
+            Ok((_store, second)) => Some(first && second),
+            Err(_wrong) => Some(false),
+        },
+        Err(_wrong) => None,
     }
+}
+
+// The same of a store on a disk with these pages; nothing where it does not start either.
+fn is_fetched_twice<V: Restarts>(
+    alloc: Global,
+    disk: QuietDisk<V::Device>,
+    pages: &[Page],
+    cells: &CellMap,
+) -> Result<Option<bool>, Wrong> {
+    let mut disk = disk;
+    fill(&mut disk, pages)?;
+    match V::start(disk, alloc, 1, SIZES) {
+        Ok(store) => Ok(fetches_twice(store, cells)),
+        Err(_fault) => Ok(None),
+    }
+}
+
+// After how many calls behind those that fill the disk a first fetch is the last to read it, and whether the second one gives the
+// same.
+fn first_fetched(
+    alloc: Global,
+    pages: &[Page],
+    cells: &CellMap,
+) -> Result<Option<(u64, bool)>, Wrong> {
+    let written = (pages.len() as u64).saturating_add(1);
+    for n in 0..1000u64 {
+        let fails = calls_after(alloc, written.saturating_add(n))?;
+        let disk = mem_disk(alloc, SIZES, fails)?;
+        if let Some(same) = is_fetched_twice::<Tested>(alloc, disk, pages, cells)? {
+            return Ok(Some((n, same)));
+        }
+    }
+    Ok(None)
 }
 
 #[test]
@@ -91,17 +127,11 @@ fn a_second_fetch_reads_no_disk(rt: HostRuntime) -> Result<(), Fail> {
     let alloc = rt.alloc();
     let cells = three_pages(alloc)?;
     let disk = mem_disk(alloc, SIZES, Vec::new(alloc))?;
-    let pages = written_pages(alloc, disk, &cells)?;
-    let written = (pages.len() as u64).saturating_add(1);
-    for n in 0..1000u64 {
-        let fails = calls_after(alloc, written.saturating_add(n))?;
-        let disk = filled(mem_disk(alloc, SIZES, fails)?, pages.as_slice())?;
-        if let Some(same) = is_fetched_twice(alloc, disk, &cells) {
-            assert!(rt; same && n > 257);
-            return Ok(());
-        }
-    }
-    Err("no fetch".into())
+    let pages = written_pages::<Tested>(alloc, disk, &cells)?;
+    let found = first_fetched(alloc, pages.as_slice(), &cells)?;
+    let (calls, same) = found.ok_or("no fetch")?;
+    assert!(rt; same && calls > 257);
+    Ok(())
 }
 
 // ---- stopped commits
@@ -111,24 +141,35 @@ type Left = (u32, u32, (u32, u32, u32, u64));
 
 // What a commit that is stopped after so many changing calls leaves behind a crash with that pick; nothing where it was
 // not stopped.
-fn after_a_stop<D: Disk>(
+fn after_a_stop<V: Vault>(
     alloc: Global,
-    disk: QuietDisk<D>,
+    store: Serving<V>,
+    cells: &CellMap,
     calls: u32,
     pick: u64,
-) -> Result<Option<Left>, Fail> {
-    let cells = three_pages(alloc)?;
+) -> Result<Option<Left>, Wrong> {
     let none = CellMap::new(alloc);
-    let change = puts_of(alloc, &cells)?;
-    let store = started(alloc, disk, SIZES)?;
+    let change = puts_of(alloc, cells)?;
     let (store, stopped) = store.stopped(alloc, &change, 9, calls, pick)?;
     let (store, before) = agree(store, &none, 3)?;
-    let (store, after) = agree(store, &cells, 3)?;
+    let (store, after) = agree(store, cells, 3)?;
     let counts = store.counts(alloc)?;
     if !stopped {
         return Ok(None);
     }
     Ok(Some((before, after, counts)))
+}
+
+// The same of three pages on a new volume.
+fn stopped_on<V: Restarts>(
+    alloc: Global,
+    disk: QuietDisk<V::Device>,
+    calls: u32,
+    pick: u64,
+) -> Result<Option<Left>, Wrong> {
+    let cells = three_pages(alloc)?;
+    let store = started::<V>(alloc, disk, SIZES)?;
+    after_a_stop(alloc, store, &cells, calls, pick)
 }
 
 #[test]
@@ -139,7 +180,7 @@ fn a_stopped_commit_was_made_or_not(rt: HostRuntime) -> Result<(), Fail> {
     for calls in 0..40u32 {
         for pick in 0..6u64 {
             let disk = mem_disk(alloc, SIZES, Vec::new(alloc))?;
-            match after_a_stop(alloc, disk, calls, pick)? {
+            match stopped_on::<Tested>(alloc, disk, calls, pick)? {
                 Some((5, 0, (0, 0, 0, 0))) => before = before.saturating_add(1),
                 Some((0, 5, (1, 1, 5, 9))) => after = after.saturating_add(1),
                 Some(_) => return Err("half a commit".into()),
@@ -161,7 +202,7 @@ const LARGE: Sizes = Sizes {
 };
 
 // A file of so many pages that there is no place for another.
-fn most_pages(alloc: Global) -> Result<CellMap, Fail> {
+fn most_pages(alloc: Global) -> Result<CellMap, OutOfMemory> {
     let mut cells = CellMap::new(alloc);
     put_file(alloc, &mut cells, 300, 400)?;
     put_pages(alloc, &mut cells, 0, 252, 7)?;
@@ -173,19 +214,20 @@ fn looked_at<V: Vault>(
     alloc: Global,
     store: Serving<V>,
     cells: &CellMap,
-) -> Result<((u32, u32, u32, u64), u32), Fail> {
+) -> Result<((u32, u32, u32, u64), u32), Wrong> {
     let (store, there) = agree(store, cells, 300)?;
     let counts = store.counts(alloc)?;
     Ok((counts, there))
 }
 
 // The same of a new store once it holds the cells.
-fn filled_up<D: Disk>(
+fn filled_up<V: Restarts>(
     alloc: Global,
-    disk: QuietDisk<D>,
+    disk: QuietDisk<V::Device>,
     cells: &CellMap,
-) -> Result<((u32, u32, u32, u64), u32), Fail> {
-    let store = committed(alloc, started(alloc, disk, LARGE)?, cells, 1)?;
+) -> Result<((u32, u32, u32, u64), u32), Wrong> {
+    let store = started::<V>(alloc, disk, LARGE)?;
+    let store = committed(alloc, store, cells, 1)?;
     looked_at(alloc, store, cells)
 }
 
@@ -194,8 +236,7 @@ fn a_full_volume_commits(rt: HostRuntime) -> Result<(), Fail> {
     let alloc = rt.alloc();
     let cells = most_pages(alloc)?;
     let disk = mem_disk(alloc, LARGE, Vec::new(alloc))?;
-    let found = filled_up(alloc, disk, &cells)?;
-    assert_eq!(rt; found, ((1, 1, 255, 1), 302));
+    assert!(rt; filled_up::<Tested>(alloc, disk, &cells)? == ((1, 1, 255, 1), 302));
     Ok(())
 }
 
@@ -209,8 +250,8 @@ fn store_crosses<D: Disk + Send + Sync>(store: &Store<D>) {
 }
 
 // Whether a store starts on the disk.
-fn starts<D: Disk + Send + Sync>(alloc: Global, disk: QuietDisk<D>) -> Result<bool, Fail> {
-    let store = started(alloc, disk, SIZES)?;
+fn starts<D: Disk + Send + Sync>(alloc: Global, disk: QuietDisk<D>) -> Result<bool, Wrong> {
+    let store = started::<Store<D>>(alloc, disk, SIZES)?;
     store_crosses(store.vault());
     Ok(true)
 }

@@ -3,7 +3,6 @@ mod crashes;
 mod drills;
 mod faults;
 mod plays;
-mod rows;
 mod several;
 
 use alp_base::{MemSink, MemSource};
@@ -12,45 +11,16 @@ use alp_top::{run_alpine, status_text};
 use std::alloc::Global;
 use std::test::Fail;
 
+// A client makes an owner and a file of four pages, writes one of them, and reads two.
 const SCRIPT: &[u8] =
     b"servers 1\nclient 1 Admin\n1 begin 1\n1 mkowner 1 ann 10 World\n1 create 1 A ann 4 World World\n1 write A 0 1 hello\n1 read A 0 2\n1 commit\n";
 
-// What each line of the script adds to the report.
-const HANDED: [&[u8]; 8] = [
-    b"",
-    b"",
-    b"3 ok trans 1.1.1\n",
-    b"4 ok\n",
-    b"5 ok file 1.1.1 open 1\n",
-    b"6 ok\n",
-    b"7 ok hello -\n",
-    b"8 ok stamp 1 1.1.1\n",
-];
+const TOLD: &[u8] =
+    b"3 ok trans 1.1.1\n4 ok\n5 ok file 1.1.1 open 1\n6 ok\n7 ok hello -\n8 ok stamp 1 1.1.1\nserver 1 epoch 1 clock 1 files 1 pages 4\nowner 1 ann charge 4 quota 10\ncommitted 1 aborted 0\n";
 
 const IDLE: &[u8] = b"server 1 epoch 1 clock 0 files 0 pages 0\ncommitted 0 aborted 0\n";
 
-const ABORTED: &[u8] = b"server 1 epoch 1 clock 0 files 0 pages 0\ncommitted 0 aborted 1\n";
-
-const COMMITTED: &[u8] =
-    b"server 1 epoch 1 clock 1 files 1 pages 4\nowner 1 ann charge 4 quota 10\ncommitted 1 aborted 0\n";
-
-// The report of so many lines of the script.
-fn expected(alloc: Global, lines: usize) -> Result<Vec<u8>, Fail> {
-    let mut text = Vec::new(alloc);
-    for handed in HANDED.iter().take(lines) {
-        text.extend_from_slice(*handed)?;
-    }
-    let held = if lines < 3 {
-        IDLE
-    } else if lines < 8 {
-        ABORTED
-    } else {
-        COMMITTED
-    };
-    text.extend_from_slice(held)?;
-    Ok(text)
-}
-
+// What is beyond the end of a file, beyond a quota, or not open.
 const REFUSALS: &[u8] =
     b"servers 1\nclient 1 Admin\n1 begin 1\n1 mkowner 1 ann 10 World\n1 create 1 A ann 4 World World\n1 write A 0 1 hello\n1 read A 0 2\n1 read A 3 2\n1 create 1 B ann 7 World World\n1 read B 0 1\n1 commit\n";
 
@@ -88,12 +58,6 @@ const SOUND: Failing = Failing {
     room: 4096,
 };
 
-const WIDE: Failing = Failing {
-    reads: 0,
-    writes: 0,
-    room: 65_536,
-};
-
 // The calls that fail where each so many-th does.
 fn calls(alloc: Global, each: u64) -> Result<Vec<u64>, Fail> {
     let mut calls = Vec::new(alloc);
@@ -109,6 +73,13 @@ struct Told {
     code: u8,
     said: String,
     written: Vec<u8>,
+}
+
+impl Told {
+    // Whether it ends with this status, of which this is said, and this was written.
+    fn is(&self, code: u8, said: &str, written: &[u8]) -> bool {
+        self.code == code && self.said.as_str() == said && self.written.as_slice() == written
+    }
 }
 
 // On a new disk.
@@ -136,52 +107,15 @@ fn run_in<B: Bay>(
     })
 }
 
-// Whether the script is played to its end, and this is its report.
-fn reports(alloc: Global, script: &[u8], report: &[u8]) -> Result<bool, Fail> {
-    reports_with(alloc, script, report, &SOUND)
-}
-
-// So with such reads and writes.
-fn reports_with(
-    alloc: Global,
-    script: &[u8],
-    report: &[u8],
-    failing: &Failing,
-) -> Result<bool, Fail> {
-    let told = run(alloc, &["play"], script, failing)?;
-    Ok(told.code == 0 && told.said.is_empty() && told.written.as_slice() == report)
-}
-
-// The first of the scripts whose report is another one, if any.
-fn first_other(alloc: Global, rows: &[[&[u8]; 2]]) -> Result<Option<usize>, Fail> {
-    for (i, [script, report]) in rows.iter().enumerate() {
-        if !reports(alloc, *script, *report)? {
-            return Ok(Some(i));
-        }
-    }
-    Ok(None)
-}
-
-// So where each is played on what the one before left in the bay.
-fn first_other_day<B: Bay>(
-    alloc: Global,
-    days: &[[&[u8]; 2]],
-    bay: &mut B,
-) -> Result<Option<usize>, Fail> {
-    for (i, [script, report]) in days.iter().enumerate() {
+// Whether each script is played to its end on what the one before left in the bay, and has this report.
+fn go_on<B: Bay>(alloc: Global, days: &[[&[u8]; 2]], bay: &mut B) -> Result<bool, Fail> {
+    for [script, report] in days {
         let told = run_in(alloc, &["play"], *script, &SOUND, bay)?;
-        if told.code != 0 || told.written.as_slice() != *report {
-            return Ok(Some(i));
+        if !told.is(0, "", *report) {
+            return Ok(false);
         }
     }
-    Ok(None)
-}
-
-// The two texts as one.
-fn behind(alloc: Global, first: &[u8], second: &[u8]) -> Result<Vec<u8>, Fail> {
-    let mut text = Vec::from_slice(alloc, first)?;
-    text.extend_from_slice(second)?;
-    Ok(text)
+    Ok(true)
 }
 
 // Whether the text has these lines in a row.

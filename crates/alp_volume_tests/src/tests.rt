@@ -1,5 +1,6 @@
-ghost use Rattle.std.specs.Prelude.{◌≡◌, ◌<◌, [], false, refl, IfOk};
+ghost use Rattle.std.specs.Prelude.{◌≡◌, ◌≤◌, ◌<◌, [], true, false, refl, length, IfOk};
 ghost use Rattle.std.proofs.Math.Nat.{le_refl};
+ghost use Rattle.alp_vault.specs.Volumes.{fit_keys};
 ghost use Rattle.alp_base.specs.declared.allowance.Allowance.TheVariants.{Free};
 
 mod plain;
@@ -114,18 +115,10 @@ fn dumped(dump: &str, page: u32) -> Option<[u8; 512]> {
     Some(bytes)
 }
 
-fn list_of(alloc: Global, words: &[&[u8]]) -> Result<Option<AccessList>, OutOfMemory> {
-    let mut names = Vec::new(alloc);
-    for word in words {
-        let Some(name) = Name::parse(word) else {
-            return Ok(None);
-        };
-        names.push(name)?;
-    }
-    if names.len() > alp_base::NAMES_PER_LIST {
-        return Ok(None);
-    }
-    Ok(Some(AccessList::new(names)))
+fn list_of(alloc: Global, names: &[Name]) -> Result<AccessList, OutOfMemory>
+    requires { length names.now ≤ 4 }
+{
+    Ok(AccessList::new(Vec::from_slice(alloc, names)?))
 }
 
 const FILE: FileId = FileId {
@@ -134,64 +127,67 @@ const FILE: FileId = FileId {
     counter: 3,
 };
 
-fn leader(alloc: Global) -> Result<Option<Leader>, OutOfMemory> {
-    let mut index = Places::new([0; 32]);
-    index.set(0, 258);
-    let Some(owner) = Name::parse(b"ann") else {
-        return Ok(None);
-    };
-    let Some(name) = Name::parse(b"A") else {
-        return Ok(None);
-    };
-    let Some(read) = list_of(alloc, &[b"World"])? else {
-        return Ok(None);
-    };
-    let Some(modify) = list_of(alloc, &[b"Owner", b"bob"])? else {
-        return Ok(None);
-    };
-    let props = Props {
-        owner,
-        name,
+fn world() -> Name {
+    Name::spelled(b"World")
+}
+
+fn owner() -> Name {
+    Name::spelled(b"Owner")
+}
+
+// A file of ann's of that size.
+fn props(alloc: Global, size: u32) -> Result<Props, OutOfMemory>
+    ensures { IfOk result (λ props. props.size ≡ size) }
+{
+    let read = list_of(alloc, &[world()])?;
+    let modify = list_of(alloc, &[owner(), Name::spelled(b"bob")])?;
+    Ok(Props {
+        owner: Name::spelled(b"ann"),
+        name: Name::spelled(b"A"),
         type_no: 7,
         create_time: 2,
         byte_length: 1000,
-        size: 4,
+        size,
         high_water: 2,
         read,
         modify,
-    };
-    Ok(Some(Leader {
+    })
+}
+
+fn leader(alloc: Global) -> Result<Leader, OutOfMemory>
+    ensures { IfOk result (λ leader. leader.props.size ≡ 4) }
+{
+    let props = props(alloc, 4)?;
+    let mut index = Places::new([0; 32]);
+    index.set(0, 258);
+    Ok(Leader {
         file: FILE,
         props,
         index,
-    }))
+    })
 }
 
-fn ann(alloc: Global) -> Result<Option<OwnerRecord>, OutOfMemory> {
-    let Some(name) = Name::parse(b"ann") else {
-        return Ok(None);
-    };
-    let Some(create) = list_of(alloc, &[b"World", b"Owner"])? else {
-        return Ok(None);
-    };
-    Ok(Some(OwnerRecord {
-        name,
+// The owner with that charge.
+fn ann(alloc: Global, charge: u32) -> Result<OwnerRecord, OutOfMemory> {
+    let create = list_of(alloc, &[world(), owner()])?;
+    Ok(OwnerRecord {
+        name: Name::spelled(b"ann"),
         quota: 10,
-        charge: 4,
+        charge,
         create,
-    }))
+    })
 }
 
 // The pages of the dump, as the functions of alp_pages make them.
-fn page_made(alloc: Global, at: u32) -> Result<Option<Page>, OutOfMemory> {
+fn page_made(alloc: Global, at: u32) -> Result<Page, OutOfMemory> {
     match at {
-        0 => Ok(Some(new_header())),
-        1 => Ok(Some(directory())),
+        0 => Ok(new_header()),
+        1 => Ok(directory()),
         129 => owners(alloc),
         257 => leader_page(alloc),
-        258 => Ok(index()),
-        259 => Ok(Some(Page::beginning(b"hello"))),
-        _ => Ok(Some(Page::zero())),
+        258 => Ok(Page::beginning(&[0, 0, 1, 3, 0, 0, 1, 4])),
+        259 => Ok(Page::beginning(b"hello")),
+        _ => Ok(Page::zero()),
     }
 }
 
@@ -207,133 +203,186 @@ fn directory() -> Page {
     Page::new(bytes)
 }
 
-fn owners(alloc: Global) -> Result<Option<Page>, OutOfMemory> {
-    let Some(owner) = ann(alloc)? else {
-        return Ok(None);
-    };
+fn owners(alloc: Global) -> Result<Page, OutOfMemory> {
+    let owner = ann(alloc, 4)?;
     let mut bytes = [0u8; 512];
     set_owner(&mut bytes, 0, &owner);
-    Ok(Some(Page::new(bytes)))
+    Ok(Page::new(bytes))
 }
 
-fn leader_page(alloc: Global) -> Result<Option<Page>, OutOfMemory> {
-    let Some(leader) = leader(alloc)? else {
-        return Ok(None);
-    };
-    if leader.props.size > alp_base::PAGES_PER_FILE {
-        return Ok(None);
-    }
+fn leader_page(alloc: Global) -> Result<Page, OutOfMemory> {
+    let leader = leader(alloc)?;
     let mut page = Page::zero();
     encode_leader(&leader, &mut page);
-    Ok(Some(page))
+    Ok(page)
 }
 
-fn index() -> Option<Page> {
-    let bytes = dumped(DUMP, 258)?;
-    Some(Page::new(bytes))
+fn page_ref(alloc: Global, at: u32) -> Result<PageRef, OutOfMemory> {
+    let page = page_made(alloc, at)?;
+    PageRef::new(alloc, page)
 }
 
-fn volume(alloc: Global) -> Result<Option<MemPages>, OutOfMemory> {
+fn volume(alloc: Global) -> Result<MemPages, OutOfMemory> {
     let mut pages = Vec::new(alloc);
     for at in 0..HOME {
-        let Some(page) = page_made(alloc, at)? else {
-            return Ok(None);
-        };
-        pages.push(PageRef::new(alloc, page)?)?;
+        pages.push(page_ref(alloc, at)?)?;
     }
-    Ok(Some(MemPages { pages }))
+    Ok(MemPages { pages })
+}
+
+fn is_page_dumped(alloc: Global, at: u32) -> Result<bool, OutOfMemory> {
+    let page = page_made(alloc, at)?;
+    match dumped(DUMP, at) {
+        Some(bytes) => Ok(page.bytes() == bytes.as_slice()),
+        None => Ok(false),
+    }
+}
+
+// Whether the leader page of the dump is read as the leader.
+fn is_leader_read(alloc: Global) -> Result<bool, OutOfMemory> {
+    let Some(bytes) = dumped(DUMP, 257) else {
+        return Ok(false);
+    };
+    let wanted = leader(alloc)?;
+    match decode_leader(alloc, &Page::new(bytes))? {
+        Some(found) => Ok(found == wanted),
+        None => Ok(false),
+    }
+}
+
+// Whether the index page of the dump has its two places, of which one is cleared, and zeros are no index page.
+fn are_places_read() -> bool {
+    let Some(bytes) = dumped(DUMP, 258) else {
+        return false;
+    };
+    let Some(mut places) = decode_index(&bytes) else {
+        return false;
+    };
+    if places.at(0) != 259 || places.at(1) != 260 || places.at(2) != 0 {
+        return false;
+    }
+    places.set(1, 0);
+    places.at(1) == 0 && decode_index(&[0; 512]).is_none()
 }
 
 #[test]
 fn pages_are_those_of_the_dump(rt: HostRuntime) -> Result<(), Fail> {
-    for at in [0, 1, 129, 257, 259] {
-        let page = page_made(rt.alloc(), at)
-            .ok()
-            .ok_or("memory")?
-            .ok_or("a page")?;
-        let bytes = dumped(DUMP, at).ok_or("a dump")?;
-        assert!(rt; page.bytes() == bytes.as_slice(), "page {at}");
+    for at in [0, 1, 129, 257, 258, 259] {
+        assert!(rt; is_page_dumped(rt.alloc(), at)?, "page {at}");
     }
-    let page = Page::new(dumped(DUMP, 257).ok_or("a dump")?);
-    let found = decode_leader(rt.alloc(), &page).ok().ok_or("memory")?;
-    assert!(rt; found == leader(rt.alloc()).ok().ok_or("memory")?);
-    let bytes = dumped(DUMP, 258).ok_or("a dump")?;
-    let mut places = decode_index(&bytes).ok_or("an index page")?;
-    assert_eq!(rt; places.at(0), 259);
-    assert_eq!(rt; places.at(1), 260);
-    assert_eq!(rt; places.at(2), 0);
-    places.set(1, 0);
-    assert_eq!(rt; places.at(1), 0);
-    assert!(rt; decode_index(&[0; 512]).is_none());
+    assert!(rt; is_leader_read(rt.alloc())?);
+    assert!(rt; are_places_read());
     Ok(())
+}
+
+fn gives_props(alloc: Global, pages: &mut MemPages) -> Result<bool, VaultFault> {
+    let Ok(wanted) = props(alloc, 4) else {
+        return Err(VaultFault::OutOfMemory);
+    };
+    match fetch_leader(alloc, pages, 257)? {
+        Some(found) => Ok(found == wanted),
+        None => Ok(false),
+    }
+}
+
+fn gives_owner(alloc: Global, pages: &mut MemPages) -> Result<bool, VaultFault> {
+    let Ok(wanted) = ann(alloc, 4) else {
+        return Err(VaultFault::OutOfMemory);
+    };
+    match fetch_owner(alloc, pages, 0)? {
+        Some(found) => Ok(found == wanted),
+        None => Ok(false),
+    }
+}
+
+fn gives_second_owner(alloc: Global, pages: &mut MemPages) -> Result<bool, VaultFault> {
+    match fetch_owner(alloc, pages, 1)? {
+        Some(_owner) => Ok(true),
+        None => Ok(false),
+    }
+}
+
+// The page of the file with that number: whether it begins with these bytes, or nothing where it does not stand.
+fn page_begins(
+    alloc: Global,
+    pages: &mut MemPages,
+    number: u32,
+    bytes: &[u8],
+) -> Result<Option<bool>, VaultFault>
+    requires { number < 4096 }
+{
+    match fetch_page(alloc, pages, HOME, FILE, 257, number)? {
+        Some(page) => Ok(Some(page.bytes().starts_with(bytes))),
+        None => Ok(None),
+    }
 }
 
 #[test]
 fn fetches_the_cells(rt: HostRuntime) -> Result<(), Fail> {
     let alloc = rt.alloc();
-    let mut pages = volume(alloc).ok().ok_or("memory")?.ok_or("a volume")?;
-    let props = fetch_leader(alloc, &mut pages, 257).ok().ok_or("a read")?;
-    let wanted = leader(alloc).ok().ok_or("memory")?.ok_or("a leader")?;
-    assert!(rt; props == Some(wanted.props));
-    let owner = fetch_owner(alloc, &mut pages, 0).ok().ok_or("a read")?;
-    assert!(rt; owner == ann(alloc).ok().ok_or("memory")?);
-    let none = fetch_owner(alloc, &mut pages, 1).ok().ok_or("a read")?;
-    assert!(rt; none.is_none());
-    let first = fetch_page(alloc, &mut pages, HOME, FILE, 257, 0)
-        .ok()
-        .ok_or("a read")?
-        .ok_or("a page")?;
-    assert!(rt; first.bytes().starts_with(b"hello\0"));
-    let third = fetch_page(alloc, &mut pages, HOME, FILE, 257, 2)
-        .ok()
-        .ok_or("a read")?;
-    assert!(rt; third.is_none());
-    assert!(rt;
-        fetch_block(alloc, &mut pages, FILE, 257, 0)
-            .ok()
-            .ok_or("a read")?
-    );
-    assert!(rt;
-        !fetch_block(alloc, &mut pages, FILE, 257, 1)
-            .ok()
-            .ok_or("a read")?
-    );
+    let mut pages = volume(alloc)?;
+    assert!(rt; gives_props(alloc, &mut pages)?);
+    assert!(rt; gives_owner(alloc, &mut pages)? && !gives_second_owner(alloc, &mut pages)?);
+    assert!(rt; page_begins(alloc, &mut pages, 0, b"hello\0")? == Some(true));
+    assert!(rt; page_begins(alloc, &mut pages, 2, b"")?.is_none());
+    assert!(rt; fetch_block(alloc, &mut pages, FILE, 257, 0)?);
+    assert!(rt; !fetch_block(alloc, &mut pages, FILE, 257, 1)?);
     Ok(())
 }
 
-#[test]
-fn entries_and_rows_are_read_exactly(rt: HostRuntime) -> Result<(), Fail> {
-    let page = dumped(DUMP, 1).ok_or("a dump")?;
+// Whether the page of the dump has the entry of the file and no other, and neither a file without a place nor other bytes than
+// zeros after an id make one.
+fn are_entries_read(page: &[u8; 512]) -> bool {
     let entry = Entry {
         file: FILE,
         place: 257,
     };
-    assert!(rt; entry_at(&page, 0) == Some(Some(entry)));
-    assert!(rt; entry_at(&page, 31) == Some(None));
-    let mut named = page;
+    let mut named = *page;
     named[16] = 1;
-    assert!(rt; entry_at(&named, 1).is_none(), "a file without a place");
-    named = page;
-    named[9] = 1;
-    assert!(rt; entry_at(&named, 0).is_none(), "no zeros behind the id");
+    let mut longer = *page;
+    longer[9] = 1;
+    entry_at(page, 0) == Some(Some(entry))
+        && entry_at(page, 31) == Some(None)
+        && entry_at(&named, 1).is_none()
+        && entry_at(&longer, 0).is_none()
+}
+
+#[derive(Clone, Copy, PartialEq)]
+enum Row {
+    Wrong,
+    Unused,
+    Ann,
+    Another,
+}
+
+// What stands in that row of a page.
+fn row_at(alloc: Global, page: &[u8; 512], row: usize) -> Result<Row, OutOfMemory>
+    requires { row < 2 }
+{
+    let wanted = ann(alloc, 4)?;
+    match owner_at(alloc, page, row)? {
+        Some(Some(found)) => Ok(if found == wanted {
+            Row::Ann
+        } else {
+            Row::Another
+        }),
+        Some(None) => Ok(Row::Unused),
+        None => Ok(Row::Wrong),
+    }
+}
+
+#[test]
+fn entries_and_rows_are_read_exactly(rt: HostRuntime) -> Result<(), Fail> {
+    let alloc = rt.alloc();
+    let entries = dumped(DUMP, 1).ok_or("a dump")?;
+    assert!(rt; are_entries_read(&entries));
     let owners = dumped(DUMP, 129).ok_or("a dump")?;
-    let first = owner_at(rt.alloc(), &owners, 0)
-        .ok()
-        .ok_or("memory")?
-        .ok_or("a row")?;
-    assert!(rt; first == ann(rt.alloc()).ok().ok_or("memory")?);
-    let second = owner_at(rt.alloc(), &owners, 1)
-        .ok()
-        .ok_or("memory")?
-        .ok_or("a row")?;
-    assert!(rt; second.is_none());
+    assert!(rt; row_at(alloc, &owners, 0)? == Row::Ann);
+    assert!(rt; row_at(alloc, &owners, 1)? == Row::Unused);
     let mut torn = owners;
     torn[511] = 1;
     assert!(rt;
-        owner_at(rt.alloc(), &torn, 1)
-            .ok()
-            .ok_or("memory")?
-            .is_none(),
+        row_at(alloc, &torn, 1)? == Row::Wrong,
         "no record, and not unused"
     );
     Ok(())
@@ -360,19 +409,38 @@ fn has_their_pages(catalog: &Catalog) -> bool {
         && !catalog.has_block(FILE, 1)
 }
 
+// Whether ann is its only owner.
+fn names_ann(catalog: &Catalog) -> bool {
+    catalog.owners.names().len() == 1
+        && catalog.owner_names().first() == Some(&Name::spelled(b"ann"))
+        && catalog.file_count() == 1
+        && catalog.owner_count() == 1
+}
+
+// Whether the first slot and row are taken, and of the places those of the head.
+fn has_first_ones(catalog: &Catalog) -> bool {
+    catalog.slots.is_taken(0)
+        && !catalog.slots.is_taken(1)
+        && catalog.rows.is_taken(0)
+        && !catalog.rows.is_taken(1)
+        && catalog.places.is_taken(256)
+        && !catalog.places.is_taken(299)
+}
+
+fn is_read(alloc: Global, pages: &mut MemPages) -> Result<bool, VaultFault> {
+    let catalog = read_volume(alloc, pages, HOME)?;
+    Ok(
+        has_both(&catalog)
+            && has_their_pages(&catalog)
+            && names_ann(&catalog)
+            && has_first_ones(&catalog),
+    )
+}
+
 #[test]
 fn reads_a_volume(rt: HostRuntime) -> Result<(), Fail> {
-    let alloc = rt.alloc();
-    let mut pages = volume(alloc).ok().ok_or("memory")?.ok_or("a volume")?;
-    let catalog = read_volume(alloc, &mut pages, HOME).ok().ok_or("a volume")?;
-    assert!(rt; has_both(&catalog) && has_their_pages(&catalog));
-    let owner = Name::parse(b"ann").ok_or("a name")?;
-    assert_eq!(rt; catalog.owners.names().len(), 1);
-    assert!(rt; catalog.owner_names().first() == Some(&owner));
-    assert!(rt; catalog.slots.is_taken(0) && !catalog.slots.is_taken(1));
-    assert!(rt; catalog.rows.is_taken(0) && !catalog.rows.is_taken(1));
-    assert!(rt; catalog.places.is_taken(256) && !catalog.places.is_taken(299));
-    assert_eq!(rt; (catalog.file_count(), catalog.owner_count()), (1, 1));
+    let mut pages = volume(rt.alloc())?;
+    assert!(rt; is_read(rt.alloc(), &mut pages)?);
     Ok(())
 }
 
@@ -394,7 +462,8 @@ fn apply(pages: &mut MemPages, plan: &Draft) -> Result<(), OutOfMemory> {
 }
 
 fn change_of(alloc: Global, drops: &[FileId], cuts: &[(FileId, u32)]) -> Result<Change, OutOfMemory>
-    ensures { IfOk result (λ change. change.puts ≡ []) }
+    ensures empty { IfOk result (λ change. change.puts ≡ []) }
+    ensures fit { IfOk result (λ change. fit_keys change.puts ≡ true) }
 {
     let mut gone = Vec::new(alloc);
     for file in drops {
@@ -411,52 +480,144 @@ fn change_of(alloc: Global, drops: &[FileId], cuts: &[(FileId, u32)]) -> Result<
     })
 }
 
-// A plan for a change without puts, of the volume and what was read of it.
-fn plan_of(
+// What is looked for in a plan.
+#[derive(Clone, Copy)]
+enum Wanted {
+    Dropped,
+    Cut,
+    Put,
+}
+
+// Whether no place of the file is taken.
+fn are_places_free(catalog: &Catalog) -> bool {
+    for place in [257, 258, 259, 260] {
+        if catalog.places.is_taken(place) {
+            return false;
+        }
+    }
+    true
+}
+
+// Whether the file is gone, and of its pages only the one of the directory changes.
+fn is_dropped(catalog: &Catalog, plan: &Draft) -> bool {
+    crosses(plan);
+    crosses(catalog);
+    let Some(entries) = plan.pages.get(1) else {
+        return false;
+    };
+    catalog.files.get(FILE).is_none()
+        && !catalog.slots.is_taken(0)
+        && are_places_free(catalog)
+        && entries.bytes() == Page::zero().bytes()
+        && plan.pages.get(257).is_none()
+}
+
+// Whether the index page of a plan has these as the first places.
+fn has_places(plan: &Draft, wanted: &[u32; 4]) -> bool {
+    let Some(index) = plan.pages.get(258) else {
+        return false;
+    };
+    match decode_index(index.bytes()) {
+        Some(places) => {
+            places.at(0) == wanted[0]
+                && places.at(1) == wanted[1]
+                && places.at(2) == wanted[2]
+                && places.at(3) == wanted[3]
+        }
+        None => false,
+    }
+}
+
+// Whether the volume with the plan is read as the catalog has the file, without its second page.
+fn is_read_as(alloc: Global, pages: &mut MemPages, catalog: &Catalog) -> Result<bool, VaultFault> {
+    let again = read_volume(alloc, pages, HOME)?;
+    Ok(again.files.get(FILE) == catalog.files.get(FILE) && !again.places.is_taken(260))
+}
+
+// Whether the second page is gone.
+fn is_cut(
+    alloc: Global,
+    pages: &mut MemPages,
+    catalog: &Catalog,
+    plan: &Draft,
+) -> Result<bool, VaultFault> {
+    if !catalog.places.is_taken(259)
+        || catalog.places.is_taken(260)
+        || !has_places(plan, &[259, 0, 0, 0])
+    {
+        return Ok(false);
+    }
+    if apply(pages, plan).is_err() {
+        return Err(VaultFault::OutOfMemory);
+    }
+    is_read_as(alloc, pages, catalog)
+}
+
+fn has_two_images(alloc: Global, plan: &Draft) -> Result<bool, OutOfMemory> {
+    let images = plan.pages.images(alloc)?;
+    Ok(images.len() == 2)
+}
+
+// Whether one of the two is at a new place, which is that one.
+fn has_new_image(alloc: Global, plan: &Draft, catalog: &Catalog) -> Result<bool, OutOfMemory> {
+    let parts = plan.parted(alloc, catalog)?;
+    match parts.new.as_slice() {
+        [new] => Ok(new.0 == 261 && parts.others.len() == 1),
+        _ => Ok(false),
+    }
+}
+
+// Whether the page is put at the lowest free place.
+fn is_put(alloc: Global, catalog: &Catalog, plan: &Draft) -> Result<bool, OutOfMemory> {
+    let Some(there) = plan.pages.get(261) else {
+        return Ok(false);
+    };
+    Ok(
+        there.bytes().starts_with(b"new\0")
+            && has_places(plan, &[259, 260, 0, 261])
+            && catalog.places.is_taken(261)
+            && !catalog.places.is_taken(262)
+            && has_two_images(alloc, plan)?
+            && has_new_image(alloc, plan, catalog)?,
+    )
+}
+
+// Whether a plan for the change, of the volume and what was read of it, is as wanted.
+fn plans(
     alloc: Global,
     pages: &mut MemPages,
     change: &Change,
-) -> Result<(Draft, Catalog), VaultFault>
-    requires { change.now.puts ≡ [] }
+    wanted: Wanted,
+) -> Result<bool, VaultFault>
+    requires { fit_keys change.now.puts ≡ true }
 {
     let mut catalog = read_volume(alloc, pages, HOME)?;
     let plan = plan_change(alloc, pages, &mut catalog, change)?;
-    Ok((plan, catalog))
+    match wanted {
+        Wanted::Dropped => Ok(is_dropped(&catalog, &plan)),
+        Wanted::Cut => is_cut(alloc, pages, &catalog, &plan),
+        Wanted::Put => match is_put(alloc, &catalog, &plan) {
+            Ok(is) => Ok(is),
+            Err(OutOfMemory) => Err(VaultFault::OutOfMemory),
+        },
+    }
 }
 
 #[test]
 fn drops_a_file(rt: HostRuntime) -> Result<(), Fail> {
     let alloc = rt.alloc();
-    let mut pages = volume(alloc).ok().ok_or("memory")?.ok_or("a volume")?;
-    let change = change_of(alloc, &[FILE], &[]).ok().ok_or("memory")?;
-    let (plan, catalog) = plan_of(alloc, &mut pages, &change).ok().ok_or("a plan")?;
-    crosses(&plan);
-    crosses(&catalog);
-    assert!(rt; catalog.files.get(FILE).is_none());
-    assert!(rt; !catalog.slots.is_taken(0));
-    for place in [257, 258, 259, 260] {
-        assert!(rt; !catalog.places.is_taken(place), "place {place}");
-    }
-    let entries = plan.pages.get(1).ok_or("a page of the directory")?;
-    assert!(rt; entries.bytes() == Page::zero().bytes());
-    assert!(rt; plan.pages.get(257).is_none());
+    let mut pages = volume(alloc)?;
+    let change = change_of(alloc, &[FILE], &[])?;
+    assert!(rt; plans(alloc, &mut pages, &change, Wanted::Dropped)?);
     Ok(())
 }
 
 #[test]
 fn cuts_a_file(rt: HostRuntime) -> Result<(), Fail> {
     let alloc = rt.alloc();
-    let mut pages = volume(alloc).ok().ok_or("memory")?.ok_or("a volume")?;
-    let change = change_of(alloc, &[], &[(FILE, 1)]).ok().ok_or("memory")?;
-    let (plan, catalog) = plan_of(alloc, &mut pages, &change).ok().ok_or("a plan")?;
-    assert!(rt; catalog.places.is_taken(259) && !catalog.places.is_taken(260));
-    let index = plan.pages.get(258).ok_or("an index page")?;
-    let places = decode_index(index.bytes()).ok_or("an index page")?;
-    assert_eq!(rt; (places.at(0), places.at(1)), (259, 0));
-    apply(&mut pages, &plan).ok().ok_or("memory")?;
-    let again = read_volume(alloc, &mut pages, HOME).ok().ok_or("a volume")?;
-    assert!(rt; again.files.get(FILE) == catalog.files.get(FILE));
-    assert!(rt; !again.places.is_taken(260));
+    let mut pages = volume(alloc)?;
+    let change = change_of(alloc, &[], &[(FILE, 1)])?;
+    assert!(rt; plans(alloc, &mut pages, &change, Wanted::Cut)?);
     Ok(())
 }
 
@@ -474,60 +635,29 @@ fn is_taken_back(alloc: Global, pages: &mut MemPages, change: &Change) -> Result
 #[test]
 fn takes_a_plan_back(rt: HostRuntime) -> Result<(), Fail> {
     let alloc = rt.alloc();
-    let mut pages = volume(alloc).ok().ok_or("memory")?.ok_or("a volume")?;
-    let change = change_of(alloc, &[FILE], &[]).ok().ok_or("memory")?;
-    let back = is_taken_back(alloc, &mut pages, &change)
-        .ok()
-        .ok_or("a plan")?;
-    assert!(rt; back);
+    let mut pages = volume(alloc)?;
+    let change = change_of(alloc, &[FILE], &[])?;
+    assert!(rt; is_taken_back(alloc, &mut pages, &change)?);
     Ok(())
 }
 
-// A plan that puts a page of the file.
-fn plan_page(
-    alloc: Global,
-    pages: &mut MemPages,
-    number: u32,
-    page: PageRef,
-) -> Result<(Draft, Catalog), VaultFault>
-    requires { number < 4096 }
+// A page of the file is put.
+fn put_of(alloc: Global, page: PageRef) -> Result<Change, OutOfMemory>
+    ensures { IfOk result (λ change. fit_keys change.puts ≡ true) }
 {
-    let mut puts = Vec::new(alloc);
-    if puts
-        .push((Key::PageOf(FILE, number), Cell::Page(page)))
-        .is_err()
-    {
-        return Err(VaultFault::OutOfMemory);
-    }
-    let change = Change {
+    Ok(Change {
         drops: Sequence::new(Vec::new(alloc)),
         cuts: Sequence::new(Vec::new(alloc)),
-        puts: Sequence::new(puts),
-    };
-    let mut catalog = read_volume(alloc, pages, HOME)?;
-    let plan = plan_change(alloc, pages, &mut catalog, &change)?;
-    Ok((plan, catalog))
+        puts: Sequence::new(vec![in alloc; (Key::PageOf(FILE, 3), Cell::Page(page))]?),
+    })
 }
 
 #[test]
 fn puts_a_page_at_the_lowest_free_place(rt: HostRuntime) -> Result<(), Fail> {
     let alloc = rt.alloc();
-    let mut pages = volume(alloc).ok().ok_or("memory")?.ok_or("a volume")?;
-    let page = PageRef::new(alloc, Page::beginning(b"new"))
-        .ok()
-        .ok_or("memory")?;
-    let (plan, catalog) = plan_page(alloc, &mut pages, 3, page).ok().ok_or("a plan")?;
-    let there = plan.pages.get(261).ok_or("a page")?;
-    assert!(rt; there.bytes().starts_with(b"new\0"));
-    let index = plan.pages.get(258).ok_or("an index page")?;
-    let places = decode_index(index.bytes()).ok_or("an index page")?;
-    assert_eq!(rt; (places.at(1), places.at(2), places.at(3)), (260, 0, 261));
-    assert!(rt; catalog.places.is_taken(261) && !catalog.places.is_taken(262));
-    let images = plan.pages.images(alloc).ok().ok_or("memory")?;
-    assert_eq!(rt; images.len(), 2);
-    let parts = plan.parted(alloc, &catalog).ok().ok_or("memory")?;
-    assert_eq!(rt; (parts.new.len(), parts.others.len()), (1, 1));
-    let new = parts.new.first().ok_or("a new page")?;
-    assert_eq!(rt; new.0, 261);
+    let mut pages = volume(alloc)?;
+    let page = PageRef::new(alloc, Page::beginning(b"new"))?;
+    let change = put_of(alloc, page)?;
+    assert!(rt; plans(alloc, &mut pages, &change, Wanted::Put)?);
     Ok(())
 }

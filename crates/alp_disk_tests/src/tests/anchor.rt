@@ -5,7 +5,6 @@ ghost use Rattle.alp_base.specs.Crashes.{Only};
 use alp_anchor::{Anchor, AnchorFault, anchor_page, read_anchor, switch_anchor};
 use alp_base::{Halt, Page, Sizes};
 use alp_disk::{Disk, Fuse, MemDisk, write_synced};
-use std::alloc::Global;
 use std::test::Fail;
 
 /// The page of an anchor of a disk of 642 pages of server 2 of 3.
@@ -63,38 +62,50 @@ fn look<D: Disk>(disk: &mut D) -> Result<(u32, bool), AnchorFault> {
 }
 
 /// What is found where a switch is stopped after so many calls, and the power goes off.
-fn look_after_stop(alloc: Global, calls: u32, pick: u64) -> Result<Option<(u32, bool)>, Fail> {
-    let mut disk = Fuse::new(MemDisk::new(alloc, 642, Vec::new(alloc))?);
-    if prepare(&mut disk).is_err() || disk.sync().is_err() || disk.pages() < 2 {
-        return Ok(None);
+fn look_after_stop<D: Disk>(disk: D, calls: u32, pick: u64) -> Result<(u32, bool), AnchorFault> {
+    let mut disk = disk;
+    prepare(&mut disk)?;
+    disk.sync()?;
+    if disk.pages() < 2 {
+        return Err(AnchorFault::Halted(Halt::Stopped));
     }
     disk.stop_after(Some(calls));
-    let _ = switch_over(&mut disk);
-    Ok(look(&mut disk.power_off(pick)).ok())
+    let _switched = switch_over(&mut disk);
+    let mut back = disk.power_off(pick);
+    look(&mut back)
 }
 
 #[test]
 fn a_crash_leaves_the_old_anchor_or_the_new(rt: HostRuntime) -> Result<(), Fail> {
+    let alloc = rt.alloc();
     let (mut old, mut new, mut torn) = (false, false, false);
     for calls in 0..8 {
         for pick in 0..6 {
-            let found = look_after_stop(rt.alloc(), calls, pick)?;
-            let generation = found.map(|f| f.0);
-            assert!(rt;
-                generation == Some(0) || generation == Some(1),
-                "{calls} {pick}"
-            );
-            old = old || generation == Some(0);
-            new = new || generation == Some(1);
-            torn = torn || found.is_some_and(|f| f.1);
+            let disk = Fuse::new(MemDisk::new(alloc, 642, Vec::new(alloc))?);
+            let (generation, is_torn) = look_after_stop(disk, calls, pick)?;
+            assert!(rt; generation < 2, "{calls} {pick}");
+            old = old || generation == 0;
+            new = new || generation == 1;
+            torn = torn || is_torn;
         }
     }
-    assert_eq!(rt; (old, new, torn), (true, true, true));
+    assert!(rt; old && new && torn);
     Ok(())
 }
 
+/// How the page of an anchor begins, before its zeros.
+const FRONT: [u8; 24] = [
+    0xA5, 0x41, 0x4C, 0x50, 0x49, 0x4E, 0x45, 0x31, 0, 0, 0, 1, 0, 1, 1, 0, 8, 0, 0, 0, 0x40, 0, 0,
+    0,
+];
+
+fn is_spelled(page: &Page) -> bool {
+    let (front, rest) = page.bytes().split_at(24);
+    front == FRONT.as_slice() && rest == [0; 488].as_slice()
+}
+
 #[test]
-fn an_anchor_has_one_spelling(rt: HostRuntime) -> Result<(), Fail> {
+fn an_anchor_has_one_spelling(rt: HostRuntime) {
     let page = anchor_page(&Anchor {
         page: 0,
         generation: 1,
@@ -106,13 +117,7 @@ fn an_anchor_has_one_spelling(rt: HostRuntime) -> Result<(), Fail> {
             area: 2048,
         },
     });
-    let front = [
-        0xA5, 0x41, 0x4C, 0x50, 0x49, 0x4E, 0x45, 0x31, 0, 0, 0, 1, 0, 1, 1, 0, 8, 0, 0, 0, 0x40,
-        0, 0, 0,
-    ];
-    assert_eq!(rt; &page.bytes()[..24], front.as_slice());
-    assert!(rt; page.bytes()[24..].iter().all(|b| *b == 0));
-    Ok(())
+    assert!(rt; is_spelled(&page));
 }
 
 fn put<D: Disk>(disk: &mut D, at: u32, page: &Page) -> Result<(), Halt> {
@@ -129,24 +134,24 @@ fn read_as<D: Disk>(disk: &mut D, server: u8) -> Result<u32, AnchorFault> {
     Ok(read_anchor(disk, server, 3)?.generation)
 }
 
+const NO_VOLUME: AnchorFault = AnchorFault::NotAVolume { found: [0; 24] };
+
+const DAMAGED: AnchorFault = AnchorFault::Damaged { place: 1 };
+
+/// Whether anchors are told apart by their server, and two of one server by their generations.
+fn are_told_apart<D: Disk>(disk: &mut D) -> bool {
+    read_as(disk, 2) == Err(NO_VOLUME)
+        && put(disk, 1, &page_of(7, 0)) == Ok(())
+        && read_as(disk, 2) == Ok(7)
+        && read_as(disk, 1) == Err(NO_VOLUME)
+        && put(disk, 0, &page_of(7, 1)) == Ok(())
+        && read_as(disk, 2) == Err(DAMAGED)
+}
+
 #[test]
 fn a_disk_with_no_anchor_of_the_server_is_no_volume(rt: HostRuntime) -> Result<(), Fail> {
     let alloc = rt.alloc();
     let mut disk = MemDisk::new(alloc, 642, Vec::new(alloc))?;
-    assert_eq!(rt;
-        read_as(&mut disk, 2),
-        Err(AnchorFault::NotAVolume { found: [0; 24] })
-    );
-    assert_eq!(rt; put(&mut disk, 1, &page_of(7, 0)), Ok(()));
-    assert_eq!(rt; read_as(&mut disk, 2), Ok(7));
-    assert_eq!(rt;
-        read_as(&mut disk, 1),
-        Err(AnchorFault::NotAVolume { found: [0; 24] })
-    );
-    assert_eq!(rt; put(&mut disk, 0, &page_of(7, 1)), Ok(()));
-    assert_eq!(rt;
-        read_as(&mut disk, 2),
-        Err(AnchorFault::Damaged { place: 1 })
-    );
+    assert!(rt; are_told_apart(&mut disk));
     Ok(())
 }

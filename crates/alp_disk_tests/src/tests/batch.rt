@@ -1,5 +1,5 @@
 //! Tests of alp_batch.
-use alp_base::{Bytes, NoteChange, Page, PageRef};
+use alp_base::{Bytes, NoteChange, OutOfMemory, Page};
 use alp_batch::*;
 use std::alloc::Global;
 use std::test::*;
@@ -20,7 +20,7 @@ const LOW_BYTE: usize = 5;
 
 const FIRST_NAME: usize = 1038;
 
-fn add(out: &mut Vec<u8>, bytes: &[u8], zeros: usize) -> Result<(), Fail> {
+fn add(out: &mut Vec<u8>, bytes: &[u8], zeros: usize) -> Result<(), OutOfMemory> {
     out.extend_from_slice(bytes)?;
     for _ in 0..zeros {
         out.push(0)?;
@@ -28,7 +28,7 @@ fn add(out: &mut Vec<u8>, bytes: &[u8], zeros: usize) -> Result<(), Fail> {
     Ok(())
 }
 
-fn dump(alloc: Global) -> Result<Vec<u8>, Fail> {
+fn dump(alloc: Global) -> Result<Vec<u8>, OutOfMemory> {
     let mut out = Vec::new(alloc);
     add(&mut out, FIRST_IMAGE, 511)?;
     add(&mut out, SECOND_IMAGE, 511)?;
@@ -36,64 +36,96 @@ fn dump(alloc: Global) -> Result<Vec<u8>, Fail> {
     Ok(out)
 }
 
-fn image(alloc: Global, at: u32, first: u8) -> Result<PageImage, Fail> {
-    let page = PageRef::new(alloc, Page::beginning(&[first]))?;
-    Ok(PageImage { at, page })
+fn is_image(image: &PageImage, at: u32, first: u8) -> bool {
+    image.at == at && image.page.bytes() == Page::beginning(&[first]).bytes()
 }
 
-fn text(alloc: Global, bytes: &[u8]) -> Result<Bytes, Fail> {
-    let copy = Vec::from_slice(alloc, bytes)?;
-    Ok(Bytes::new(copy))
+fn are_images(images: &[PageImage]) -> bool {
+    match images {
+        [first, second] => is_image(first, 300, 0x41) && is_image(second, 4097, 0x42),
+        _ => false,
+    }
 }
 
-fn changed(alloc: Global, place: usize, byte: u8) -> Result<Option<Batch>, Fail> {
+fn is_value(value: &Option<Bytes>, wanted: &[u8]) -> bool {
+    match value {
+        Some(value) => value.as_slice() == wanted,
+        None => false,
+    }
+}
+
+fn are_notes(notes: &[NoteChange]) -> bool {
+    match notes {
+        [clock, decision] => {
+            clock.name.as_slice() == b"C".as_slice()
+                && is_value(&clock.value, &[0, 0, 0, 3, 0, 0, 0, 0, 0, 0, 0, 9])
+                && decision.name.as_slice() == b"DA".as_slice()
+                && decision.value.is_none()
+        }
+        _ => false,
+    }
+}
+
+// Whether the dump is read as the images, and they are spelled so.
+fn is_spelled(alloc: Global) -> Result<bool, OutOfMemory> {
+    let bytes = dump(alloc)?;
+    match decode(alloc, bytes.as_slice())? {
+        Some(batch) => {
+            let again = encode(alloc, &batch)?;
+            Ok(are_images(batch.images.as_slice()) && again.as_slice() == bytes.as_slice())
+        }
+        None => Ok(false),
+    }
+}
+
+// Whether the dump is read as the notes.
+fn has_notes(alloc: Global) -> Result<bool, OutOfMemory> {
+    let bytes = dump(alloc)?;
+    match decode(alloc, bytes.as_slice())? {
+        Some(batch) => Ok(are_notes(batch.notes.as_slice())),
+        None => Ok(false),
+    }
+}
+
+// Whether the dump with that byte at a place is read as a batch.
+fn is_batch_with(alloc: Global, place: usize, byte: u8) -> Result<bool, OutOfMemory> {
     let mut bytes = dump(alloc)?;
-    let found = bytes.get_mut(place).ok_or("a place")?;
-    *found = byte;
-    let found = decode(alloc, bytes.as_slice())?;
-    Ok(found)
+    if let Some(found) = bytes.get_mut(place) {
+        *found = byte;
+    }
+    match decode(alloc, bytes.as_slice())? {
+        Some(_batch) => Ok(true),
+        None => Ok(false),
+    }
 }
 
 #[test]
 fn a_batch_is_its_dump(rt: HostRuntime) -> Result<(), Fail> {
-    let alloc = rt.alloc();
-    let bytes = dump(alloc)?;
-    let found = decode(alloc, bytes.as_slice())?;
-    let batch = found.ok_or("a batch")?;
-    let wanted = [image(alloc, 300, 0x41)?, image(alloc, 4097, 0x42)?];
-    assert!(rt; batch.images.as_slice() == wanted.as_slice());
-    let again = encode(alloc, &batch)?;
-    assert!(rt; again.as_slice() == bytes.as_slice());
+    assert!(rt; is_spelled(rt.alloc())?);
     Ok(())
 }
 
 #[test]
 fn notes_end_or_get_a_value(rt: HostRuntime) -> Result<(), Fail> {
-    let alloc = rt.alloc();
-    let bytes = dump(alloc)?;
-    let found = decode(alloc, bytes.as_slice())?;
-    let batch = found.ok_or("a batch")?;
-    let clock = NoteChange {
-        name: text(alloc, b"C")?,
-        value: Some(text(alloc, &[0, 0, 0, 3, 0, 0, 0, 0, 0, 0, 0, 9])?),
-    };
-    let decision = NoteChange {
-        name: text(alloc, b"DA")?,
-        value: None,
-    };
-    let wanted = [clock, decision];
-    assert!(rt; batch.notes.as_slice() == wanted.as_slice());
+    assert!(rt; has_notes(rt.alloc())?);
     Ok(())
 }
 
+// A place, the byte that is put there, and whether that is a batch.
+const CHANGED: &[(usize, u8, bool)] = &[
+    (LOW_BYTE, 0x2d, true),
+    (HIGH_BYTE, 0x10, false),
+    (FIRST_NAME, 0x45, false),
+    (1, 1, false),
+    (1, 3, false),
+];
+
 #[test]
 fn what_is_outside_is_no_batch(rt: HostRuntime) -> Result<(), Fail> {
-    let alloc = rt.alloc();
-    assert!(rt; changed(alloc, LOW_BYTE, 0x2d)?.is_some());
-    assert!(rt; changed(alloc, HIGH_BYTE, 0x10)?.is_none());
-    assert!(rt; changed(alloc, FIRST_NAME, 0x45)?.is_none());
-    assert!(rt; changed(alloc, 1, 1)?.is_none());
-    assert!(rt; changed(alloc, 1, 3)?.is_none());
+    for (place, byte, is_batch) in CHANGED {
+        let found = is_batch_with(rt.alloc(), *place, *byte)?;
+        assert!(rt; found == *is_batch, "{place} {byte}");
+    }
     Ok(())
 }
 

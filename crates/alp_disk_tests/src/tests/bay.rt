@@ -1,5 +1,5 @@
 //! A bay hands out what it was given.
-ghost use Rattle.std.specs.Prelude.{◌≡◌};
+ghost use Rattle.std.specs.Prelude.{◌≡◌, ◌≤◌};
 ghost use Rattle.alp_base.specs.declared.allowance.Allowance.TheVariants.{Free};
 
 use alp_base::{Halt, Page};
@@ -35,27 +35,34 @@ fn last_of<D: Disk>(disk: &mut D) -> Result<u8, Halt> {
 }
 
 // What a disk of any bay gives that was written, given back and taken again, and how many pages it has then.
-fn taken_again<B: Bay>(bay: &mut B) -> Result<(u8, u32), Fail> {
-    let mut disk = bay.take(1, 4).ok().ok_or("a disk")?;
-    write_last(&mut disk, 7).ok().ok_or("a write")?;
+fn taken_again<B: Bay>(bay: &mut B) -> Result<(u8, u32), BayFault> {
+    let mut disk = bay.take(1, 4)?;
+    if write_last(&mut disk, 7).is_err() {
+        return Err(BayFault::Failed);
+    }
     if disk.pages() < 2 {
-        return Err("pages".into());
+        return Err(BayFault::Failed);
     }
     bay.give(1, disk);
-    let mut again = bay.take(1, 9).ok().ok_or("the disk again")?;
-    let byte = last_of(&mut again).ok().ok_or("a read")?;
-    Ok((byte, again.pages()))
+    let mut again = bay.take(1, 9)?;
+    match last_of(&mut again) {
+        Ok(byte) => Ok((byte, again.pages())),
+        Err(_halt) => Err(BayFault::Failed),
+    }
+}
+
+// Whether a disk of a bay without a folder stands there again, beside another one.
+fn stands_there<B: Bay>(bay: &mut B) -> Result<bool, BayFault> {
+    bay.choose(None)?;
+    let (byte, pages) = taken_again(bay)?;
+    let other = bay.take(2, 8)?;
+    Ok(byte == 7 && pages == 4 && other.pages() == 8)
 }
 
 #[test]
 fn a_disk_that_was_given_back_stands_there(rt: HostRuntime) -> Result<(), Fail> {
-    let mut bay = MemBay::new(rt.alloc()).ok().ok_or("memory")?;
-    bay.choose(None).ok().ok_or("choice")?;
-    let (byte, pages) = taken_again(&mut bay)?;
-    assert_eq!(rt; byte, 7);
-    assert_eq!(rt; pages, 4);
-    let other = bay.take(2, 8).ok().ok_or("another disk")?;
-    assert_eq!(rt; other.pages(), 8);
+    let mut bay = MemBay::new(rt.alloc())?;
+    assert!(rt; stands_there(&mut bay)?);
     Ok(())
 }
 
@@ -68,10 +75,32 @@ fn new_folder(rt: &HostRuntime) -> Result<PathBuf, Fail> {
 }
 
 // A bay of that folder, where it can be chosen.
-fn bay_of(rt: HostRuntime, folder: &str) -> Result<HostBay<HostRuntime>, Fail> {
-    let mut bay = HostBay::new(rt.alloc(), rt).ok().ok_or("memory")?;
-    bay.choose(Some(folder)).ok().ok_or("choice")?;
+fn bay_of(rt: HostRuntime, folder: &str) -> Result<HostBay<HostRuntime>, BayFault> {
+    let mut bay = HostBay::new(rt.alloc(), rt)?;
+    bay.choose(Some(folder))?;
     Ok(bay)
+}
+
+// Whether a bay gives no disk of that many pages.
+fn is_refused<B: Bay>(bay: &mut B, server: u8) -> bool
+    requires { (1 ≤ server) × (server ≤ 8) }
+{
+    match bay.take(server, 4) {
+        Ok(_disk) => false,
+        Err(fault) => fault == BayFault::Failed,
+    }
+}
+
+// Whether the second bay meets what the first one synced, and the first one is refused the disk while the second has it.
+fn is_shared<B: Bay>(first: &mut B, second: &mut B) -> Result<bool, BayFault> {
+    let mut disk = second.take(1, 9)?;
+    let byte = last_of(&mut disk);
+    Ok(byte == Ok(7) && is_refused(first, 1))
+}
+
+fn gives_third<B: Bay>(bay: &mut B) -> Result<bool, BayFault> {
+    let third = bay.take(3, 5)?;
+    Ok(third.pages() == 5)
 }
 
 #[test]
@@ -80,31 +109,34 @@ fn a_folder_keeps_its_volumes(rt: HostRuntime) -> Result<(), Fail> {
     let folder = path.as_path().to_str().ok_or("a name")?;
     let mut bay = bay_of(rt, folder)?;
     let again = taken_again(&mut bay)?;
-    // Another bay meets what was synced there; while it has the disk, no other bay does.
     let mut second = bay_of(rt, folder)?;
-    let mut disk = second.take(1, 9).ok().ok_or("the disk again")?;
-    let byte = last_of(&mut disk).ok().ok_or("a read")?;
-    let refused = bay.take(1, 4).err();
-    drop(disk);
-    let third = bay.take(3, 5).ok().ok_or("a disk of another server")?;
+    let shared = is_shared(&mut bay, &mut second)?;
+    let third = gives_third(&mut bay)?;
     let odd = File::create(&rt, path.join(rt.alloc(), "server2.vol")?.as_path())?;
     odd.set_len(1025)?;
-    let uneven = bay.take(2, 4).err();
+    let uneven = is_refused(&mut bay, 2);
     fs::remove_dir_all(&rt, path.as_path())?;
-    assert_eq!(rt; again, (7, 4));
-    assert_eq!(rt; byte, 7);
-    assert_eq!(rt; refused, Some(BayFault::Failed));
-    assert_eq!(rt; third.pages(), 5);
-    assert_eq!(rt; uneven, Some(BayFault::Failed));
+    assert!(rt; again == (7, 4) && shared && third && uneven);
     Ok(())
+}
+
+// No name, a file, and a folder that is not there.
+const OTHERS: &[&str] = &["", "/dev/null", "/no/such/folder"];
+
+// Whether a bay refuses each of these.
+fn refuses_others<B: Bay>(bay: &mut B) -> bool {
+    for name in OTHERS {
+        if bay.choose(Some(*name)) != Err(BayFault::Failed) {
+            return false;
+        }
+    }
+    true
 }
 
 #[test]
 fn no_other_name_is_a_folder(rt: HostRuntime) -> Result<(), Fail> {
-    let mut bay = HostBay::new(rt.alloc(), rt).ok().ok_or("memory")?;
-    assert_eq!(rt; bay.choose(Some("")), Err(BayFault::Failed));
-    assert_eq!(rt; bay.choose(Some("/dev/null")), Err(BayFault::Failed));
-    assert_eq!(rt; bay.choose(Some("/no/such/folder")), Err(BayFault::Failed));
-    assert_eq!(rt; taken_again(&mut bay)?, (7, 4));
+    let mut bay = HostBay::new(rt.alloc(), rt)?;
+    assert!(rt; refuses_others(&mut bay));
+    assert!(rt; taken_again(&mut bay)? == (7, 4));
     Ok(())
 }

@@ -1,9 +1,9 @@
 //! Tests of alp_format.
-ghost use Rattle.std.specs.Prelude.{◌≡◌, ◌<◌, IsTrue, IfOk, false};
+ghost use Rattle.std.specs.Prelude.{◌≡◌, ◌<◌, IsTrue, IfOk, IfSome, false};
 ghost use Rattle.alp_batch.specs.Batch.{IsBatch};
 ghost use Rattle.alp_wal.specs.Wal.{disk_of, is_dead, IsLog, IsKnown};
 
-use alp_base::{Bytes, Page, Sizes};
+use alp_base::{Bytes, OutOfMemory, Page, Sizes};
 use alp_batch::{Batch, decode};
 use alp_disk::{Disk, FileDisk, Fuse, MemDisk};
 use alp_format::format;
@@ -45,8 +45,8 @@ impl Change {
     }
 
     /// The change as a batch, by way of its spelling.
-    fn batch(&self, alloc: Global) -> Result<Batch, Fail>
-        ensures { IfOk result IsBatch }
+    fn batch(&self, alloc: Global) -> Result<Option<Batch>, OutOfMemory>
+        ensures { IfOk result (λ found. IfSome found IsBatch) }
     {
         let mut bytes = Vec::new(alloc);
         bytes.extend_from_slice(&[0, self.count])?;
@@ -63,10 +63,7 @@ impl Change {
         for _ in 0..self.note {
             bytes.push(self.byte)?;
         }
-        match decode(alloc, bytes.as_slice())? {
-            Some(batch) => Ok(batch),
-            None => Err("no batch".into()),
-        }
+        decode(alloc, bytes.as_slice())
     }
 }
 
@@ -97,7 +94,7 @@ impl Plain {
 }
 
 /// Commits a batch where it suits, and gives the fault.
-fn put<D: Disk>(wal: &mut Wal<D>, batch: &Batch) -> Result<Option<WalFault>, Fail>
+fn put<D: Disk>(wal: &mut Wal<D>, batch: &Batch) -> Option<Result<(), WalFault>>
     requires log { IsLog (D.size (disk_of wal.old)) wal.old }
     requires known { IsTrue (D.tells (disk_of wal.old)) → is_dead wal.old ≡ false → IsKnown (D.size (disk_of wal.old)) (D.seen (disk_of wal.old)) (D.may_leave (disk_of wal.old)) wal.old }
     requires batch { IsBatch batch.now }
@@ -107,144 +104,204 @@ fn put<D: Disk>(wal: &mut Wal<D>, batch: &Batch) -> Result<Option<WalFault>, Fai
     let live = wal.note_names().len();
     let changes = batch.notes.as_slice().len();
     if live > 65000 || changes > 500 {
-        return Err("too many notes".into());
+        return None;
     }
     if !all_below(batch.images.as_slice(), wal.sizes().home) {
-        return Err("no such page".into());
+        return None;
     }
-    match wal.commit(batch) {
-        Ok(()) => Ok(None),
-        Err(fault) => Ok(Some(fault)),
+    Some(wal.commit(batch))
+}
+
+/// Commits a change.
+fn make<D: Disk>(alloc: Global, wal: &mut Wal<D>, change: &Change) -> Option<Result<(), WalFault>>
+    requires log { IsLog (D.size (disk_of wal.old)) wal.old }
+    requires known { IsTrue (D.tells (disk_of wal.old)) → is_dead wal.old ≡ false → IsKnown (D.size (disk_of wal.old)) (D.seen (disk_of wal.old)) (D.may_leave (disk_of wal.old)) wal.old }
+    ensures log { IsLog (D.size (disk_of wal.new)) wal.new }
+    ensures known { IsTrue (D.tells (disk_of wal.new)) → is_dead wal.new ≡ false → IsKnown (D.size (disk_of wal.new)) (D.seen (disk_of wal.new)) (D.may_leave (disk_of wal.new)) wal.new }
+{
+    match change.batch(alloc) {
+        Ok(Some(batch)) => put(wal, &batch),
+        _ => None,
     }
 }
 
+fn is_made<D: Disk>(alloc: Global, wal: &mut Wal<D>, change: &Change) -> bool
+    requires log { IsLog (D.size (disk_of wal.old)) wal.old }
+    requires known { IsTrue (D.tells (disk_of wal.old)) → is_dead wal.old ≡ false → IsKnown (D.size (disk_of wal.old)) (D.seen (disk_of wal.old)) (D.may_leave (disk_of wal.old)) wal.old }
+    ensures log { IsLog (D.size (disk_of wal.new)) wal.new }
+    ensures known { IsTrue (D.tells (disk_of wal.new)) → is_dead wal.new ≡ false → IsKnown (D.size (disk_of wal.new)) (D.seen (disk_of wal.new)) (D.may_leave (disk_of wal.new)) wal.new }
+{
+    make(alloc, wal, change) == Some(Ok(()))
+}
+
 /// The first byte of a home page.
-fn byte_at<D: Disk>(wal: &mut Wal<D>, at: u8) -> Result<u8, Fail>
+fn byte_at<D: Disk>(wal: &mut Wal<D>, at: u8) -> Option<u8>
     requires log { IsLog (D.size (disk_of wal.old)) wal.old }
     requires known { IsTrue (D.tells (disk_of wal.old)) → is_dead wal.old ≡ false → IsKnown (D.size (disk_of wal.old)) (D.seen (disk_of wal.old)) (D.may_leave (disk_of wal.old)) wal.old }
     ensures log { IsLog (D.size (disk_of wal.new)) wal.new }
     ensures known { IsTrue (D.tells (disk_of wal.new)) → is_dead wal.new ≡ false → IsKnown (D.size (disk_of wal.new)) (D.seen (disk_of wal.new)) (D.may_leave (disk_of wal.new)) wal.new }
 {
     if wal.sizes().home != SIZES.home {
-        return Err("sizes".into());
+        return None;
     }
     let mut page = Page::zero();
     if wal.read_page(at as u32, &mut page).is_err() {
-        return Err("a read".into());
+        return None;
     }
-    Ok(page.bytes()[0])
+    Some(page.bytes()[0])
 }
 
-/// The length of the note `C`.
-fn note_length<D: Disk>(alloc: Global, wal: &Wal<D>) -> Result<usize, Fail> {
-    let name = Bytes::new(Vec::from_slice(alloc, &[0x43])?);
+/// Whether the note `C` has that length, 0 where it is not there.
+fn has_note<D: Disk>(alloc: Global, wal: &Wal<D>, length: u16) -> bool {
+    let Ok(letter) = Vec::from_slice(alloc, &[0x43]) else {
+        return false;
+    };
+    let name = Bytes::new(letter);
     match wal.note(&name) {
-        Some(value) => Ok(value.as_slice().len()),
-        None => Ok(0),
+        Some(value) => value.as_slice().len() == length as usize,
+        None => length == 0,
     }
 }
 
 /// Whether the log holds just this.
-fn holds<D: Disk>(alloc: Global, wal: &mut Wal<D>, plain: &Plain) -> Result<bool, Fail>
+fn holds<D: Disk>(alloc: Global, wal: &mut Wal<D>, plain: &Plain) -> bool
     requires log { IsLog (D.size (disk_of wal.old)) wal.old }
     requires known { IsTrue (D.tells (disk_of wal.old)) → is_dead wal.old ≡ false → IsKnown (D.size (disk_of wal.old)) (D.seen (disk_of wal.old)) (D.may_leave (disk_of wal.old)) wal.old }
     ensures log { IsLog (D.size (disk_of wal.new)) wal.new }
     ensures known { IsTrue (D.tells (disk_of wal.new)) → is_dead wal.new ≡ false → IsKnown (D.size (disk_of wal.new)) (D.seen (disk_of wal.new)) (D.may_leave (disk_of wal.new)) wal.new }
 {
     for at in 0..16 {
-        if byte_at(wal, at)? != plain.pages[at as usize] {
-            return Ok(false);
+        if byte_at(wal, at) != Some(plain.pages[at as usize]) {
+            return false;
         }
     }
-    Ok(note_length(alloc, wal)? == plain.note as usize)
+    has_note(alloc, wal, plain.note)
 }
 
-fn fresh<D: Disk>(alloc: Global, disk: D) -> Result<Wal<D>, Fail>
-    ensures log { IfOk result (λ w. IsLog (D.size (disk_of w)) w) }
-    ensures known { IfOk result (λ w. IsTrue (D.tells (disk_of w)) → is_dead w ≡ false → IsKnown (D.size (disk_of w)) (D.seen (disk_of w)) (D.may_leave (disk_of w)) w) }
+fn fresh<D: Disk>(alloc: Global, disk: D) -> Option<Wal<D>>
+    ensures log { IfSome result (λ w. IsLog (D.size (disk_of w)) w) }
+    ensures known { IfSome result (λ w. IsTrue (D.tells (disk_of w)) → is_dead w ≡ false → IsKnown (D.size (disk_of w)) (D.seen (disk_of w)) (D.may_leave (disk_of w)) w) }
 {
     if disk.pages() != PAGES {
-        return Err("pages".into());
+        return None;
     }
     match format(alloc, disk, 1, 1, SIZES) {
-        Ok(wal) => Ok(wal),
-        Err(_) => Err("format".into()),
+        Ok(wal) => Some(wal),
+        Err(_refused) => None,
     }
 }
 
-fn mounted<D: Disk>(alloc: Global, disk: D) -> Result<Wal<D>, Fail>
-    ensures log { IfOk result (λ w. IsLog (D.size (disk_of w)) w) }
-    ensures known { IfOk result (λ w. IsTrue (D.tells (disk_of w)) → is_dead w ≡ false → IsKnown (D.size (disk_of w)) (D.seen (disk_of w)) (D.may_leave (disk_of w)) w) }
+fn mounted<D: Disk>(alloc: Global, disk: D) -> Option<Wal<D>>
+    ensures log { IfSome result (λ w. IsLog (D.size (disk_of w)) w) }
+    ensures known { IfSome result (λ w. IsTrue (D.tells (disk_of w)) → is_dead w ≡ false → IsKnown (D.size (disk_of w)) (D.seen (disk_of w)) (D.may_leave (disk_of w)) w) }
 {
     if disk.pages() < 2 {
-        return Err("pages".into());
+        return None;
     }
     match mount(alloc, disk, 1, 1) {
-        Ok(wal) => Ok(wal),
-        Err(_) => Err("mount".into()),
+        Ok(wal) => Some(wal),
+        Err(_refused) => None,
     }
 }
 
-fn memory(alloc: Global) -> Result<Fuse<MemDisk>, Fail> {
+fn memory(alloc: Global) -> Result<Fuse<MemDisk>, OutOfMemory> {
     Ok(Fuse::new(MemDisk::new(alloc, PAGES, Vec::new(alloc))?))
 }
 
-/// After a checkpoint of no notes, the room, and the answers to batches of 61 and of 60 pages.
-fn fill<D: Disk>(
-    alloc: Global,
-    disk: D,
-) -> Result<(u32, Option<WalFault>, Option<WalFault>, u32), Fail> {
-    let mut wal = fresh(alloc, disk)?;
-    if wal.checkpoint().is_err() {
-        return Err("a checkpoint".into());
+/// Whether after a checkpoint of no notes 62 pages are left, which a batch of 61 pages does not fit, and one of 60 fills.
+fn is_filled<D: Disk>(alloc: Global, wal: &mut Wal<D>) -> bool
+    requires log { IsLog (D.size (disk_of wal.old)) wal.old }
+    requires known { IsTrue (D.tells (disk_of wal.old)) → is_dead wal.old ≡ false → IsKnown (D.size (disk_of wal.old)) (D.seen (disk_of wal.old)) (D.may_leave (disk_of wal.old)) wal.old }
+{
+    wal.checkpoint() == Ok(())
+        && wal.room() == 62
+        && make(alloc, wal, &Change::new(0, 61, 1, 0)) == Some(Err(WalFault::Full))
+        && is_made(alloc, wal, &Change::new(0, 60, 1, 0))
+        && wal.room() == 0
+}
+
+fn fills<D: Disk>(alloc: Global, disk: D) -> bool {
+    match fresh(alloc, disk) {
+        Some(mut wal) => is_filled(alloc, &mut wal),
+        None => false,
     }
-    let room = wal.room();
-    let over = put(&mut wal, &Change::new(0, 61, 1, 0).batch(alloc)?)?;
-    let within = put(&mut wal, &Change::new(0, 60, 1, 0).batch(alloc)?)?;
-    Ok((room, over, within, wal.room()))
 }
 
 #[test]
 fn a_batch_fills_an_area(rt: HostRuntime) -> Result<(), Fail> {
     let alloc = rt.alloc();
-    let found = fill(alloc, memory(alloc)?)?;
-    assert_eq!(rt; found, (62, Some(WalFault::Full), None, 0));
+    assert!(rt; fills(alloc, memory(alloc)?));
     Ok(())
 }
 
 /// Whether the bytes of home page 7 are not all the same.
-fn is_torn<D: Disk>(disk: &mut D) -> Result<bool, Fail> {
+fn is_torn<D: Disk>(disk: &mut D) -> Option<bool> {
     let mut page = Page::zero();
     if disk.pages() != PAGES || disk.read(HOME_PAGE_7, &mut page).is_err() {
-        return Err("a read".into());
+        return None;
     }
     let bytes = page.bytes();
-    Ok(bytes.iter().any(|b| *b != bytes[0]))
+    Some(bytes.iter().any(|b| *b != bytes[0]))
 }
 
-/// Whether the log holds what was before the stopped commit, or after it, and a home page is torn.
+// Two commits that leave one page of the area, and one that makes a checkpoint.
+const FIRST: Change = Change {
+    first: 7,
+    count: 2,
+    byte: 1,
+    note: 15000,
+};
+
+const SECOND: Change = Change {
+    first: 7,
+    count: 1,
+    byte: 2,
+    note: 14000,
+};
+
+const THIRD: Change = Change {
+    first: 8,
+    count: 2,
+    byte: 3,
+    note: 10,
+};
+
+/// Makes the three, the last of which is stopped after so many calls.
+fn stop_third<D: Disk>(alloc: Global, wal: &mut Wal<D>, calls: u32) -> bool
+    requires log { IsLog (D.size (disk_of wal.old)) wal.old }
+    requires known { IsTrue (D.tells (disk_of wal.old)) → is_dead wal.old ≡ false → IsKnown (D.size (disk_of wal.old)) (D.seen (disk_of wal.old)) (D.may_leave (disk_of wal.old)) wal.old }
+{
+    if !is_made(alloc, wal, &FIRST) || !is_made(alloc, wal, &SECOND) {
+        return false;
+    }
+    wal.stop_after(Some(calls));
+    make(alloc, wal, &THIRD).is_some()
+}
+
+/// Whether the disk holds what was before the third, and whether it holds what was after it.
+fn look<D: Disk>(alloc: Global, disk: D) -> Option<(bool, bool)> {
+    let mut wal = mounted(alloc, disk)?;
+    let was = NOTHING.with(&FIRST).with(&SECOND);
+    let before = holds(alloc, &mut wal, &was);
+    let after = holds(alloc, &mut wal, &was.with(&THIRD));
+    Some((before, after))
+}
+
+/// The same for a stop after so many calls and a crash with that pick, and whether a home page is torn then.
 fn look_after_stop<D: Disk>(
     alloc: Global,
     disk: D,
     calls: u32,
     pick: u64,
-) -> Result<(bool, bool, bool), Fail> {
-    // Two commits that leave one page of the area, and one that makes a checkpoint.
-    let first = Change::new(7, 2, 1, 15000);
-    let second = Change::new(7, 1, 2, 14000);
-    let third = Change::new(8, 2, 3, 10);
+) -> Option<(bool, bool, bool)> {
     let mut wal = fresh(alloc, disk)?;
-    put(&mut wal, &first.batch(alloc)?)?;
-    put(&mut wal, &second.batch(alloc)?)?;
-    wal.stop_after(Some(calls));
-    put(&mut wal, &third.batch(alloc)?)?;
+    if !stop_third(alloc, &mut wal, calls) {
+        return None;
+    }
     let mut disk = wal.close().power_off(pick);
     let torn = is_torn(&mut disk)?;
-    let mut wal = mounted(alloc, disk)?;
-    let was = NOTHING.with(&first).with(&second);
-    let before = holds(alloc, &mut wal, &was)?;
-    let after = holds(alloc, &mut wal, &was.with(&third))?;
-    Ok((before, after, torn))
+    let (before, after) = look(alloc, disk)?;
+    Some((before, after, torn))
 }
 
 #[test]
@@ -253,12 +310,13 @@ fn a_crash_leaves_the_batch_or_none(rt: HostRuntime) -> Result<(), Fail> {
     let mut seen = (false, false, false);
     for calls in 0..60 {
         for pick in 0..6 {
-            let (before, after, torn) = look_after_stop(alloc, memory(alloc)?, calls, pick)?;
+            let found = look_after_stop(alloc, memory(alloc)?, calls, pick);
+            let (before, after, torn) = found.ok_or("no log")?;
             assert!(rt; before != after, "{calls} {pick}");
             seen = (seen.0 || before, seen.1 || after, seen.2 || torn);
         }
     }
-    assert_eq!(rt; seen, (true, true, true));
+    assert!(rt; seen.0 && seen.1 && seen.2);
     Ok(())
 }
 
@@ -297,50 +355,64 @@ struct Run {
 
 impl Run {
     /// A mount after a stop, which finds what was before the change or after it.
-    fn recover<D: Disk>(&mut self, alloc: Global, disk: D, next: Plain) -> Result<Wal<D>, Fail>
-        ensures log { IfOk result (λ w. IsLog (D.size (disk_of w)) w) }
-        ensures known { IfOk result (λ w. IsTrue (D.tells (disk_of w)) → is_dead w ≡ false → IsKnown (D.size (disk_of w)) (D.seen (disk_of w)) (D.may_leave (disk_of w)) w) }
+    fn recover<D: Disk>(&mut self, alloc: Global, disk: D, next: Plain) -> Option<Wal<D>>
+        ensures log { IfSome result (λ w. IsLog (D.size (disk_of w)) w) }
+        ensures known { IfSome result (λ w. IsTrue (D.tells (disk_of w)) → is_dead w ≡ false → IsKnown (D.size (disk_of w)) (D.seen (disk_of w)) (D.may_leave (disk_of w)) w) }
     {
         self.stops = self.stops.wrapping_add(1);
         let pick = below(&mut self.random, 6) as u64;
         let mut wal = mounted(alloc, disk.power_off(pick))?;
-        if holds(alloc, &mut wal, &next)? {
+        if holds(alloc, &mut wal, &next) {
             self.plain = next;
         }
-        Ok(wal)
+        Some(wal)
     }
 
-    fn commit<D: Disk>(&mut self, alloc: Global, mut wal: Wal<D>) -> Result<Wal<D>, Fail>
-        requires log { IsLog (D.size (disk_of wal)) wal }
-        requires known { IsTrue (D.tells (disk_of wal)) → is_dead wal ≡ false → IsKnown (D.size (disk_of wal)) (D.seen (disk_of wal)) (D.may_leave (disk_of wal)) wal }
-        ensures log { IfOk result (λ w. IsLog (D.size (disk_of w)) w) }
-        ensures known { IfOk result (λ w. IsTrue (D.tells (disk_of w)) → is_dead w ≡ false → IsKnown (D.size (disk_of w)) (D.seen (disk_of w)) (D.may_leave (disk_of w)) w) }
+    /// A commit that may be stopped. Gives whether it was done, and nothing where there was another fault.
+    fn commit<D: Disk>(&mut self, alloc: Global, wal: &mut Wal<D>, change: &Change) -> Option<bool>
+        requires log { IsLog (D.size (disk_of wal.old)) wal.old }
+        requires known { IsTrue (D.tells (disk_of wal.old)) → is_dead wal.old ≡ false → IsKnown (D.size (disk_of wal.old)) (D.seen (disk_of wal.old)) (D.may_leave (disk_of wal.old)) wal.old }
+        ensures log { IsLog (D.size (disk_of wal.new)) wal.new }
+        ensures known { IsTrue (D.tells (disk_of wal.new)) → is_dead wal.new ≡ false → IsKnown (D.size (disk_of wal.new)) (D.seen (disk_of wal.new)) (D.may_leave (disk_of wal.new)) wal.new }
     {
-        let change = any_change(&mut self.random);
-        let next = self.plain.with(&change);
-        let batch = change.batch(alloc)?;
         let room = wal.room();
         wal.stop_after(any_stop(&mut self.random));
-        match put(&mut wal, &batch)? {
-            None => {
-                self.plain = next;
+        match make(alloc, wal, change)? {
+            Ok(()) => {
+                self.plain = self.plain.with(change);
                 self.checkpoints = self.checkpoints.wrapping_add((wal.room() > room) as u32);
-                Ok(wal)
+                Some(true)
             }
-            Some(WalFault::Stopped) => self.recover(alloc, wal.close(), next),
-            Some(_) => Err("another fault".into()),
+            Err(WalFault::Stopped) => Some(false),
+            Err(_fault) => None,
         }
     }
 
-    fn many<D: Disk>(&mut self, alloc: Global, disk: D, count: u32) -> Result<(), Fail> {
+    fn turn<D: Disk>(&mut self, alloc: Global, wal: Wal<D>) -> Option<Wal<D>>
+        requires log { IsLog (D.size (disk_of wal)) wal }
+        requires known { IsTrue (D.tells (disk_of wal)) → is_dead wal ≡ false → IsKnown (D.size (disk_of wal)) (D.seen (disk_of wal)) (D.may_leave (disk_of wal)) wal }
+        ensures log { IfSome result (λ w. IsLog (D.size (disk_of w)) w) }
+        ensures known { IfSome result (λ w. IsTrue (D.tells (disk_of w)) → is_dead w ≡ false → IsKnown (D.size (disk_of w)) (D.seen (disk_of w)) (D.may_leave (disk_of w)) w) }
+    {
+        let mut wal = wal;
+        let change = any_change(&mut self.random);
+        if self.commit(alloc, &mut wal, &change)? {
+            return Some(wal);
+        }
+        let next = self.plain.with(&change);
+        self.recover(alloc, wal.close(), next)
+    }
+
+    /// Whether after each of so many turns the log holds what the plain map holds.
+    fn many<D: Disk>(&mut self, alloc: Global, disk: D, count: u32) -> Option<bool> {
         let mut wal = fresh(alloc, disk)?;
         for _ in 0..count {
-            wal = self.commit(alloc, wal)?;
-            if !holds(alloc, &mut wal, &self.plain)? {
-                return Err("another state".into());
+            wal = self.turn(alloc, wal)?;
+            if !holds(alloc, &mut wal, &self.plain) {
+                return Some(false);
             }
         }
-        Ok(())
+        Some(true)
     }
 }
 
@@ -353,25 +425,42 @@ fn many_commits_hold_what_a_plain_map_holds(rt: HostRuntime) -> Result<(), Fail>
         checkpoints: 0,
         stops: 0,
     };
-    run.many(alloc, memory(alloc)?, 1000)?;
+    assert!(rt; run.many(alloc, memory(alloc)?, 1000) == Some(true));
     assert!(rt; run.checkpoints > 50, "{}", run.checkpoints);
     assert!(rt; run.stops > 50, "{}", run.stops);
     Ok(())
 }
 
-/// The answers to a commit in which the disk fails and to the next one, and whether the log holds what stood before them.
-fn fail_in_second<D: Disk>(
-    alloc: Global,
-    disk: D,
-) -> Result<(Option<WalFault>, Option<WalFault>, bool), Fail> {
-    let first = Change::new(7, 2, 1, 600);
-    let second = Change::new(7, 1, 2, 600);
-    let mut wal = fresh(alloc, disk)?;
-    put(&mut wal, &first.batch(alloc)?)?;
-    let failed = put(&mut wal, &second.batch(alloc)?)?;
-    let after = put(&mut wal, &second.batch(alloc)?)?;
-    let held = holds(alloc, &mut wal, &NOTHING.with(&first))?;
-    Ok((failed, after, held))
+const BEFORE: Change = Change {
+    first: 7,
+    count: 2,
+    byte: 1,
+    note: 600,
+};
+
+const FAILING: Change = Change {
+    first: 7,
+    count: 1,
+    byte: 2,
+    note: 600,
+};
+
+/// Whether the disk fails in the second commit, the next one finds the log dead, and it holds what stood before them.
+fn dies<D: Disk>(alloc: Global, wal: &mut Wal<D>) -> bool
+    requires log { IsLog (D.size (disk_of wal.old)) wal.old }
+    requires known { IsTrue (D.tells (disk_of wal.old)) → is_dead wal.old ≡ false → IsKnown (D.size (disk_of wal.old)) (D.seen (disk_of wal.old)) (D.may_leave (disk_of wal.old)) wal.old }
+{
+    is_made(alloc, wal, &BEFORE)
+        && make(alloc, wal, &FAILING) == Some(Err(WalFault::Failed))
+        && make(alloc, wal, &FAILING) == Some(Err(WalFault::Dead))
+        && holds(alloc, wal, &NOTHING.with(&BEFORE))
+}
+
+fn fails_in_second<D: Disk>(alloc: Global, disk: D) -> bool {
+    match fresh(alloc, disk) {
+        Some(mut wal) => dies(alloc, &mut wal),
+        None => false,
+    }
 }
 
 #[test]
@@ -379,18 +468,26 @@ fn a_fault_leaves_a_dead_log_that_reads_on(rt: HostRuntime) -> Result<(), Fail> 
     let alloc = rt.alloc();
     // Formatting makes 520 calls, the first commit 9 and the second 8.
     let fails = Vec::from_slice(alloc, &[534])?;
-    let found = fail_in_second(alloc, MemDisk::new(alloc, PAGES, fails)?)?;
-    assert_eq!(rt; found, (Some(WalFault::Failed), Some(WalFault::Dead), true));
+    let disk = MemDisk::new(alloc, PAGES, fails)?;
+    assert!(rt; fails_in_second(alloc, disk));
     Ok(())
 }
 
+const KEPT: Change = Change {
+    first: 7,
+    count: 2,
+    byte: 9,
+    note: 600,
+};
+
 /// Formats a disk, commits a change, and looks for it after a mount.
-fn is_kept<D: Disk>(alloc: Global, disk: D) -> Result<bool, Fail> {
-    let change = Change::new(7, 2, 9, 600);
+fn is_kept<D: Disk>(alloc: Global, disk: D) -> Option<bool> {
     let mut wal = fresh(alloc, disk)?;
-    put(&mut wal, &change.batch(alloc)?)?;
-    let mut wal = mounted(alloc, wal.close())?;
-    holds(alloc, &mut wal, &NOTHING.with(&change))
+    if !is_made(alloc, &mut wal, &KEPT) {
+        return None;
+    }
+    let mut again = mounted(alloc, wal.close())?;
+    Some(holds(alloc, &mut again, &NOTHING.with(&KEPT)))
 }
 
 #[test]
@@ -400,27 +497,29 @@ fn a_file_holds_a_log(rt: HostRuntime) -> Result<(), Fail> {
     let path = env::temp_dir(&rt)?.join(alloc, name.as_str())?;
     let file = File::create_new(&rt, path.as_path())?;
     let sized = file.set_len(512 * PAGES as u64);
-    let kept = is_kept(alloc, FileDisk::new(file, PAGES))?;
+    let kept = is_kept(alloc, FileDisk::new(file, PAGES));
     fs::remove_file(&rt, path.as_path())?;
-    assert!(rt; sized.is_ok());
-    assert!(rt; kept);
+    assert!(rt; sized.is_ok() && kept == Some(true));
     Ok(())
 }
 
 /// What threads may share and hand over.
 fn crosses<T: Send + Sync>(_value: &T) {}
 
-/// A log crosses threads as its disk does.
-fn log_crosses<D: Disk + Send + Sync>(log: &Wal<D>) {
-    crosses(log);
+/// Whether a new log is alive, and has logged no page. It crosses threads as its disk does.
+fn is_new<D: Disk + Send + Sync>(alloc: Global, disk: D) -> bool {
+    match fresh(alloc, disk) {
+        Some(log) => {
+            crosses(&log);
+            !log.is_dead() && log.logged(7).is_none() && log.logged(512).is_none()
+        }
+        None => false,
+    }
 }
 
 #[test]
 fn a_new_log_is_alive_and_crosses_threads(rt: HostRuntime) -> Result<(), Fail> {
     let alloc = rt.alloc();
-    let log = fresh(alloc, memory(alloc)?)?;
-    log_crosses(&log);
-    assert!(rt; !log.is_dead());
-    assert!(rt; log.logged(7).is_none() && log.logged(512).is_none());
+    assert!(rt; is_new(alloc, memory(alloc)?));
     Ok(())
 }

@@ -8,32 +8,46 @@ fn text(alloc: Global, letters: &str) -> Result<Bytes, OutOfMemory> {
     Ok(Bytes::new(letters.as_bytes().to_vec(alloc)?))
 }
 
-fn put(alloc: Global, name: &str, value: &str) -> Result<NoteChange, OutOfMemory> {
-    Ok(NoteChange {
-        name: text(alloc, name)?,
-        value: Some(text(alloc, value)?),
-    })
+// Five names out of order, of which one gets a second value, one ends, and one was never there. No value is an end.
+const CHANGES: [(&str, Option<&str>); 8] = [
+    ("gully", Some("1")),
+    ("arete", Some("2")),
+    ("ridge", Some("3")),
+    ("col", Some("4")),
+    ("arete", Some("5")),
+    ("gully", None),
+    ("tarn", None),
+    ("are", Some("6")),
+];
+
+// The names that are left, in their order, and what stands at each.
+const LEFT: [(&str, &str); 4] = [("are", "6"), ("arete", "5"), ("col", "4"), ("ridge", "3")];
+
+const GONE: [&str; 4] = ["gully", "tarn", "", "zenith"];
+
+fn change_of(alloc: Global, name: &str, value: Option<&str>) -> Result<NoteChange, OutOfMemory> {
+    let name = text(alloc, name)?;
+    let value = match value {
+        Some(letters) => Some(text(alloc, letters)?),
+        None => None,
+    };
+    Ok(NoteChange { name, value })
 }
 
-fn end(alloc: Global, name: &str) -> Result<NoteChange, OutOfMemory> {
-    Ok(NoteChange {
-        name: text(alloc, name)?,
-        value: None,
-    })
-}
-
-/// Five names out of order, of which one gets a second value, one ends, and one was never there.
 fn some_changes(alloc: Global) -> Result<Vec<NoteChange>, OutOfMemory> {
     let mut changes = Vec::new(alloc);
-    changes.push(put(alloc, "gully", "1")?)?;
-    changes.push(put(alloc, "arete", "2")?)?;
-    changes.push(put(alloc, "ridge", "3")?)?;
-    changes.push(put(alloc, "col", "4")?)?;
-    changes.push(put(alloc, "arete", "5")?)?;
-    changes.push(end(alloc, "gully")?)?;
-    changes.push(end(alloc, "tarn")?)?;
-    changes.push(put(alloc, "are", "6")?)?;
+    for (name, value) in CHANGES {
+        changes.push(change_of(alloc, name, value)?)?;
+    }
     Ok(changes)
+}
+
+fn changed(alloc: Global) -> Result<Notes, OutOfMemory> {
+    let mut notes = Notes::new(alloc);
+    let changes = some_changes(alloc)?;
+    let copy = notes.make_room(alloc, changes.as_slice())?;
+    notes.apply(copy);
+    Ok(notes)
 }
 
 fn has(notes: &Notes, name: &Bytes, wanted: &str) -> bool {
@@ -43,25 +57,38 @@ fn has(notes: &Notes, name: &Bytes, wanted: &str) -> bool {
     }
 }
 
+fn are_left(names: &[Bytes]) -> bool {
+    if names.len() != LEFT.len() {
+        return false;
+    }
+    for (name, left) in names.iter().zip(LEFT.iter()) {
+        if name.as_slice() != left.0.as_bytes() {
+            return false;
+        }
+    }
+    true
+}
+
+fn stands(alloc: Global, notes: &Notes, name: &str, wanted: &str) -> Result<bool, OutOfMemory> {
+    let name = text(alloc, name)?;
+    Ok(has(notes, &name, wanted))
+}
+
+fn is_gone(alloc: Global, notes: &Notes, name: &str) -> Result<bool, OutOfMemory> {
+    let name = text(alloc, name)?;
+    Ok(notes.value(&name).is_none())
+}
+
 #[test]
 fn changes_are_made_in_turn(rt: HostRuntime) -> Result<(), Fail> {
     let alloc = rt.alloc();
-    let mut notes = Notes::new(alloc);
-    let changes = some_changes(alloc)?;
-    let copy = notes.make_room(alloc, changes.as_slice())?;
-    notes.apply(copy);
-    let names = [
-        text(alloc, "are")?,
-        text(alloc, "arete")?,
-        text(alloc, "col")?,
-        text(alloc, "ridge")?,
-    ];
-    assert!(rt; notes.names() == names.as_slice());
-    for (name, value) in [("are", "6"), ("arete", "5"), ("col", "4"), ("ridge", "3")] {
-        assert!(rt; has(&notes, &text(alloc, name)?, value), "{name}");
+    let notes = changed(alloc)?;
+    assert!(rt; are_left(notes.names()));
+    for (name, value) in LEFT {
+        assert!(rt; stands(alloc, &notes, name, value)?, "{name}");
     }
-    for name in ["gully", "tarn", "", "zenith"] {
-        assert!(rt; notes.value(&text(alloc, name)?).is_none(), "{name}");
+    for name in GONE {
+        assert!(rt; is_gone(alloc, &notes, name)?, "{name}");
     }
     Ok(())
 }

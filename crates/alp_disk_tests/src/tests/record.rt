@@ -33,68 +33,112 @@ fn length_at<D: Disk>(alloc: Global, disk: &mut D, at: u32) -> Result<Option<usi
     if disk.pages() < AREA.end {
         return Ok(None);
     }
-    let found = read_record(alloc, disk, &AREA, at)?;
-    Ok(found.map(|body| body.as_slice().len()))
+    match read_record(alloc, disk, &AREA, at)? {
+        Some(body) => Ok(Some(body.as_slice().len())),
+        None => Ok(None),
+    }
+}
+
+/// Adds three records, and one between them for which there is no room.
+fn add_three<D: Disk>(disk: &mut D) -> Result<bool, Halt> {
+    let first = add_at(disk, 2, &[9; 600])?;
+    let second = add_at(disk, 5, &[8; 512])?;
+    let long = add_at(disk, 7, &[8; 1025])?;
+    let third = add_at(disk, 7, &[7; 1024])?;
+    Ok(first && second && !long && third)
+}
+
+const LENGTHS: &[(u32, Option<usize>)] = &[
+    (2, Some(600)),
+    (5, Some(512)),
+    (7, Some(1024)),
+    (10, None),
+];
+
+fn have_lengths<D: Disk>(alloc: Global, disk: &mut D) -> Result<bool, RecordFault> {
+    for (at, length) in LENGTHS {
+        if length_at(alloc, disk, *at)? != *length {
+            return Ok(false);
+        }
+    }
+    Ok(true)
 }
 
 #[test]
 fn records_stand_one_behind_the_other(rt: HostRuntime) -> Result<(), Fail> {
     let alloc = rt.alloc();
     let mut disk = MemDisk::new(alloc, 10, Vec::new(alloc))?;
-    assert_eq!(rt; length_at(alloc, &mut disk, 2)?, None);
-    assert_eq!(rt; add_at(&mut disk, 2, &[9; 600])?, true);
-    assert_eq!(rt; add_at(&mut disk, 5, &[8; 512])?, true);
-    assert_eq!(rt; add_at(&mut disk, 7, &[8; 1025])?, false);
-    assert_eq!(rt; add_at(&mut disk, 7, &[7; 1024])?, true);
-    assert_eq!(rt; length_at(alloc, &mut disk, 2)?, Some(600));
-    assert_eq!(rt; length_at(alloc, &mut disk, 5)?, Some(512));
-    assert_eq!(rt; length_at(alloc, &mut disk, 7)?, Some(1024));
-    assert_eq!(rt; length_at(alloc, &mut disk, 10)?, None);
+    assert!(rt; length_at(alloc, &mut disk, 2)?.is_none());
+    assert!(rt; add_three(&mut disk)?);
+    assert!(rt; have_lengths(alloc, &mut disk)?);
     Ok(())
+}
+
+/// Adds a record, and changes a byte of its body.
+fn spoil<D: Disk>(disk: &mut D) -> Result<bool, Halt> {
+    if !add_at(disk, 2, &[9; 600])? || disk.pages() < 5 {
+        return Ok(false);
+    }
+    disk.write(4, 88, &[1])?;
+    Ok(true)
+}
+
+fn is_damaged<D: Disk>(alloc: Global, disk: &mut D) -> bool {
+    length_at(alloc, disk, 2) == Err(RecordFault::Damaged { place: 2 })
 }
 
 #[test]
 fn an_open_gate_with_other_bytes_is_damage(rt: HostRuntime) -> Result<(), Fail> {
     let alloc = rt.alloc();
     let mut disk = MemDisk::new(alloc, 10, Vec::new(alloc))?;
-    assert_eq!(rt; add_at(&mut disk, 2, &[9; 600])?, true);
-    if disk.pages() < 5 {
-        return Err("pages".into());
-    }
-    disk.write(4, 88, &[1])?;
-    assert_eq!(rt;
-        length_at(alloc, &mut disk, 2),
-        Err(RecordFault::Damaged { place: 2 })
-    );
+    assert!(rt; spoil(&mut disk)?);
+    assert!(rt; is_damaged(alloc, &mut disk));
     Ok(())
 }
 
-/// What is found where the adding of a second record is stopped after so many calls, and the power goes off.
-fn look_after_stop(alloc: Global, calls: u32, pick: u64) -> Result<Option<usize>, Fail> {
-    let mut disk = Fuse::new(MemDisk::new(alloc, 10, Vec::new(alloc))?);
-    if !add_at(&mut disk, 2, &[9; 600])? {
-        return Err("the first record".into());
-    }
+/// Adds a record, and a second one that is stopped after so many calls.
+fn stop_second<D: Disk>(disk: &mut D, calls: u32) -> Result<bool, Halt> {
+    let first = add_at(disk, 2, &[9; 600])?;
     disk.stop_after(Some(calls));
-    let _ = add_at(&mut disk, 5, &[8; 700]);
-    let mut disk = disk.power_off(pick);
-    if length_at(alloc, &mut disk, 2)? != Some(600) {
-        return Err("the first record".into());
+    let _ = add_at(disk, 5, &[8; 700]);
+    Ok(first)
+}
+
+/// The length of the second record after that and a crash with that pick, or 0 where there is none. Nothing where the first
+/// record is not there.
+fn look_after_stop<D: Disk>(
+    alloc: Global,
+    disk: D,
+    calls: u32,
+    pick: u64,
+) -> Result<Option<usize>, RecordFault> {
+    let mut disk = disk;
+    if !stop_second(&mut disk, calls)? {
+        return Ok(None);
     }
-    Ok(length_at(alloc, &mut disk, 5)?)
+    let mut back = disk.power_off(pick);
+    if length_at(alloc, &mut back, 2)? != Some(600) {
+        return Ok(None);
+    }
+    match length_at(alloc, &mut back, 5)? {
+        Some(length) => Ok(Some(length)),
+        None => Ok(Some(0)),
+    }
 }
 
 #[test]
 fn a_crash_leaves_the_record_or_none(rt: HostRuntime) -> Result<(), Fail> {
+    let alloc = rt.alloc();
     let (mut before, mut after) = (false, false);
     for calls in 0..10 {
         for pick in 0..6 {
-            let found = look_after_stop(rt.alloc(), calls, pick)?;
-            assert!(rt; found.is_none() || found == Some(700), "{calls} {pick}");
-            before = before || found.is_none();
-            after = after || found.is_some();
+            let disk = Fuse::new(MemDisk::new(alloc, 10, Vec::new(alloc))?);
+            let found = look_after_stop(alloc, disk, calls, pick)?;
+            assert!(rt; found == Some(0) || found == Some(700), "{calls} {pick}");
+            before = before || found == Some(0);
+            after = after || found == Some(700);
         }
     }
-    assert_eq!(rt; (before, after), (true, true));
+    assert!(rt; before && after);
     Ok(())
 }

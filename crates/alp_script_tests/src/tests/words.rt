@@ -1,10 +1,11 @@
 //! What command lines mean, as their language says it.
 
 use alp_words::{Command, WordsFault, read_command};
+use std::alloc::Global;
 use std::test::Fail;
 
 // What a command line asks for.
-#[derive(Clone, Copy, Debug, PartialEq, Eq)]
+#[derive(Clone, Copy, PartialEq, Eq)]
 enum Wanted {
     // To play in memory.
     InMemory,
@@ -144,54 +145,61 @@ static LINES: [(&[&str], Wanted); 88] = [
     (&["Drill", "--seed", "7", "--size", "20"], Bad),
 ];
 
-fn meaning_of(rt: &HostRuntime, line: &[&str]) -> Result<Result<Command, WordsFault>, Fail> {
-    let mut words = Vec::new(rt.alloc());
+fn meaning_of(alloc: Global, line: &[&str]) -> Result<Result<Command, WordsFault>, Fail> {
+    let mut words = Vec::new(alloc);
     for word in line {
-        let mut text = String::new(rt.alloc());
+        let mut text = String::new(alloc);
         text.push_str(word)?;
         words.push(text)?;
     }
-    Ok(read_command(rt.alloc(), &words))
+    Ok(read_command(alloc, &words))
+}
+
+// Whether what is to be played is wanted.
+fn is_play(folder: Option<&str>, wanted: Wanted) -> bool {
+    match wanted {
+        InMemory => folder.is_none(),
+        In(name) => folder == Some(name),
+        _ => false,
+    }
+}
+
+// Whether the drill is.
+fn is_drill(seed: u64, size: u32, folder: Option<&str>, wanted: Wanted) -> bool {
+    match wanted {
+        Drill(of, long) => of == seed && long == size && folder.is_none(),
+        DrillIn(of, long, name) => of == seed && long == size && folder == Some(name),
+        _ => false,
+    }
+}
+
+fn name_of(folder: &Option<String>) -> Option<&str> {
+    match folder {
+        Some(name) => Some(name.as_str()),
+        None => None,
+    }
+}
+
+// Whether a command is what is wanted.
+fn is_command(command: &Command, wanted: Wanted) -> bool {
+    match command {
+        Command::Play { folder } => is_play(name_of(folder), wanted),
+        Command::Drill { seed, size, folder } => is_drill(*seed, *size, name_of(folder), wanted),
+    }
 }
 
 // Whether a command line means what is wanted of it.
-fn is_wanted(meaning: &Result<Command, WordsFault>, wanted: Wanted) -> bool {
-    match meaning {
-        Ok(Command::Play { folder: None }) => wanted == InMemory,
-        Ok(
-            Command::Play {
-                folder: Some(folder),
-            },
-        ) => match wanted {
-            In(name) => folder.as_str() == name,
-            _ => false,
-        },
-        Ok(
-            Command::Drill {
-                seed,
-                size,
-                folder: None,
-            },
-        ) => wanted == Drill(*seed, *size),
-        Ok(
-            Command::Drill {
-                seed,
-                size,
-                folder: Some(folder),
-            },
-        ) => match wanted {
-            DrillIn(of, long, name) => of == *seed && long == *size && folder.as_str() == name,
-            _ => false,
-        },
-        Err(fault) => wanted == Bad && *fault == WordsFault::Bad,
+fn means(alloc: Global, line: &[&str], wanted: Wanted) -> Result<bool, Fail> {
+    match meaning_of(alloc, line)? {
+        Ok(command) => Ok(is_command(&command, wanted)),
+        Err(fault) => Ok(wanted == Bad && fault == WordsFault::Bad),
     }
 }
 
 #[test]
 fn command_lines_mean_what_their_language_says(rt: HostRuntime) -> Result<(), Fail> {
     for (line, wanted) in LINES {
-        let meaning = meaning_of(&rt, line)?;
-        assert!(rt; is_wanted(&meaning, wanted), "at {line:?}: {meaning:?}");
+        assert!(rt; means(rt.alloc(), line, wanted)?, "at {line:?}");
     }
     Ok(())
 }

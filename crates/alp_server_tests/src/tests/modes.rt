@@ -21,17 +21,21 @@ fn pairs_agree_as_the_table_says(rt: HostRuntime) {
     for (row, a) in MODES.iter().enumerate() {
         for (column, b) in MODES.iter().enumerate() {
             let wanted = AGREEMENT[row][column] == b'+';
-            assert_eq!(rt; agrees(*a, *b), wanted, "at {row} and {column}");
+            assert!(rt; agrees(*a, *b) == wanted, "at {row} and {column}");
         }
     }
 }
 
+fn are_joined() -> bool {
+    let both = Mode::ReadIntendWrite;
+    join(Mode::IntendWrite, Mode::Read) == both
+        && join(Mode::Update, Mode::IntendWrite) == both
+        && join(Mode::Read, Mode::Update) == Mode::Update
+        && leaf_of(both) == Some(Mode::Update)
+        && covers(both, Mode::Update)
+}
+
 #[test]
 fn the_joins_that_are_neither_of_both(rt: HostRuntime) {
-    let both = Mode::ReadIntendWrite;
-    assert_eq!(rt; join(Mode::IntendWrite, Mode::Read), both);
-    assert_eq!(rt; join(Mode::Update, Mode::IntendWrite), both);
-    assert_eq!(rt; join(Mode::Read, Mode::Update), Mode::Update);
-    assert_eq!(rt; leaf_of(both), Some(Mode::Update));
-    assert!(rt; covers(both, Mode::Update));
+    assert!(rt; are_joined());
 }

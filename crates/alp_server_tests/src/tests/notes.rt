@@ -1,8 +1,5 @@
 //! Tests of the notes of ready parts and of decisions, against bytes that were spelled by hand.
-use alp_base::{
-    Cell, Change, CutList, FileId, FileList, JoinNo, Key, OutOfMemory, Page, PageRef, PutList,
-    Resource, TransId,
-};
+use alp_base::{Bytes, Cell, FileId, JoinNo, Key, OutOfMemory, Page, Resource, TransId};
 use alp_fields::*;
 use alp_modes::Mode;
 use std::alloc::Global;
@@ -55,52 +52,82 @@ fn ready_bytes(alloc: Global) -> Result<Vec<u8>, OutOfMemory> {
     Ok(bytes)
 }
 
-fn change_given(alloc: Global) -> Result<Change, OutOfMemory> {
-    let mut cuts = Vec::new(alloc);
-    cuts.push((CUT_FILE, 3))?;
-    let page = PageRef::new(alloc, Page::beginning(b"a"))?;
-    let mut puts = Vec::new(alloc);
-    puts.push((Key::PageOf(FILE, 9), Cell::Page(page)))?;
-    Ok(Change {
-        drops: FileList::new(Vec::new(alloc)),
-        cuts: CutList::new(cuts),
-        puts: PutList::new(puts),
-    })
+// Whether two locks are as spelled.
+fn are_locks(locks: &[(Resource, Mode)]) -> bool {
+    match locks {
+        [
+            (Resource::Whole(whole), Mode::IntendWrite),
+            (Resource::Leaf(leaf), Mode::Write),
+        ] => *whole == FILE && *leaf == Key::PageOf(FILE, 9),
+        _ => false,
+    }
+}
+
+fn are_cuts(cuts: &[(FileId, u32)]) -> bool {
+    match cuts {
+        [cut] => *cut == (CUT_FILE, 3),
+        _ => false,
+    }
+}
+
+fn are_puts(puts: &[(Key, Cell)]) -> bool {
+    match puts {
+        [(key, Cell::Page(page))] => {
+            *key == Key::PageOf(FILE, 9) && page.bytes() == Page::beginning(b"a").bytes()
+        }
+        _ => false,
+    }
 }
 
 // Whether what was read is what the bytes were spelled for.
-fn is_given(part: &ReadyPart, change: &Change) -> bool {
-    let locks = part.locks.as_slice();
-    let [
-        (Resource::Whole(whole), Mode::IntendWrite),
-        (Resource::Leaf(leaf), Mode::Write),
-    ] = locks
-    else {
-        return false;
-    };
-    let is_locked = *whole == FILE && *leaf == Key::PageOf(FILE, 9);
-    let is_voted = part.trans == TRANS && part.ts == 258 && part.client == 2;
-    let is_changed = part.change.drops.as_slice().is_empty()
-        && part.change.cuts.as_slice() == change.cuts.as_slice()
-        && part.change.puts.as_slice() == change.puts.as_slice();
-    is_locked && is_voted && is_changed
+fn is_given(part: &ReadyPart) -> bool {
+    part.trans == TRANS
+        && part.ts == 258
+        && part.client == 2
+        && are_locks(part.locks.as_slice())
+        && part.change.drops.as_slice().is_empty()
+        && are_cuts(part.change.cuts.as_slice())
+        && are_puts(part.change.puts.as_slice())
+}
+
+// Whether the bytes are read as the part that they were spelled for.
+fn is_part(alloc: Global, bytes: &[u8]) -> Result<bool, OutOfMemory> {
+    match read_ready(alloc, bytes)? {
+        Some(part) => Ok(is_given(&part)),
+        None => Ok(false),
+    }
+}
+
+fn is_value(value: &Option<Bytes>, wanted: &[u8]) -> bool {
+    match value {
+        Some(value) => value.as_slice() == wanted,
+        None => false,
+    }
+}
+
+// Whether the note of the join has its name, from which the join is read.
+fn is_named(alloc: Global) -> Result<bool, OutOfMemory> {
+    let name = ready_note_name(alloc, JOIN)?;
+    Ok(
+        name.as_slice() == b"R\x02\x00\x00\x00\x03\x00\x00\x00\x05".as_slice()
+            && read_ready_name(name.as_slice()) == Some(JOIN)
+            && read_ready_name(b"R\x02\x00\x00\x00\x03\x00\x00\x00").is_none(),
+    )
 }
 
 #[test]
 fn a_ready_part(rt: HostRuntime) -> Result<(), Fail> {
-    let bytes = ready_bytes(rt.alloc()).ok().ok_or("memory")?;
-    let change = change_given(rt.alloc()).ok().ok_or("memory")?;
-    let found = read_ready(rt.alloc(), &bytes).ok().ok_or("memory")?;
-    let part = found.ok_or("a part")?;
-    assert!(rt; is_given(&part, &change));
-    let name = ready_note_name(rt.alloc(), JOIN).ok().ok_or("memory")?;
-    assert_eq!(rt;
-        name.as_slice(),
-        b"R\x02\x00\x00\x00\x03\x00\x00\x00\x05".as_slice()
-    );
-    assert_eq!(rt; read_ready_name(name.as_slice()), Some(JOIN));
-    assert!(rt; read_ready_name(b"R\x02\x00\x00\x00\x03\x00\x00\x00").is_none());
+    let bytes = ready_bytes(rt.alloc())?;
+    assert!(rt; is_part(rt.alloc(), &bytes)?);
+    assert!(rt; is_named(rt.alloc())?);
     Ok(())
+}
+
+fn is_any_part(alloc: Global, bytes: &[u8]) -> Result<bool, OutOfMemory> {
+    match read_ready(alloc, bytes)? {
+        Some(_part) => Ok(true),
+        None => Ok(false),
+    }
 }
 
 // The bytes with one of them changed are no part.
@@ -109,23 +136,23 @@ fn is_refused(alloc: Global, at: usize, to: u8) -> Result<bool, OutOfMemory> {
     if let Some(byte) = bytes.get_mut(at) {
         *byte = to;
     }
-    let found = read_ready(alloc, &bytes)?;
-    Ok(found.is_none())
+    Ok(!is_any_part(alloc, &bytes)?)
+}
+
+// Nor are they with one more.
+fn is_longer_refused(alloc: Global) -> Result<bool, OutOfMemory> {
+    let mut bytes = ready_bytes(alloc)?;
+    put_u8(&mut bytes, 0)?;
+    Ok(!is_any_part(alloc, &bytes)?)
 }
 
 #[test]
 fn no_ready_parts(rt: HostRuntime) -> Result<(), Fail> {
     // The first lock is raised above the second, has no mode, or is another time too; a time is too late, a list is too long.
     for (at, to) in [(20usize, 3u8), (30, 7), (9, 0x41), (19, 3)] {
-        assert!(rt;
-            is_refused(rt.alloc(), at, to).ok().ok_or("memory")?,
-            "at {at}"
-        );
+        assert!(rt; is_refused(rt.alloc(), at, to)?, "at {at}");
     }
-    let mut bytes = ready_bytes(rt.alloc()).ok().ok_or("memory")?;
-    put_u8(&mut bytes, 0).ok().ok_or("memory")?;
-    let longer = read_ready(rt.alloc(), &bytes).ok().ok_or("memory")?;
-    assert!(rt; longer.is_none());
+    assert!(rt; is_longer_refused(rt.alloc())?);
     Ok(())
 }
 
@@ -135,48 +162,75 @@ const DECISION: &[u8] = b"\
 \x02\x00\x00\x00\x03\x00\x00\x00\x05\
 \x03\x00\x00\x00\x01\x00\x00\x00\x01";
 
+const NO_DECISION: &[u8] = b"\x00\x00\x00\x00\x00\x00\x01\x03\x00";
+
+fn are_joins(joins: &[JoinNo]) -> bool {
+    joins.len() == 2 && joins.first() == Some(&JOIN)
+}
+
+// Whether the bytes are read as the decision that they were spelled for.
+fn is_decision(alloc: Global) -> Result<bool, OutOfMemory> {
+    match read_decision(alloc, DECISION)? {
+        Some(decision) => Ok(decision.ts == 259 && are_joins(decision.joins.as_slice())),
+        None => Ok(false),
+    }
+}
+
+// Whether a decision without a part is none.
+fn is_none_refused(alloc: Global) -> Result<bool, OutOfMemory> {
+    match read_decision(alloc, NO_DECISION)? {
+        Some(_decision) => Ok(false),
+        None => Ok(true),
+    }
+}
+
+fn is_decision_named(alloc: Global) -> Result<bool, OutOfMemory> {
+    let name = decision_note_name(alloc, TRANS)?;
+    Ok(
+        name.as_slice() == b"D\x01\x00\x00\x00\x01\x00\x00\x00\x07".as_slice()
+            && read_decision_name(name.as_slice()) == Some(TRANS),
+    )
+}
+
 #[test]
 fn a_decision(rt: HostRuntime) -> Result<(), Fail> {
-    let found = read_decision(rt.alloc(), DECISION).ok().ok_or("memory")?;
-    let decision = found.ok_or("a decision")?;
-    assert_eq!(rt; decision.ts, 259);
-    assert_eq!(rt; decision.joins.as_slice().len(), 2);
-    assert_eq!(rt; decision.joins.as_slice().first(), Some(&JOIN));
-    let name = decision_note_name(rt.alloc(), TRANS).ok().ok_or("memory")?;
-    assert_eq!(rt;
-        name.as_slice(),
-        b"D\x01\x00\x00\x00\x01\x00\x00\x00\x07".as_slice()
-    );
-    assert_eq!(rt; read_decision_name(name.as_slice()), Some(TRANS));
-    let none = read_decision(rt.alloc(), b"\x00\x00\x00\x00\x00\x00\x01\x03\x00")
-        .ok()
-        .ok_or("memory")?;
-    assert!(rt; none.is_none());
+    assert!(rt; is_decision(rt.alloc())?);
+    assert!(rt; is_decision_named(rt.alloc())?);
+    assert!(rt; is_none_refused(rt.alloc())?);
     Ok(())
+}
+
+// Whether a part is written as the bytes that it was read from.
+fn is_part_written(alloc: Global, bytes: &[u8]) -> Result<bool, OutOfMemory> {
+    match read_ready(alloc, bytes)? {
+        Some(part) => {
+            let ready = ready_change(alloc, JOIN, &part)?;
+            Ok(is_value(&ready.value, bytes))
+        }
+        None => Ok(false),
+    }
+}
+
+fn is_decision_written(alloc: Global) -> Result<bool, OutOfMemory> {
+    match read_decision(alloc, DECISION)? {
+        Some(decision) => {
+            let decided = decision_change(alloc, TRANS, &decision)?;
+            Ok(is_value(&decided.value, DECISION))
+        }
+        None => Ok(false),
+    }
+}
+
+fn is_end_written(alloc: Global) -> Result<bool, OutOfMemory> {
+    let ended = decision_end(alloc, TRANS)?;
+    Ok(ended.value.is_none())
 }
 
 #[test]
 fn notes_as_written(rt: HostRuntime) -> Result<(), Fail> {
-    let part = read_ready(rt.alloc(), &ready_bytes(rt.alloc()).ok().ok_or("memory")?)
-        .ok()
-        .ok_or("memory")?
-        .ok_or("a part")?;
-    let ready = ready_change(rt.alloc(), JOIN, &part).ok().ok_or("memory")?;
-    let value = ready.value.ok_or("a value")?;
-    assert_eq!(rt;
-        value.as_slice(),
-        ready_bytes(rt.alloc()).ok().ok_or("memory")?.as_slice()
-    );
-    let decision = read_decision(rt.alloc(), DECISION)
-        .ok()
-        .ok_or("memory")?
-        .ok_or("a decision")?;
-    let decided = decision_change(rt.alloc(), TRANS, &decision)
-        .ok()
-        .ok_or("memory")?;
-    let value = decided.value.ok_or("a value")?;
-    assert_eq!(rt; value.as_slice(), DECISION);
-    let ended = decision_end(rt.alloc(), TRANS).ok().ok_or("memory")?;
-    assert!(rt; ended.value.is_none());
+    let bytes = ready_bytes(rt.alloc())?;
+    assert!(rt; is_part_written(rt.alloc(), &bytes)?);
+    assert!(rt; is_decision_written(rt.alloc())?);
+    assert!(rt; is_end_written(rt.alloc())?);
     Ok(())
 }

@@ -1,4 +1,6 @@
 //! Tests of alp_owner.
+ghost use Rattle.std.specs.Prelude.{◌≤◌, length};
+
 use alp_base::{AccessList, Name, OutOfMemory, OwnerRecord};
 use alp_owner::*;
 use std::alloc::Global;
@@ -28,52 +30,63 @@ fn dumped(dump: &str) -> Option<[u8; 256]> {
     Some(bytes)
 }
 
-fn list_of(alloc: Global, words: &[&[u8]]) -> Result<Option<AccessList>, OutOfMemory> {
-    let mut names = Vec::new(alloc);
-    for word in words {
-        let Some(name) = Name::parse(word) else {
-            return Ok(None);
-        };
-        names.push(name)?;
+fn ann() -> Name {
+    Name::spelled(b"ann")
+}
+
+fn list_of(alloc: Global, names: &[Name]) -> Result<AccessList, OutOfMemory>
+    requires { length names.now ≤ 4 }
+{
+    Ok(AccessList::new(Vec::from_slice(alloc, names)?))
+}
+
+// The owner of the dump.
+fn record(alloc: Global) -> Result<OwnerRecord, OutOfMemory> {
+    let create = list_of(alloc, &[Name::spelled(b"World"), Name::spelled(b"Owner")])?;
+    Ok(OwnerRecord {
+        name: ann(),
+        quota: 10,
+        charge: 4,
+        create,
+    })
+}
+
+// Whether the record is spelled as these bytes, and read from them.
+fn is_dumped(alloc: Global, bytes: &[u8; 256]) -> Result<bool, OutOfMemory> {
+    let record = record(alloc)?;
+    let mut out = [0xffu8; 256];
+    encode_owner(&record, &mut out);
+    match decode_owner(alloc, bytes)? {
+        Some(found) => Ok(out == *bytes && found == record),
+        None => Ok(false),
     }
-    if names.len() > alp_base::NAMES_PER_LIST {
-        return Ok(None);
+}
+
+fn is_record(alloc: Global, bytes: &[u8; 256]) -> Result<bool, OutOfMemory> {
+    match decode_owner(alloc, bytes)? {
+        Some(_found) => Ok(true),
+        None => Ok(false),
     }
-    Ok(Some(AccessList::new(names)))
 }
 
 #[test]
 fn reads_and_writes_the_dump(rt: HostRuntime) -> Result<(), Fail> {
     let bytes = dumped(DUMP).ok_or("a dump")?;
-    let ann = Name::parse(b"ann").ok_or("a name")?;
-    let create = list_of(rt.alloc(), &[b"World", b"Owner"])
-        .ok()
-        .ok_or("memory")?
-        .ok_or("a list")?;
-    let record = OwnerRecord {
-        name: ann,
-        quota: 10,
-        charge: 4,
-        create,
-    };
-    let mut out = [0xffu8; 256];
-    encode_owner(&record, &mut out);
-    assert!(rt; out == bytes);
-    let found = decode_owner(rt.alloc(), &bytes).ok().ok_or("memory")?;
-    assert!(rt; found == Some(record));
-    let unused = decode_owner(rt.alloc(), &[0; 256]).ok().ok_or("memory")?;
-    assert!(rt; unused.is_none());
+    assert!(rt; is_dumped(rt.alloc(), &bytes)?);
+    assert!(rt; !is_record(rt.alloc(), &[0; 256])?);
     Ok(())
 }
 
 // A changed byte makes it no record, or the record of just those bytes.
 fn is_exact(alloc: Global, bytes: &[u8; 256]) -> Result<bool, OutOfMemory> {
-    let Some(found) = decode_owner(alloc, bytes)? else {
-        return Ok(true);
-    };
-    let mut out = [0xffu8; 256];
-    encode_owner(&found, &mut out);
-    Ok(out == *bytes)
+    match decode_owner(alloc, bytes)? {
+        Some(found) => {
+            let mut out = [0xffu8; 256];
+            encode_owner(&found, &mut out);
+            Ok(out == *bytes)
+        }
+        None => Ok(true),
+    }
 }
 
 #[test]
@@ -83,35 +96,27 @@ fn each_byte_counts(rt: HostRuntime) -> Result<(), Fail> {
         for change in [1u8, 2, 4, 0x20, 0x80, 0xff] {
             let mut changed = bytes;
             changed[at] ^= change;
-            assert!(rt;
-                is_exact(rt.alloc(), &changed).ok().ok_or("memory")?,
-                "at {at}"
-            );
+            assert!(rt; is_exact(rt.alloc(), &changed)?, "at {at}");
         }
     }
     Ok(())
 }
 
+// Whether the list of these names admits somebody to what is ann's.
+fn admits_one(alloc: Global, names: &[Name], who: &Name) -> Result<bool, OutOfMemory>
+    requires { length names.now ≤ 4 }
+{
+    let list = list_of(alloc, names)?;
+    Ok(admits(&list, who, &ann()))
+}
+
 #[test]
 fn admits_whom_the_list_names(rt: HostRuntime) -> Result<(), Fail> {
-    let ann = Name::parse(b"ann").ok_or("a name")?;
-    let bob = Name::parse(b"bob").ok_or("a name")?;
-    let world = list_of(rt.alloc(), &[b"World"])
-        .ok()
-        .ok_or("memory")?
-        .ok_or("a list")?;
-    let owner = list_of(rt.alloc(), &[b"eve", b"Owner"])
-        .ok()
-        .ok_or("memory")?
-        .ok_or("a list")?;
-    let named = list_of(rt.alloc(), &[b"bob"])
-        .ok()
-        .ok_or("memory")?
-        .ok_or("a list")?;
-    assert!(rt; admits(&world, &bob, &ann));
-    assert!(rt; admits(&owner, &ann, &ann));
-    assert!(rt; !admits(&owner, &bob, &ann));
-    assert!(rt; admits(&named, &bob, &ann));
-    assert!(rt; !admits(&named, &ann, &ann));
+    let alloc = rt.alloc();
+    let bob = Name::spelled(b"bob");
+    let owner = [Name::spelled(b"eve"), Name::spelled(b"Owner")];
+    assert!(rt; admits_one(alloc, &[Name::spelled(b"World")], &bob)?);
+    assert!(rt; admits_one(alloc, &owner, &ann())? && !admits_one(alloc, &owner, &bob)?);
+    assert!(rt; admits_one(alloc, &[bob], &bob)? && !admits_one(alloc, &[bob], &ann())?);
     Ok(())
 }

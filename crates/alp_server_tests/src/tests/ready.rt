@@ -1,5 +1,5 @@
 //! Tests of alp_ready: what the note of a ready part says of two owners, the name of the first longer than that of the second.
-ghost use Rattle.std.specs.Prelude.{◌≡◌, IfOk, true};
+ghost use Rattle.std.specs.Prelude.{◌≡◌, IfOk, IfSome, IsTrue, true};
 ghost use Rattle.alp_calls.specs.Parts.{IsPart};
 ghost use Rattle.alp_calls.specs.Regained.{IsNoted};
 ghost use Rattle.alp_vault.specs.Stages.{is_serving};
@@ -16,7 +16,7 @@ use alp_modes::Mode;
 use alp_queue::Needs;
 use alp_ready::{noted_change, noted_locks};
 use alp_trans::Part;
-use alp_vault::MemVault;
+use alp_vault::{MemVault, Vault};
 use std::alloc::Global;
 use std::test::*;
 
@@ -61,6 +61,7 @@ fn owner_put(alloc: Global, name: Name) -> (Key, Cell)
     };
     (Key::OwnerOf(name), Cell::Owner(record))
 }
+
 // The locks of a transaction on both owners and a file, as a table lists them.
 fn locked(alloc: Global) -> Result<LockTable, OutOfMemory> {
     let mut table = LockTable::new(alloc);
@@ -80,15 +81,51 @@ fn noted(table: &LockTable, trans: TransId) -> Result<LockList, OutOfMemory> {
     noted_locks(listed)
 }
 
+const FILE_LOCK: (Resource, Mode) = (Resource::Whole(FILE), Mode::IntendRead);
+
+fn is_lock_of(lock: &(Resource, Mode), owner: Name, mode: Mode) -> bool {
+    lock.0 == Resource::Leaf(Key::OwnerOf(owner)) && lock.1 == mode
+}
+
+// Whether these are the locks of the file and of both owners, of which the first has the longer name.
+fn are_listed(locks: &[(Resource, Mode)]) -> bool {
+    match locks {
+        [file, first, second] => {
+            *file == FILE_LOCK
+                && is_lock_of(first, long(), Mode::Write)
+                && is_lock_of(second, short(), Mode::Read)
+        }
+        _ => false,
+    }
+}
+
+// Whether they are these with the shorter name first.
+fn are_noted(locks: &[(Resource, Mode)]) -> bool {
+    match locks {
+        [file, second, first] => {
+            *file == FILE_LOCK
+                && is_lock_of(second, short(), Mode::Read)
+                && is_lock_of(first, long(), Mode::Write)
+        }
+        _ => false,
+    }
+}
+
+fn lists_locks(table: &LockTable) -> Result<bool, OutOfMemory> {
+    let listed = table.list_of(TRANS)?;
+    Ok(are_listed(listed.as_slice()))
+}
+
+fn notes_locks(table: &LockTable) -> Result<bool, OutOfMemory> {
+    let noted = noted(table, TRANS)?;
+    Ok(are_noted(noted.as_slice()))
+}
+
 #[test]
 fn locks_stand_in_the_order_of_their_bytes(rt: HostRuntime) -> Result<(), Fail> {
-    let alloc = rt.alloc();
-    let table = locked(alloc)?;
-    let file = (Resource::Whole(FILE), Mode::IntendRead);
-    let first = (Resource::Leaf(Key::OwnerOf(long())), Mode::Write);
-    let second = (Resource::Leaf(Key::OwnerOf(short())), Mode::Read);
-    assert!(rt; table.list_of(TRANS)?.as_slice() == [file, first, second].as_slice());
-    assert!(rt; noted(&table, TRANS)?.as_slice() == [file, second, first].as_slice());
+    let table = locked(rt.alloc())?;
+    assert!(rt; lists_locks(&table)?);
+    assert!(rt; notes_locks(&table)?);
     Ok(())
 }
 
@@ -105,30 +142,49 @@ fn change_of(alloc: Global) -> Result<Change, OutOfMemory>
     })
 }
 
-fn part_of(alloc: Global) -> Result<Part, OutOfMemory>
-    ensures { IfOk result IsPart }
+// The part of the change, if it is regained.
+fn part_of<V: Vault>(alloc: Global, vault: &mut V, change: &Change) -> Option<Part>
+    requires serving { IsTrue (V.serves vault.old) }
+    requires noted { IsNoted change.now }
+    ensures { IfSome result IsPart }
 {
-    let mut vault = new_vault(alloc);
-    let change = change_of(alloc)?;
-    match regained_part(alloc, &mut vault, &change) {
-        Ok(part) => Ok(part),
-        Err(_) => Err(OutOfMemory),
+    match regained_part(alloc, vault, change) {
+        Ok(part) => Some(part),
+        Err(_fault) => None,
     }
 }
 
-fn noted_of(alloc: Global) -> Result<Change, OutOfMemory> {
-    let part = part_of(alloc)?;
-    noted_change(alloc, &part)
+// Whether the cells of both owners are put, the shorter name first.
+fn are_puts(puts: &[(Key, Cell)]) -> bool {
+    match puts {
+        [second, first] => { second.0 == Key::OwnerOf(short()) && first.0 == Key::OwnerOf(long()) }
+        _ => false,
+    }
+}
+
+// Whether that is all that the note of the part says of cells.
+fn notes_both(alloc: Global, part: &Part) -> Result<bool, OutOfMemory>
+    requires { IsPart part.now }
+{
+    let noted = noted_change(alloc, part)?;
+    Ok(
+        noted.drops.as_slice().is_empty()
+            && noted.cuts.as_slice().is_empty()
+            && are_puts(noted.puts.as_slice()),
+    )
+}
+
+fn is_noted(alloc: Global) -> Result<bool, OutOfMemory> {
+    let mut vault = new_vault(alloc);
+    let change = change_of(alloc)?;
+    match part_of(alloc, &mut vault, &change) {
+        Some(part) => notes_both(alloc, &part),
+        None => Ok(false),
+    }
 }
 
 #[test]
 fn cells_stand_in_the_order_of_their_bytes(rt: HostRuntime) -> Result<(), Fail> {
-    let alloc = rt.alloc();
-    let noted = noted_of(alloc)?;
-    assert!(rt; noted.drops.as_slice().is_empty() && noted.cuts.as_slice().is_empty());
-    let [(first, _), (second, _)] = noted.puts.as_slice() else {
-        return Err("two cells".into());
-    };
-    assert!(rt; *first == Key::OwnerOf(short()) && *second == Key::OwnerOf(long()));
+    assert!(rt; is_noted(rt.alloc())?);
     Ok(())
 }

@@ -44,10 +44,18 @@ fn message(number: u32) -> Message {
 }
 
 // The number of the message, or 0.
-fn number(message: Option<Message>) -> u32 {
+fn number(message: &Message) -> u32 {
     match message {
-        Some(Message::Inquire { trans: _, join }) => join.counter,
+        Message::Inquire { join, .. } => join.counter,
         _ => 0,
+    }
+}
+
+// The number of the message, or 0 where there is none.
+fn number_of(message: Option<Message>) -> u32 {
+    match message {
+        Some(sent) => number(&sent),
+        None => 0,
     }
 }
 
@@ -94,18 +102,18 @@ impl Pair {
         requires { AreServers from to }
     {
         if from == 1 {
-            return number(self.posts.next(&self.first, 1, to));
+            return number_of(self.posts.next(&self.first, 1, to));
         }
-        number(self.posts.next(&self.second, from, to))
+        number_of(self.posts.next(&self.second, from, to))
     }
 
     fn take(&mut self, from: u8, to: u8, rank: u64) -> u32
         requires { AreServers from to }
     {
         if from == 1 {
-            return number(self.posts.take(&self.first, 1, to, rank));
+            return number_of(self.posts.take(&self.first, 1, to, rank));
         }
-        number(self.posts.take(&self.second, from, to, rank))
+        number_of(self.posts.take(&self.second, from, to, rank))
     }
 }
 
@@ -114,28 +122,50 @@ fn last(posts: &Posts, from: u8, to: u8) -> (u32, u64)
     requires { AreServers from to }
 {
     match posts.last(from, to) {
-        Some((message, rank)) => (number(Some(message)), rank),
+        Some((message, rank)) => (number(&message), rank),
         None => (0, 0),
     }
 }
 
+// Server 1 sends two messages to server 2 and one to a third, and server 2 sends one.
+fn send_four(alloc: Global, pair: &mut Pair) -> Result<(), OutOfMemory> {
+    pair.send_first(sending(alloc, &[(2, 1), (3, 2), (2, 3)])?)?;
+    pair.send_second(sending(alloc, &[(1, 4)])?)
+}
+
+// Both of server 1 are taken in their order, and no more.
+fn takes_both(pair: &mut Pair) -> bool {
+    pair.next(1, 2) == 1
+        && pair.take(1, 2, 7) == 1
+        && pair.take(1, 2, 8) == 3
+        && pair.take(1, 2, 9) == 0
+}
+
+// One that is sent later comes next, and the others are taken beside it.
+fn takes_the_others(pair: &mut Pair) -> bool {
+    pair.next(1, 2) == 5
+        && last(&pair.posts, 1, 2) == (3, 8)
+        && pair.take(1, 3, 10) == 2
+        && pair.take(2, 1, 11) == 4
+        && pair.next(2, 1) == 0
+        && last(&pair.posts, 2, 1) == (4, 11)
+}
+
+fn all_are_taken(alloc: Global, pair: &mut Pair) -> Result<bool, OutOfMemory> {
+    if pair.next(1, 2) != 0 {
+        return Ok(false);
+    }
+    send_four(alloc, pair)?;
+    if !takes_both(pair) {
+        return Ok(false);
+    }
+    pair.send_first(sending(alloc, &[(2, 5)])?)?;
+    Ok(takes_the_others(pair))
+}
+
 #[test]
 fn two_journals_grow(rt: HostRuntime) -> Result<(), Fail> {
-    let alloc = rt.alloc();
-    let mut pair = Pair::new(alloc)?;
-    assert_eq!(rt; pair.next(1, 2), 0);
-    pair.send_first(sending(alloc, &[(2, 1), (3, 2), (2, 3)])?)?;
-    pair.send_second(sending(alloc, &[(1, 4)])?)?;
-    assert_eq!(rt; pair.next(1, 2), 1);
-    assert_eq!(rt; pair.take(1, 2, 7), 1);
-    assert_eq!(rt; pair.take(1, 2, 8), 3);
-    assert_eq!(rt; pair.take(1, 2, 9), 0);
-    pair.send_first(sending(alloc, &[(2, 5)])?)?;
-    assert_eq!(rt; pair.next(1, 2), 5);
-    assert_eq!(rt; last(&pair.posts, 1, 2), (3, 8));
-    assert_eq!(rt; pair.take(1, 3, 10), 2);
-    assert_eq!(rt; pair.take(2, 1, 11), 4);
-    assert_eq!(rt; pair.next(2, 1), 0);
-    assert_eq!(rt; last(&pair.posts, 2, 1), (4, 11));
+    let mut pair = Pair::new(rt.alloc())?;
+    assert!(rt; all_are_taken(rt.alloc(), &mut pair)?);
     Ok(())
 }

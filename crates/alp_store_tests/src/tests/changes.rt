@@ -5,13 +5,13 @@ ghost use Rattle.alp_base.specs.declared.key.Key.TheVariants.{Leader, OwnerOf};
 ghost use Rattle.alp_store_tests.specs.FileChanges.{IsFileChange, IsSized, IsCharged};
 
 use super::fixtures::{ann, props_of};
+use super::wrong::Wrong;
 use alp_base::{
     AccessList, Cell, Change, CutList, FileId, FileList, Key, Name, OwnerRecord, Page, PageRef,
     Props, PutList,
 };
 use alp_files::CellMap;
 use std::alloc::{AllocError, Global};
-use std::test::Fail;
 
 // How many files there may be.
 const FILES: u32 = 4;
@@ -38,8 +38,8 @@ fn put_keys(keys: &mut Vec<Key>, file: FileId) -> Result<(), AllocError> {
 }
 
 // All keys at which something may stand.
-pub(super) fn all_keys(alloc: Global) -> Result<Vec<Key>, Fail> {
-    let owner = Key::OwnerOf(ann()?);
+pub(super) fn all_keys(alloc: Global) -> Result<Vec<Key>, Wrong> {
+    let owner = Key::OwnerOf(ann());
     let mut keys = vec![in alloc; owner]?;
     for number in 0..FILES {
         put_keys(&mut keys, file_of(number))?;
@@ -58,7 +58,7 @@ fn change_of(drops: Vec<FileId>, cuts: Vec<(FileId, u32)>, puts: Vec<(Key, Cell)
 }
 
 // The owner comes.
-fn coming(alloc: Global, cells: &CellMap, name: Name) -> Result<Change, Fail>
+fn coming(alloc: Global, cells: &CellMap, name: Name) -> Result<Change, Wrong>
     requires { map.get cells.now (OwnerOf name) ≡ None }
     ensures { IfOk result (IsFileChange cells.now) }
 {
@@ -74,26 +74,26 @@ fn coming(alloc: Global, cells: &CellMap, name: Name) -> Result<Change, Fail>
 }
 
 // The size of the owner's file, 0 where it does not stand.
-fn size_of(cells: &CellMap, owner: Name, file: FileId) -> Result<u32, Fail>
+fn size_of(cells: &CellMap, owner: Name, file: FileId) -> Result<u32, Wrong>
     ensures { IfOk result (λ size. IsSized owner size (map.get cells.now (Leader file))) }
 {
     match cells.get(&Key::Leader(file)) {
         None => Ok(0),
         Some(Cell::Leader(props)) if props.owner == owner => Ok(props.size),
-        Some(_) => Err("another leader".into()),
+        Some(_) => Err(Wrong::Cell),
     }
 }
 
 // The owner's record, charged for a file of the second size in place of one of the first.
-fn charged(cells: &CellMap, owner: Name, before: u32, after: u32) -> Result<OwnerRecord, Fail>
+fn charged(cells: &CellMap, owner: Name, before: u32, after: u32) -> Result<OwnerRecord, Wrong>
     ensures { IfOk result (IsCharged cells.now owner before after) }
 {
     let Some(Cell::Owner(was)) = cells.get(&Key::OwnerOf(owner)) else {
-        return Err("no owner".into());
+        return Err(Wrong::Cell);
     };
     let mut charged = was.clone()?;
     if charged.charge < before || u32::MAX - after < charged.charge - before {
-        return Err("a charge".into());
+        return Err(Wrong::Cell);
     }
     charged.charge = charged.charge - before + after;
     Ok(charged)
@@ -106,7 +106,7 @@ fn deletion(
     owner: Name,
     file: FileId,
     size: u32,
-) -> Result<Change, Fail>
+) -> Result<Change, Wrong>
     requires stands { 0 < size }
     requires sized { IsSized owner size (map.get cells.now (Leader file)) }
     ensures { IfOk result (IsFileChange cells.now) }
@@ -126,7 +126,7 @@ fn writing(
     size: u32,
     props: Props,
     number: u32,
-) -> Result<Change, Fail>
+) -> Result<Change, Wrong>
     requires sized { IsSized props.owner size (map.get cells.now (Leader file)) }
     requires within { number < props.size }
     ensures { IfOk result (IsFileChange cells.now) }
@@ -145,10 +145,10 @@ fn writing(
 
 // A change of the cells, by that number: the owner comes, or a file goes, or comes, is cut or grows, or one of its pages
 // is written.
-pub(super) fn next_change(alloc: Global, cells: &CellMap, number: u32) -> Result<Change, Fail>
+pub(super) fn next_change(alloc: Global, cells: &CellMap, number: u32) -> Result<Change, Wrong>
     ensures { IfOk result (IsFileChange cells.now) }
 {
-    let name = ann()?;
+    let name = ann();
     if cells.get(&Key::OwnerOf(name)).is_none() {
         return coming(alloc, cells, name);
     }

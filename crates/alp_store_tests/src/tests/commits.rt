@@ -3,13 +3,13 @@ ghost use Rattle.std.specs.Prelude.{◌≡◌, IsTrue, IfOk, OnOk, false};
 ghost use Rattle.alp_fields.specs.ClockNote.{IsClockNote};
 ghost use Rattle.alp_files.specs.Changes.{ArePutOnce};
 
+use super::takes::can_take;
+use super::wrong::Wrong;
 use alp_base::{Change, CutList, FileList, NoteChange, OutOfMemory, PutList, VaultFault};
 use alp_fields::{ClockNote, clock_change, clock_note_name, read_clock};
 use alp_files::CellMap;
-use alp_measures::can_take;
 use alp_vault::Vault;
 use std::alloc::Global;
-use std::test::Fail;
 
 // All cells are put.
 pub(super) fn puts_of(alloc: Global, cells: &CellMap) -> Result<Change, OutOfMemory>
@@ -58,7 +58,7 @@ pub(super) fn commit<V: Vault>(
 }
 
 // The clock of the note, and 0 where there is none.
-fn clock_of<V: Vault>(alloc: Global, vault: &V) -> Result<u64, Fail>
+fn clock_of<V: Vault>(alloc: Global, vault: &V) -> Result<u64, Wrong>
     requires { IsTrue (V.serves vault.now) }
 {
     let name = clock_note_name(alloc)?;
@@ -67,12 +67,12 @@ fn clock_of<V: Vault>(alloc: Global, vault: &V) -> Result<u64, Fail>
     };
     match read_clock(value.as_slice()) {
         Some(note) => Ok(note.clock),
-        None => Err("a note".into()),
+        None => Err(Wrong::Cell),
     }
 }
 
 // Files, owners, places and the clock.
-pub(super) fn counts_of<V: Vault>(alloc: Global, vault: &V) -> Result<(u32, u32, u32, u64), Fail>
+pub(super) fn counts_of<V: Vault>(alloc: Global, vault: &V) -> Result<(u32, u32, u32, u64), Wrong>
     requires { IsTrue (V.serves vault.now) }
 {
     let clock = clock_of(alloc, vault)?;

@@ -4,14 +4,16 @@ ghost use Rattle.std.specs.Prelude.{◌≡◌};
 use super::commits::puts_of;
 use super::quiet_disk::QuietDisk;
 use super::serving::Serving;
-use alp_base::{AccessList, Cell, FileId, Key, Name, OwnerRecord, Page, PageRef, Props, Sizes};
-use alp_disk::{Disk, Fuse, MemDisk};
+use super::wrong::Wrong;
+use alp_base::{
+    AccessList, Cell, FileId, Key, Name, OutOfMemory, OwnerRecord, Page, PageRef, Props, Sizes,
+};
+use alp_disk::{Fuse, MemDisk};
 use alp_files::CellMap;
 use alp_silent::Silent;
 use alp_store::Store;
 use alp_vault::Vault;
 use std::alloc::Global;
-use std::test::Fail;
 
 pub(super) const SIZES: Sizes = Sizes {
     home: 512,
@@ -31,7 +33,7 @@ pub(super) fn mem_disk(
     alloc: Global,
     sizes: Sizes,
     fails: Vec<u64>,
-) -> Result<QuietDisk<Fuse<Silent>>, Fail> {
+) -> Result<QuietDisk<Fuse<Silent>>, Wrong> {
     let pages = sizes
         .area
         .saturating_mul(2)
@@ -41,24 +43,13 @@ pub(super) fn mem_disk(
     QuietDisk::new(Fuse::new(Silent { disk }))
 }
 
-pub(super) fn started<D: Disk>(
-    alloc: Global,
-    disk: QuietDisk<D>,
-    sizes: Sizes,
-) -> Result<Serving<Store<D>>, Fail> {
-    match disk.start(alloc, sizes) {
-        Some(store) => Ok(store),
-        None => Err("a start".into()),
-    }
-}
+// The store that is tested.
+pub(super) type Tested = Store<Fuse<Silent>>;
 
 // ---- cells
 
-pub(super) fn ann() -> Result<Name, Fail> {
-    match Name::parse(b"ann") {
-        Some(name) => Ok(name),
-        None => Err("a name".into()),
-    }
+pub(super) fn ann() -> Name {
+    Name::spelled(b"ann")
 }
 
 pub(super) fn props_of(alloc: Global, owner: Name, size: u32, time: u32) -> Props
@@ -84,8 +75,8 @@ pub(super) fn put_file(
     cells: &mut CellMap,
     size: u32,
     quota: u32,
-) -> Result<(), Fail> {
-    let name = ann()?;
+) -> Result<(), OutOfMemory> {
+    let name = ann();
     let props = props_of(alloc, name, size, quota);
     let owner = OwnerRecord {
         name,
@@ -105,7 +96,7 @@ pub(super) fn put_pages(
     first: u32,
     count: u32,
     byte: u8,
-) -> Result<(), Fail> {
+) -> Result<(), OutOfMemory> {
     for number in 0..count {
         let page = PageRef::new(alloc, Page::new([byte; 512]))?;
         let key = Key::PageOf(FILE, first.saturating_add(number));
@@ -120,7 +111,7 @@ pub(super) fn committed<V: Vault>(
     store: Serving<V>,
     cells: &CellMap,
     clock: u32,
-) -> Result<Serving<V>, Fail> {
+) -> Result<Serving<V>, Wrong> {
     let change = puts_of(alloc, cells)?;
     store.commit(alloc, &change, clock)
 }
@@ -133,30 +124,19 @@ pub(super) fn same_cell(found: &Option<Cell>, wanted: Option<&Cell>) -> bool {
     }
 }
 
-// Whether the store holds at the key what the map has there, 1 where it does and 0 where it does not.
-pub(super) fn agree_at<V: Vault>(
-    store: Serving<V>,
-    cells: &CellMap,
-    key: &Key,
-) -> Result<(Serving<V>, u32), Fail> {
-    let (store, found) = store.fetch(key)?;
-    let same = same_cell(&found, cells.get(key));
-    Ok((store, if same { 1 } else { 0 }))
-}
-
 // At how many keys of the owner, the file and so many of its pages the store holds what the map has.
 pub(super) fn agree<V: Vault>(
     store: Serving<V>,
     cells: &CellMap,
     pages: u32,
-) -> Result<(Serving<V>, u32), Fail> {
-    let (store, owner) = agree_at(store, cells, &Key::OwnerOf(ann()?))?;
-    let (mut store, file) = agree_at(store, cells, &Key::Leader(FILE))?;
-    let mut same = owner.saturating_add(file);
+) -> Result<(Serving<V>, u32), Wrong> {
+    let (store, owner) = store.holds(cells, &Key::OwnerOf(ann()))?;
+    let (mut store, file) = store.holds(cells, &Key::Leader(FILE))?;
+    let mut same = u32::from(owner).saturating_add(u32::from(file));
     for number in 0..pages {
-        let (next, page) = agree_at(store, cells, &Key::PageOf(FILE, number))?;
+        let (next, page) = store.holds(cells, &Key::PageOf(FILE, number))?;
         store = next;
-        same = same.saturating_add(page);
+        same = same.saturating_add(u32::from(page));
     }
     Ok((store, same))
 }

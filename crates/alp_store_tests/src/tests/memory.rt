@@ -8,20 +8,19 @@ ghost use Rattle.alp_store_tests.specs.FileChanges.{IsFileChange};
 use super::changes::next_change;
 use super::commits::{clock_note, counts_of};
 use super::fixtures::SIZES;
+use super::takes::can_take;
+use super::wrong::Wrong;
 use alp_base::{Change, NoteChange};
 use alp_files::CellMap;
-use alp_measures::can_take;
 use alp_vault::{MemVault, Vault};
 use std::alloc::Global;
-use std::test::Fail;
 
-// A vault in memory that serves, in which so many files were deleted, and from which so many cuts took pages.
+// A vault in memory, in which so many files were deleted, and from which so many cuts took pages.
 #[derive(Drop)]
 pub(super) struct Memory {
     vault: MemVault,
     pub(super) deleted: u32,
     pub(super) cut: u32,
-    ghost serves: { IsTrue (⟦<MemVault as Vault>⟧.serves vault) },
 }
 
 // A volume has 255 places at least, and a cell takes two at most: its own, and that of its block.
@@ -37,7 +36,7 @@ fn are_few(vault: &MemVault, change: &Change) -> bool
 }
 
 // Makes the change of a vault in which there are few cells.
-fn commit(vault: &mut MemVault, change: &Change, note: NoteChange) -> Result<(), Fail>
+fn commit(vault: &mut MemVault, change: &Change, note: NoteChange) -> Result<(), Wrong>
     requires serves { IsTrue (⟦<MemVault as Vault>⟧.serves vault.old) }
     requires clock { IsClockNote note }
     requires change { IsFileChange (⟦<MemVault as Vault>⟧.held vault.old).cells change.now }
@@ -45,17 +44,19 @@ fn commit(vault: &mut MemVault, change: &Change, note: NoteChange) -> Result<(),
 {
     let notes = [note];
     if !can_take(vault, change, &notes) || !are_few(vault, change) {
-        return Err("no room".into());
+        return Err(Wrong::Room);
     }
     vault.knows();
     match vault.commit(change, &notes) {
         Ok(()) => Ok(()),
-        Err(_) => Err("a commit".into()),
+        Err(_fault) => Err(Wrong::Commit),
     }
 }
 
 impl Memory {
-    pub(super) fn new(alloc: Global) -> Memory {
+    pub(super) fn new(alloc: Global) -> Memory
+        ensures { IsTrue (⟦<MemVault as Vault>⟧.serves result.vault) }
+    {
         Memory {
             vault: MemVault::new(alloc, SIZES, 1, 1),
             deleted: 0,
@@ -63,43 +64,39 @@ impl Memory {
         }
     }
 
-    // Makes a change by that number with the note of that clock. Gives the change too.
+    // Makes a change by that number with the note of that clock, and gives the change.
     pub(super) fn commit_next(
-        self,
+        &mut self,
         alloc: Global,
         number: u32,
         clock: u32,
-    ) -> Result<(Memory, Change), Fail>
-        ensures { IfOk result (λ r. ArePutOnce r.1.puts) }
+    ) -> Result<Change, Wrong>
+        requires { IsTrue (⟦<MemVault as Vault>⟧.serves self.old.vault) }
+        ensures serves { OnOk result (IsTrue (⟦<MemVault as Vault>⟧.serves self.new.vault)) }
+        ensures once { IfOk result (λ change. ArePutOnce change.puts) }
     {
-        let Memory {
-            mut vault,
-            mut deleted,
-            mut cut,
-        } = self;
-        let before = vault.used();
-        let change = next_change(alloc, vault.cells(), number)?;
+        let before = self.vault.used();
+        let change = next_change(alloc, self.vault.cells(), number)?;
         let note = clock_note(alloc, clock)?;
-        commit(&mut vault, &change, note)?;
+        commit(&mut self.vault, &change, note)?;
         if !change.drops.as_slice().is_empty() {
-            deleted = deleted.saturating_add(1);
-        } else if vault.used() < before {
-            cut = cut.saturating_add(1);
+            self.deleted = self.deleted.saturating_add(1);
+        } else if self.vault.used() < before {
+            self.cut = self.cut.saturating_add(1);
         }
-        let memory = Memory {
-            vault,
-            deleted,
-            cut,
-        };
-        Ok((memory, change))
+        Ok(change)
     }
 
-    pub(super) fn cells(&self) -> &CellMap {
+    pub(super) fn cells(&self) -> &CellMap
+        requires { IsTrue (⟦<MemVault as Vault>⟧.serves self.now.vault) }
+    {
         self.vault.cells()
     }
 
     // Files, owners, places and the clock.
-    pub(super) fn counts(&self, alloc: Global) -> Result<(u32, u32, u32, u64), Fail> {
+    pub(super) fn counts(&self, alloc: Global) -> Result<(u32, u32, u32, u64), Wrong>
+        requires { IsTrue (⟦<MemVault as Vault>⟧.serves self.now.vault) }
+    {
         counts_of(alloc, &self.vault)
     }
 }

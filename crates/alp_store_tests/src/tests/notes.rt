@@ -1,10 +1,11 @@
 //! Disks of server 1 of three, with notes that a run before left there, spelled by hand.
-use super::fixtures::{SIZES, mem_disk};
+use super::fixtures::{SIZES, Tested, mem_disk};
 use super::quiet_disk::QuietDisk;
-use alp_base::{Page, VaultFault};
-use alp_disk::{Disk, Fuse};
+use super::restarts::Restarts;
+use super::wrong::Wrong;
+use alp_base::{OutOfMemory, Page, VaultFault};
+use alp_disk::Disk;
 use alp_fields::put_bytes;
-use alp_silent::Silent;
 use std::alloc::Global;
 use std::test::*;
 
@@ -33,42 +34,68 @@ const READY: &[u8] = b"\
 \x00\x00\x00\x00\x00\x00\x00\x00";
 
 // A batch of no images, with so many notes.
-fn batch_of(alloc: Global, count: u8, notes: &[u8]) -> Result<Vec<u8>, Fail> {
+fn batch_of(alloc: Global, count: u8, notes: &[u8]) -> Result<Vec<u8>, OutOfMemory> {
     let mut bytes = Vec::new(alloc);
     put_bytes(&mut bytes, &[0, 0, 0, count])?;
     put_bytes(&mut bytes, notes)?;
     Ok(bytes)
 }
 
-// The disk with a record of that batch behind those of a new volume.
-fn recorded<D: Disk>(disk: QuietDisk<D>, batch: &[u8]) -> Result<QuietDisk<D>, Fail> {
+// Puts a record of that batch behind those of a new volume.
+fn record<D: Disk>(disk: &mut QuietDisk<D>, batch: &[u8]) -> Result<(), Wrong> {
     if batch.len() > 255 {
-        return Err("a long batch".into());
+        return Err(Wrong::Disk);
     }
     let header = [0xa5, b'R', 0, 0, 0, 1, 0, 0, 0, batch.len() as u8];
-    disk.write_page(FREE, &Page::beginning(&header))?
-        .write_page(FREE + 1, &Page::beginning(batch))?
-        .sync()
+    disk.write_page(FREE, &Page::beginning(&header))?;
+    disk.write_page(FREE + 1, &Page::beginning(batch))?;
+    disk.sync()
 }
 
-// The disk of a new volume.
-fn new_volume(alloc: Global) -> Result<QuietDisk<Fuse<Silent>>, Fail> {
-    let disk = mem_disk(alloc, SIZES, Vec::new(alloc))?;
-    match disk.start_among(alloc, SERVERS, SIZES) {
-        Ok(store) => store.into_disk(),
-        Err(_) => Err("a new disk".into()),
+// The disk with a new volume of the server.
+fn new_volume<V: Restarts>(
+    alloc: Global,
+    disk: QuietDisk<V::Device>,
+) -> Result<QuietDisk<V::Device>, Wrong> {
+    match V::start(disk, alloc, SERVERS, SIZES) {
+        Ok(store) => V::close(store),
+        Err(_fault) => Err(Wrong::Start),
     }
 }
 
-// How many notes a store has that starts on a disk with these; nothing where it is refused for what is no page.
-fn noted(alloc: Global, count: u8, notes: &[u8]) -> Result<Option<usize>, Fail> {
-    let batch = batch_of(alloc, count, notes)?;
-    let disk = recorded(new_volume(alloc)?, &batch)?;
-    match disk.start_among(alloc, SERVERS, SIZES) {
+// How many notes a vault has that starts on the disk; nothing where it is refused for what is no page.
+fn noted_on<V: Restarts>(
+    alloc: Global,
+    disk: QuietDisk<V::Device>,
+) -> Result<Option<usize>, Wrong> {
+    match V::start(disk, alloc, SERVERS, SIZES) {
         Ok(store) => Ok(Some(store.note_count())),
-        Err(VaultFault::Damaged { place: 0 }) => Ok(None),
-        Err(_) => Err("a start".into()),
+        Err(fault) => {
+            if fault == (VaultFault::Damaged { place: 0 }) {
+                Ok(None)
+            } else {
+                Err(Wrong::Start)
+            }
+        }
     }
+}
+
+// The same of a new volume with that batch behind its records.
+fn noted_behind<V: Restarts>(
+    alloc: Global,
+    disk: QuietDisk<V::Device>,
+    batch: &[u8],
+) -> Result<Option<usize>, Wrong> {
+    let mut disk = new_volume::<V>(alloc, disk)?;
+    record(&mut disk, batch)?;
+    noted_on::<V>(alloc, disk)
+}
+
+// The same with these notes.
+fn noted(alloc: Global, count: u8, notes: &[u8]) -> Result<Option<usize>, Wrong> {
+    let batch = batch_of(alloc, count, notes)?;
+    let disk = mem_disk(alloc, SIZES, Vec::new(alloc))?;
+    noted_behind::<Tested>(alloc, disk, batch.as_slice())
 }
 
 const NOTES: [&[u8]; 3] = [CLOCK, DECISION, READY];
@@ -86,7 +113,7 @@ fn notes_of_the_server(rt: HostRuntime) -> Result<(), Fail> {
 }
 
 // Whether a start is refused with the note, one byte of which is changed.
-fn is_refused(alloc: Global, note: &[u8], at: usize, to: u8) -> Result<bool, Fail> {
+fn is_refused(alloc: Global, note: &[u8], at: usize, to: u8) -> Result<bool, Wrong> {
     let mut bytes = Vec::new(alloc);
     put_bytes(&mut bytes, note)?;
     if let Some(byte) = bytes.get_mut(at) {

@@ -3,13 +3,12 @@ ghost use Rattle.std.specs.Prelude.{◌≡◌, IsTrue, false};
 ghost use Rattle.alp_files.specs.Changes.{ArePutOnce};
 
 use super::commits::{commit, counts_of};
-use super::quiet_disk::QuietDisk;
-use alp_base::{Cell, Change, Key, VaultFault};
-use alp_disk::Disk;
-use alp_store::Store;
+use super::fixtures::same_cell;
+use super::wrong::Wrong;
+use alp_base::{Change, Key, VaultFault};
+use alp_files::CellMap;
 use alp_vault::Vault;
 use std::alloc::Global;
-use std::test::Fail;
 
 // A vault that serves, of which nothing is told.
 #[derive(Drop)]
@@ -27,20 +26,26 @@ impl<V: Vault> Serving<V> {
         Serving { vault }
     }
 
+    pub(super) fn into_vault(self) -> V
+        ensures { V.tells result ≡ false }
+    {
+        self.vault
+    }
+
     // Makes the change with the note of that clock.
     pub(super) fn commit(
         self,
         alloc: Global,
         change: &Change,
         clock: u32,
-    ) -> Result<Serving<V>, Fail>
+    ) -> Result<Serving<V>, Wrong>
         requires { ArePutOnce change.now.puts }
     {
         let Serving { mut vault } = self;
         match commit(alloc, &mut vault, change, clock) {
             Ok(true) => Ok(Serving { vault }),
-            Ok(false) => Err("no room".into()),
-            Err(_) => Err("a commit".into()),
+            Ok(false) => Err(Wrong::Room),
+            Err(_fault) => Err(Wrong::Commit),
         }
     }
 
@@ -52,7 +57,7 @@ impl<V: Vault> Serving<V> {
         clock: u32,
         calls: u32,
         pick: u64,
-    ) -> Result<(Serving<V>, bool), Fail>
+    ) -> Result<(Serving<V>, bool), Wrong>
         requires { ArePutOnce change.now.puts }
     {
         let Serving { mut vault } = self;
@@ -60,7 +65,7 @@ impl<V: Vault> Serving<V> {
         match commit(alloc, &mut vault, change, clock) {
             Ok(true) => Ok((Serving { vault }, false)),
             Err(VaultFault::Stopped) => Ok((after_crash(vault, pick)?, true)),
-            _ => Err("a commit".into()),
+            _ => Err(Wrong::Commit),
         }
     }
 
@@ -68,15 +73,19 @@ impl<V: Vault> Serving<V> {
         &self.vault
     }
 
-    pub(super) fn crash(self, pick: u64) -> Result<Serving<V>, Fail> {
+    pub(super) fn crash(self, pick: u64) -> Result<Serving<V>, Wrong> {
         after_crash(self.vault, pick)
     }
 
-    pub(super) fn fetch(self, key: &Key) -> Result<(Serving<V>, Option<Cell>), VaultFault> {
+    // Whether it holds at the key what the map has there.
+    pub(super) fn holds(self, cells: &CellMap, key: &Key) -> Result<(Serving<V>, bool), Wrong> {
         let Serving { mut vault } = self;
         match vault.fetch(key) {
-            Ok(cell) => Ok((Serving { vault }, cell)),
-            Err(fault) => Err(fault),
+            Ok(found) => {
+                let same = same_cell(&found, cells.get(key));
+                Ok((Serving { vault }, same))
+            }
+            Err(_fault) => Err(Wrong::Disk),
         }
     }
 
@@ -85,23 +94,17 @@ impl<V: Vault> Serving<V> {
     }
 
     // Files, owners, places and the clock.
-    pub(super) fn counts(&self, alloc: Global) -> Result<(u32, u32, u32, u64), Fail> {
+    pub(super) fn counts(&self, alloc: Global) -> Result<(u32, u32, u32, u64), Wrong> {
         counts_of(alloc, &self.vault)
     }
 }
 
 // What comes back from a crash, and is recovered.
-fn after_crash<V: Vault>(vault: V, pick: u64) -> Result<Serving<V>, Fail>
+fn after_crash<V: Vault>(vault: V, pick: u64) -> Result<Serving<V>, Wrong>
     requires { V.tells vault ≡ false }
 {
     match vault.power_off(pick).recover() {
         Ok(vault) => Ok(Serving { vault }),
-        Err(_) => Err("a recovery".into()),
-    }
-}
-
-impl<D: Disk> Serving<Store<D>> {
-    pub(super) fn into_disk(self) -> Result<QuietDisk<D>, Fail> {
-        QuietDisk::new(self.vault.into_disk())
+        Err(_halted) => Err(Wrong::Recovery),
     }
 }

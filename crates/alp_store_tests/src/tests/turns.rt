@@ -1,12 +1,14 @@
 //! Random changes with restarts, beside a vault in memory.
+ghost use Rattle.std.specs.Prelude.{IsTrue, OnOk};
+
 use super::changes::all_keys;
-use super::fixtures::{SIZES, agree_at, mem_disk, started};
+use super::fixtures::{SIZES, Tested, mem_disk};
 use super::memory::Memory;
 use super::quiet_disk::QuietDisk;
+use super::restarts::{Restarts, started};
 use super::serving::Serving;
-use alp_disk::Disk;
-use alp_store::Store;
-use alp_vault::Vault;
+use super::wrong::Wrong;
+use alp_vault::{MemVault, Vault};
 use std::alloc::Global;
 use std::test::*;
 
@@ -21,89 +23,91 @@ fn next_number(seed: &mut u64) -> u32 {
     (*seed >> 33) as u32
 }
 
-// A store, and a vault in memory that is to hold the same.
-#[derive(Drop)]
-struct Twins<V: Vault> {
+// The store, where it holds what the vault in memory holds and counts the same, with the same clock.
+fn agreeing<V: Vault>(
+    alloc: Global,
     store: Serving<V>,
-    memory: Memory,
-}
-
-impl<V: Vault> Twins<V> {
-    // The same change of both.
-    fn turn(self, alloc: Global, number: u32, clock: u32) -> Result<Twins<V>, Fail> {
-        let (memory, change) = self.memory.commit_next(alloc, number, clock)?;
-        let store = self.store.commit(alloc, &change, clock)?;
-        Ok(Twins { store, memory })
-    }
-
-    // Both, where they hold the same cells and count the same, with the same clock.
-    fn agree(self, alloc: Global) -> Result<Twins<V>, Fail> {
-        let Twins { mut store, memory } = self;
-        for key in all_keys(alloc)? {
-            let (next, same) = agree_at(store, memory.cells(), &key)?;
-            store = next;
-            if same == 0 {
-                return Err("another cell".into());
-            }
+    memory: &Memory,
+) -> Result<Serving<V>, Wrong>
+    requires { IsTrue (⟦<MemVault as Vault>⟧.serves memory.now.vault) }
+{
+    let mut store = store;
+    for key in all_keys(alloc)? {
+        let (next, same) = store.holds(memory.cells(), &key)?;
+        store = next;
+        if !same {
+            return Err(Wrong::Cell);
         }
-        if store.counts(alloc)? != memory.counts(alloc)? {
-            return Err("another count".into());
-        }
-        Ok(Twins { store, memory })
     }
+    if store.counts(alloc)? != memory.counts(alloc)? {
+        return Err(Wrong::Cell);
+    }
+    Ok(store)
 }
 
 // The store again: on its disk anew, or after a crash with a recovery.
-fn again<D: Disk>(
-    alloc: Global,
-    store: Serving<Store<D>>,
-    number: u32,
-) -> Result<Serving<Store<D>>, Fail> {
+fn again<V: Restarts>(alloc: Global, store: Serving<V>, number: u32) -> Result<Serving<V>, Wrong> {
     if number % 2 == 0 {
-        return started(alloc, store.into_disk()?, SIZES);
+        return started(alloc, V::close(store)?, SIZES);
     }
     store.crash(u64::from(number))
 }
 
-// A change, maybe a restart of the store behind it, and maybe a look whether both hold the same.
-fn step<D: Disk>(
+// A change of both, maybe a restart of the store behind it, and maybe a look whether both hold the same.
+fn step<V: Restarts>(
     alloc: Global,
-    twins: Twins<Store<D>>,
+    store: Serving<V>,
+    memory: &mut Memory,
     number: u32,
     clock: u32,
-) -> Result<Twins<Store<D>>, Fail> {
-    let Twins { mut store, memory } = twins.turn(alloc, number, clock)?;
+) -> Result<Serving<V>, Wrong>
+    requires { IsTrue (⟦<MemVault as Vault>⟧.serves memory.old.vault) }
+    ensures { OnOk result (IsTrue (⟦<MemVault as Vault>⟧.serves memory.new.vault)) }
+{
+    let change = memory.commit_next(alloc, number, clock)?;
+    let mut store = store.commit(alloc, &change, clock)?;
     let more = number >> 20;
     if more % 10 == 0 {
         store = again(alloc, store, more / 10)?;
     }
-    let twins = Twins { store, memory };
     if more % 5 == 0 {
-        return twins.agree(alloc);
+        return agreeing(alloc, store, memory);
     }
-    Ok(twins)
+    Ok(store)
 }
 
-// Gives the vault in memory at the end.
-fn play<D: Disk>(alloc: Global, disk: QuietDisk<D>) -> Result<Memory, Fail> {
-    let mut twins = Twins {
-        store: started(alloc, disk, SIZES)?,
-        memory: Memory::new(alloc),
-    };
+// All changes of both, and a look at the end.
+fn play<V: Restarts>(
+    alloc: Global,
+    disk: QuietDisk<V::Device>,
+    memory: &mut Memory,
+) -> Result<(), Wrong>
+    requires { IsTrue (⟦<MemVault as Vault>⟧.serves memory.old.vault) }
+    ensures { OnOk result (IsTrue (⟦<MemVault as Vault>⟧.serves memory.new.vault)) }
+{
+    let mut store = started::<V>(alloc, disk, SIZES)?;
     let mut seed = 7u64;
     for turn in 0..TURNS {
-        twins = step(alloc, twins, next_number(&mut seed), turn + 1)?;
+        store = step(alloc, store, memory, next_number(&mut seed), turn + 1)?;
     }
-    Ok(twins.agree(alloc)?.memory)
+    let _store = agreeing(alloc, store, memory)?;
+    Ok(())
+}
+
+// Whether all changes were made, of which some deleted files and some took pages from them.
+fn has_played(alloc: Global, memory: &Memory) -> Result<bool, Wrong>
+    requires { IsTrue (⟦<MemVault as Vault>⟧.serves memory.now.vault) }
+{
+    let (_files, owners, _places, clock) = memory.counts(alloc)?;
+    Ok(owners == 1 && clock == u64::from(TURNS) && memory.deleted > 0 && memory.cut > 0)
 }
 
 #[test]
 fn changes_and_restarts_beside_a_vault_in_memory(rt: HostRuntime) -> Result<(), Fail> {
     let alloc = rt.alloc();
     let disk = mem_disk(alloc, SIZES, Vec::new(alloc))?;
-    let memory = play(alloc, disk)?;
-    let (_, owners, _, clock) = memory.counts(alloc)?;
-    assert_eq!(rt; (owners, clock), (1, u64::from(TURNS)));
-    assert!(rt; memory.deleted > 0 && memory.cut > 0);
+    let mut memory = Memory::new(alloc);
+    play::<Tested>(alloc, disk, &mut memory)?;
+    assert!(rt; has_played(alloc, &memory)?);
     Ok(())
 }

@@ -1,5 +1,5 @@
 //! Commits in which the disk of a server stops at each of its calls, and what stands when the server has started again.
-use super::{SOUND, first_other, has, run};
+use super::{SOUND, has, run};
 use std::alloc::Global;
 use std::io::Write;
 use std::test::Fail;
@@ -107,31 +107,5 @@ fn servers_agree_when_the_coordinator_stops(rt: HostRuntime) -> Result<(), Fail>
 #[test]
 fn servers_agree_when_the_other_server_stops(rt: HostRuntime) -> Result<(), Fail> {
     assert!(rt; is_whole(rt.alloc(), OF_TWO, 2)?);
-    Ok(())
-}
-
-// A transaction's end is known for as long as the server runs.
-const OUTCOMES: [&[u8]; 2] = [
-    b"servers 1\nclient 1 Admin\n1 begin 1\n1 mkowner 1 ann 9 World\n1 commit\n1 outcome\nrestart 1 0\n1 outcome\n1 outcome\n",
-    b"3 ok trans 1.1.1\n4 ok\n5 ok stamp 1 1.1.1\n6 ok committed 1 1.1.1\n8 refused 2 epoch 2\n9 ok unknown\nserver 1 epoch 2 clock 1 files 0 pages 0\nowner 1 ann charge 0 quota 9\ncommitted 1 aborted 0\n",
-];
-
-// A client that was told the last stamp of the clock begins, and cannot commit.
-const CLOCK_END: [&[u8]; 2] = [
-    b"servers 1\nclient 1 Admin\n1 raw 1 51010000000000000001010541646d696e\n1 raw 1 51010000000100000002024000000000000000010000000100000001\n1 raw 1 510100000001000000031101000000010000000101\n1 raw 1 0000\n",
-    b"3 ok\n4 ok trans 1.1.1\n5 refused 17 Voted 1 ClockEnd\n6 refused 1\nserver 1 epoch 1 clock 4611686018427387904 files 0 pages 0\ncommitted 0 aborted 1\n",
-];
-
-// A settling ends what runs, and starts a server again that is down.
-const SETTLED: [&[u8]; 2] = [
-    b"servers 1\nclient 1 Admin\n1 begin 1\n1 mkowner 1 ann 9 World\nsettle\n1 commit\n1 begin 1\n1 mkowner 1 ann 9 World\nstop 1 0\n1 commit\nsettle\n1 begin 1\n1 begin 1\n1 owner 1 ann\n1 commit\n",
-    b"3 ok trans 1.1.1\n4 ok\n6 refused 17 TimedOut\n7 ok trans 1.1.2\n8 ok\n10 refused 20\n12 refused 2 epoch 2\n13 ok trans 1.2.1\n14 refused 7\n15 ok stamp 1 1.2.1\nserver 1 epoch 2 clock 1 files 0 pages 0\ncommitted 1 aborted 2\n",
-];
-
-static ENDS: [[&[u8]; 2]; 3] = [OUTCOMES, SETTLED, CLOCK_END];
-
-#[test]
-fn outcomes_settlings_and_the_end_of_the_clock(rt: HostRuntime) -> Result<(), Fail> {
-    assert_eq!(rt; first_other(rt.alloc(), &ENDS)?, None);
     Ok(())
 }

@@ -18,7 +18,6 @@ const NOT_READ: Failing = Failing {
 #[test]
 fn plays_a_drill(rt: HostRuntime) -> Result<(), Fail> {
     let told = run(rt.alloc(), &DRILL, b"", &NOT_READ)?;
-    assert!(rt; told.code == 0 && told.said.is_empty());
-    assert!(rt; told.written.as_slice() == SUMMARY);
+    assert!(rt; told.is(0, "", SUMMARY));
     Ok(())
 }

@@ -3,7 +3,7 @@ ghost use Rattle.std.specs.Prelude.{◌≡◌, ◌≤◌, length, IfOk};
 ghost use Rattle.alp_base.specs.declared.allowance.Allowance.TheVariants.{Free};
 
 use super::{
-    AGAIN, AGAIN_TOLD, Failing, IDLE, REFUSALS, REFUSED, SCRIPT, SOUND, calls, expected, run,
+    AGAIN, AGAIN_TOLD, Failing, IDLE, REFUSALS, REFUSED, SCRIPT, SOUND, TOLD, Told, calls, run,
     run_in, words,
 };
 use alp_base::{MemSource, WriteSink};
@@ -37,16 +37,22 @@ static WORDS: [&[&str]; 5] = [
     &["--help"],
 ];
 
+// Whether each of these is refused.
+fn are_bad_words(alloc: Global) -> Result<bool, Fail> {
+    for asked in WORDS {
+        let told = run(alloc, asked, SCRIPT, &SOUND)?;
+        if !told.is(1, "alpine: bad words", b"") {
+            return Ok(false);
+        }
+    }
+    Ok(true)
+}
+
 #[test]
 fn refuses_other_words_and_scripts(rt: HostRuntime) -> Result<(), Fail> {
-    for asked in WORDS {
-        let told = run(rt.alloc(), asked, SCRIPT, &SOUND)?;
-        assert!(rt; told.code == 1 && told.said.as_str() == "alpine: bad words");
-        assert!(rt; told.written.is_empty());
-    }
     let told = run(rt.alloc(), &["play"], b"servers 9\n", &SOUND)?;
-    assert!(rt; told.code == 2 && told.said.as_str() == "alpine: bad script line 1");
-    assert!(rt; told.written.is_empty());
+    let is_refused = told.is(2, "alpine: bad script line 1", b"");
+    assert!(rt; is_refused && are_bad_words(rt.alloc())?);
     Ok(())
 }
 
@@ -59,21 +65,28 @@ fn new_folder(rt: &HostRuntime) -> Result<PathBuf, Fail> {
 }
 
 // The run of a script with these words in a new bay of the host.
-fn run_on_host(rt: HostRuntime, asked: &[&str], script: &[u8]) -> Result<super::Told, Fail> {
+fn run_on_host(rt: HostRuntime, asked: &[&str], script: &[u8]) -> Result<Told, Fail> {
     let mut bay = HostBay::new(rt.alloc(), rt)?;
     run_in(rt.alloc(), asked, script, &SOUND, &mut bay)
 }
 
+static DAYS: [(&[u8], &[u8]); 2] = [(SCRIPT, TOLD), (AGAIN, AGAIN_TOLD)];
+
 // Whether each day of the folder goes on with what the day before left.
 fn goes_on(rt: HostRuntime, folder: &str) -> Result<bool, Fail> {
-    let told = expected(rt.alloc(), 8)?;
-    for (script, report) in [(SCRIPT, told.as_slice()), (AGAIN, AGAIN_TOLD)] {
+    for (script, report) in DAYS {
         let told = run_on_host(rt, &["play", "--folder", folder], script)?;
-        if told.code != 0 || told.written.as_slice() != report {
+        if !told.is(0, "", report) {
             return Ok(false);
         }
     }
     Ok(true)
+}
+
+// Whether a folder without a name is a fault.
+fn needs_a_name(rt: HostRuntime) -> Result<bool, Fail> {
+    let told = run_on_host(rt, &["play", "--folder="], SCRIPT)?;
+    Ok(told.said.as_str() == "alpine: disk fault server 0")
 }
 
 #[test]
@@ -82,14 +95,12 @@ fn plays_on_the_volume_of_a_folder(rt: HostRuntime) -> Result<(), Fail> {
     let folder = path.as_path().to_str().ok_or("a name")?;
     let kept = goes_on(rt, folder)?;
     fs::remove_dir_all(&rt, path.as_path())?;
-    assert!(rt; kept);
-    let told = run_on_host(rt, &["play", "--folder="], SCRIPT)?;
-    assert!(rt; told.said.as_str() == "alpine: disk fault server 0");
+    assert!(rt; kept && needs_a_name(rt)?);
     Ok(())
 }
 
 // How a script ends on such a disk of the first server.
-fn run_on(alloc: Global, disk: MemDisk, script: &[u8]) -> Result<super::Told, Fail>
+fn run_on(alloc: Global, disk: MemDisk, script: &[u8]) -> Result<Told, Fail>
     requires long { 2 ≤ ⟦<MemDisk as Disk>⟧.size disk }
     requires free { ⟦<MemDisk as Disk>⟧.allowance disk ≡ Free }
 {
@@ -98,15 +109,26 @@ fn run_on(alloc: Global, disk: MemDisk, script: &[u8]) -> Result<super::Told, Fa
     run_in(alloc, &["play"], script, &SOUND, &mut bay)
 }
 
+// How the script ends on a disk that is no volume.
+fn on_another_disk(alloc: Global) -> Result<Told, Fail> {
+    let other = disk_with(alloc, 2, Vec::new(alloc), b"hello")?;
+    run_on(alloc, other, SCRIPT)
+}
+
+// And on one each of whose calls fails.
+fn on_a_failing_disk(alloc: Global) -> Result<Told, Fail> {
+    let failing = disk_with(alloc, 2, calls(alloc, 1)?, b"")?;
+    run_on(alloc, failing, SCRIPT)
+}
+
 #[test]
 fn tells_what_is_wrong_with_a_disk(rt: HostRuntime) -> Result<(), Fail> {
-    let other = disk_with(rt.alloc(), 2, Vec::new(rt.alloc()), b"hello")?;
-    let told = run_on(rt.alloc(), other, SCRIPT)?;
-    assert!(rt; told.code == 8 && told.said.as_str() == "alpine: not a volume server 1");
-    assert!(rt; told.written.is_empty());
-    let failing = disk_with(rt.alloc(), 2, calls(rt.alloc(), 1)?, b"")?;
-    let told = run_on(rt.alloc(), failing, SCRIPT)?;
-    assert!(rt; told.code == 5 && told.said.as_str() == "alpine: disk fault server 1");
+    let other = on_another_disk(rt.alloc())?;
+    let failing = on_a_failing_disk(rt.alloc())?;
+    let is_told = other.is(8, "alpine: not a volume server 1", b"");
+    assert!(rt;
+        is_told && failing.code == 5 && failing.said.as_str() == "alpine: disk fault server 1"
+    );
     Ok(())
 }
 
@@ -130,7 +152,7 @@ const WRITE_FAULT: Ending = (4, "alpine: write fault", b"");
 fn ends_so(alloc: Global, text: &[u8], failing: Failing, ending: Ending) -> Result<bool, Fail> {
     let told = run(alloc, &["play"], text, &failing)?;
     let (code, said, written) = ending;
-    Ok(told.code == code && told.said.as_str() == said && told.written.as_slice() == written)
+    Ok(told.is(code, said, written))
 }
 
 #[test]
@@ -195,11 +217,9 @@ fn most_lines(alloc: Global) -> Result<Vec<u8>, Fail> {
 fn tells_a_script_of_too_many_lines(rt: HostRuntime) -> Result<(), Fail> {
     let mut script = most_lines(rt.alloc())?;
     let told = run(rt.alloc(), &["play"], script.as_slice(), &SOUND)?;
-    assert!(rt; told.code == 0);
     script.extend_from_slice(b"no line at all\n")?;
     let more = run(rt.alloc(), &["play"], script.as_slice(), &SOUND)?;
-    assert!(rt; more.code == 7 && more.said.as_str() == "alpine: too long 200000");
-    assert!(rt; more.written.is_empty());
+    assert!(rt; told.code == 0 && more.is(7, "alpine: too long 200000", b""));
     Ok(())
 }
 
@@ -266,7 +286,7 @@ const TWO_CLIENTS: &[u8] =
 const PAGES: u32 = 642;
 
 // How the script ends on a disk whose call with this number fails.
-fn with_failing_call(alloc: Global, number: u64) -> Result<super::Told, Fail> {
+fn with_failing_call(alloc: Global, number: u64) -> Result<Told, Fail> {
     let mut failing = Vec::new(alloc);
     failing.push(number)?;
     let disk = disk_with(alloc, PAGES, failing, b"")?;

@@ -1,6 +1,6 @@
-//! Runs of two servers: transactions with parts at both, messages that are lost and come twice, and commits in which the disk of one
-//! of the servers stops at each of its calls, where each message is carried by hand.
-use super::{SOUND, first_other_day, has, reports, run};
+//! Runs of two servers: one that goes on where another ended, and commits in which the disk of one of the servers stops at each of its
+//! calls, where each message is carried by hand.
+use super::{SOUND, go_on, has, run};
 use alp_bay::MemBay;
 use std::alloc::Global;
 use std::test::Fail;
@@ -11,12 +11,6 @@ const CROSSED: &[u8] =
 
 const CROSSED_TOLD: &[u8] =
     b"5 ok trans 1.1.1\n6 ok\n7 ok\n8 ok stamp 1 1.1.1\n9 ok trans 1.1.2\n10 ok trans 2.1.1\n11 ok owner ann charge 0 quota 9 create World\n12 ok\n13 ok owner ann charge 0 quota 9 create World\n14 refused 16 holder 2.1.1\n15 ok stamp 2 2.1.1\n16 ok owner ann charge 0 quota 5 create World\n17 ok stamp 3 1.1.2\nserver 1 epoch 1 clock 3 files 0 pages 0\nserver 2 epoch 1 clock 3 files 0 pages 0\nowner 1 ann charge 0 quota 9\nowner 2 ann charge 0 quota 5\ncommitted 3 aborted 0\n";
-
-#[test]
-fn transactions_have_parts_at_two_servers(rt: HostRuntime) -> Result<(), Fail> {
-    assert!(rt; reports(rt.alloc(), CROSSED, CROSSED_TOLD)?);
-    Ok(())
-}
 
 // Another day: both servers have what they had, in their next epochs.
 const NEXT_DAY: &[u8] =
@@ -30,7 +24,7 @@ static DAYS: [[&[u8]; 2]; 2] = [[CROSSED, CROSSED_TOLD], [NEXT_DAY, NEXT_DAY_TOL
 #[test]
 fn a_run_goes_on_where_another_ended(rt: HostRuntime) -> Result<(), Fail> {
     let mut bay = MemBay::new(rt.alloc())?;
-    assert_eq!(rt; first_other_day(rt.alloc(), &DAYS, &mut bay)?, None);
+    assert!(rt; go_on(rt.alloc(), &DAYS, &mut bay)?);
     Ok(())
 }
 
@@ -42,9 +36,6 @@ const CARRIED: &[u8] =
 
 const BEHIND: &[u8] = b"auto on\n1 begin 2\n1 owner 1 ann\n1 commit\n";
 
-const CARRIED_TOLD: &[u8] =
-    b"3 ok trans 1.1.1\n4 ok\n5 ok\n7 refused 18\n8 refused 4\n12 ok stamp 1 1.1.1\n20 ok trans 2.1.1\n21 ok owner ann charge 0 quota 9 create World\n22 ok stamp 2 2.1.1\nserver 1 epoch 1 clock 2 files 0 pages 0\nserver 2 epoch 1 clock 2 files 0 pages 0\nowner 1 ann charge 0 quota 9\nowner 2 ann charge 0 quota 9\ncommitted 2 aborted 0\n";
-
 // All this, where a line stands before it and another before what is asked behind it.
 fn script(alloc: Global, before: &[u8], between: &[u8]) -> Result<Vec<u8>, Fail> {
     let mut text = Vec::from_slice(alloc, b"servers 2\nclient 1 Admin\n")?;
@@ -53,13 +44,6 @@ fn script(alloc: Global, before: &[u8], between: &[u8]) -> Result<Vec<u8>, Fail>
     text.extend_from_slice(between)?;
     text.extend_from_slice(BEHIND)?;
     Ok(text)
-}
-
-#[test]
-fn a_lost_and_a_repeated_message_change_nothing(rt: HostRuntime) -> Result<(), Fail> {
-    let text = script(rt.alloc(), b"", b"")?;
-    assert!(rt; reports(rt.alloc(), text.as_slice(), CARRIED_TOLD)?);
-    Ok(())
 }
 
 // What is reported where the disk of this server does so many calls of all this, and these lines stand before the rest.

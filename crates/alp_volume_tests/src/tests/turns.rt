@@ -1,5 +1,5 @@
 //! A random sequence of changes, beside a plain map.
-ghost use Rattle.std.specs.Prelude.{◌≡◌, ◌<◌};
+ghost use Rattle.std.specs.Prelude.{◌≡◌, ◌<◌, true};
 ghost use Rattle.alp_base.specs.declared.cell.Cell.TheVariants.{Leader as LeaderCell, Owner as OwnerCell, Page as PageCell};
 ghost use Rattle.alp_vault.specs.Volumes.{fit_keys, fits_key};
 ghost use Rattle.alp_volume.specs.Known.{IsCatalog};
@@ -132,12 +132,9 @@ fn file_of(number: u32) -> FileId {
     }
 }
 
-fn put_of_file(alloc: Global, file: u32, size: u32) -> Result<Option<(Key, Cell)>, OutOfMemory> {
-    let Some(mut found) = leader(alloc)? else {
-        return Ok(None);
-    };
-    found.props.size = size;
-    Ok(Some((Key::Leader(file_of(file)), Cell::Leader(found.props))))
+fn put_of_file(alloc: Global, file: u32, size: u32) -> Result<(Key, Cell), OutOfMemory> {
+    let props = props(alloc, size)?;
+    Ok((Key::Leader(file_of(file)), Cell::Leader(props)))
 }
 
 fn put_of_page(
@@ -150,12 +147,9 @@ fn put_of_page(
     Ok((Key::PageOf(file_of(file), number), Cell::Page(page)))
 }
 
-fn put_of_owner(alloc: Global, charge: u32) -> Result<Option<(Key, Cell)>, OutOfMemory> {
-    let Some(mut owner) = ann(alloc)? else {
-        return Ok(None);
-    };
-    owner.charge = charge;
-    Ok(Some((Key::OwnerOf(owner.name), Cell::Owner(owner))))
+fn put_of_owner(alloc: Global, charge: u32) -> Result<(Key, Cell), OutOfMemory> {
+    let owner = ann(alloc, charge)?;
+    Ok((Key::OwnerOf(owner.name), Cell::Owner(owner)))
 }
 
 // Puts up to three pages of the file, in a row, as far as they stand. The map has them too.
@@ -177,46 +171,71 @@ fn put_pages(
     Ok(())
 }
 
-// A drop or a cut, a new file, pages that are put: each of one file, with the charge of the owner. The map has it too.
-fn random_change(
+// The file goes, where the kind of a change is a drop. The map has it no more either.
+fn drops_of(
     alloc: Global,
     map: &mut PlainMap,
-    seed: &mut u64,
-) -> Result<Option<Change>, OutOfMemory> {
+    file: u32,
+    kind: u32,
+) -> Result<Vec<FileId>, OutOfMemory> {
     let mut drops = Vec::new(alloc);
-    let mut cuts = Vec::new(alloc);
-    let mut puts = Vec::new(alloc);
-    let file = next_number(seed) % 4;
-    let kind = next_number(seed) % 8;
     if map.size(file).is_some() && kind == 0 {
         drops.push(file_of(file))?;
         map.set_size(file, None);
         map.clear_from(file, 0);
     }
+    Ok(drops)
+}
+
+// The file loses its last pages, where the kind of a change is a cut.
+fn cuts_of(
+    alloc: Global,
+    map: &mut PlainMap,
+    file: u32,
+    kind: u32,
+    seed: &mut u64,
+) -> Result<Vec<(FileId, u32)>, OutOfMemory> {
+    let mut cuts = Vec::new(alloc);
     if map.size(file).is_some() && kind == 1 {
         let to = next_number(seed) % 513;
         cuts.push((file_of(file), to))?;
         map.clear_from(file, to);
     }
+    Ok(cuts)
+}
+
+// The file comes, where there is none and the kind allows it, pages of it are written, and its owner is charged.
+fn puts_of(
+    alloc: Global,
+    map: &mut PlainMap,
+    file: u32,
+    kind: u32,
+    seed: &mut u64,
+) -> Result<Vec<(Key, Cell)>, OutOfMemory> {
+    let mut puts = Vec::new(alloc);
     let size = next_number(seed) % 513;
     if map.size(file).is_none() && kind < 6 {
         map.set_size(file, Some(size));
-        let Some(put) = put_of_file(alloc, file, size)? else {
-            return Ok(None);
-        };
-        puts.push(put)?;
+        puts.push(put_of_file(alloc, file, size)?)?;
     }
     put_pages(alloc, map, file, seed, &mut puts)?;
-    let Some(put) = put_of_owner(alloc, map.charge())? else {
-        return Ok(None);
-    };
-    puts.push(put)?;
+    puts.push(put_of_owner(alloc, map.charge())?)?;
     puts.reverse();
-    Ok(Some(Change {
+    Ok(puts)
+}
+
+// A drop or a cut, a new file, pages that are put: each of one file, with the charge of the owner. The map has it too.
+fn random_change(alloc: Global, map: &mut PlainMap, seed: &mut u64) -> Result<Change, OutOfMemory> {
+    let file = next_number(seed) % 4;
+    let kind = next_number(seed) % 8;
+    let drops = drops_of(alloc, map, file, kind)?;
+    let cuts = cuts_of(alloc, map, file, kind, seed)?;
+    let puts = puts_of(alloc, map, file, kind, seed)?;
+    Ok(Change {
         drops: Sequence::new(drops),
         cuts: Sequence::new(cuts),
         puts: Sequence::new(puts),
-    }))
+    })
 }
 
 fn leader_fits(key: &Key, props: &Props) -> bool
@@ -292,6 +311,26 @@ fn agree(one: &Catalog, other: &Catalog) -> bool {
     one.files.len() == other.files.len() && one.owners.len() == other.owners.len()
 }
 
+// Makes the change of the volume, and tells whether it was made: where room is missing it is not.
+fn is_made(
+    alloc: Global,
+    pages: &mut MemPages,
+    catalog: &mut Catalog,
+    change: &Change,
+) -> Result<bool, OutOfMemory>
+    requires sized { IsCatalog 300 catalog.old }
+    requires fits { fit_keys change.now.puts ≡ true }
+    ensures { IsCatalog 300 catalog.new }
+{
+    match plan_change(alloc, pages, catalog, change) {
+        Ok(plan) => {
+            apply(pages, &plan)?;
+            Ok(true)
+        }
+        Err(_fault) => Ok(false),
+    }
+}
+
 // Makes one change of the volume and of the map, or of neither, and tells whether that was right: only where room is missing is none made.
 fn make_turn(
     alloc: Global,
@@ -299,25 +338,20 @@ fn make_turn(
     catalog: &mut Catalog,
     map: &mut PlainMap,
     seed: &mut u64,
-) -> Result<Option<bool>, OutOfMemory>
+) -> Result<bool, OutOfMemory>
     requires { IsCatalog 300 catalog.old }
     ensures { IsCatalog 300 catalog.new }
 {
     let mut next = map.copy(alloc)?;
-    let Some(change) = random_change(alloc, &mut next, seed)? else {
-        return Ok(None);
-    };
+    let change = random_change(alloc, &mut next, seed)?;
     if !all_fit(change.puts.as_slice()) {
-        return Ok(None);
+        return Ok(false);
     }
-    match plan_change(alloc, pages, catalog, &change) {
-        Ok(plan) => {
-            apply(pages, &plan)?;
-            *map = next;
-            Ok(Some(true))
-        }
-        Err(_) => Ok(Some(next.used().saturating_add(257) > HOME)),
+    if is_made(alloc, pages, catalog, &change)? {
+        *map = next;
+        return Ok(true);
     }
+    Ok(next.used().saturating_add(257) > HOME)
 }
 
 // Whether a page of a file is what the map says.
@@ -370,7 +404,7 @@ fn turn_is_right(
     let Ok(right) = make_turn(alloc, pages, catalog, map, seed) else {
         return Err(VaultFault::OutOfMemory);
     };
-    if right != Some(true) || places_taken(catalog) != map.used() {
+    if !right || places_taken(catalog) != map.used() {
         return Ok(false);
     }
     let number = next_number(seed) % 512;
@@ -405,11 +439,8 @@ fn wrong_turn(
 #[test]
 fn changes_like_a_plain_map(rt: HostRuntime) -> Result<(), Fail> {
     let alloc = rt.alloc();
-    let mut map = PlainMap::new(alloc).ok().ok_or("memory")?;
-    let mut pages = empty_volume(alloc).ok().ok_or("memory")?;
-    let wrong = wrong_turn(alloc, &mut pages, &mut map)
-        .ok()
-        .ok_or("memory")?;
-    assert_eq!(rt; wrong, None);
+    let mut map = PlainMap::new(alloc)?;
+    let mut pages = empty_volume(alloc)?;
+    assert!(rt; wrong_turn(alloc, &mut pages, &mut map)? == None);
     Ok(())
 }

@@ -1,7 +1,17 @@
 //! Lines that are outside.
-use alp_lines::{Line, text_in};
-use alp_tokens::LineFault;
+use super::{Sense, is_outside, say};
+use std::alloc::Global;
 use std::test::Fail;
+
+// Whether each of these texts is.
+fn are_outside(alloc: Global, texts: &[&[u8]]) -> bool {
+    for text in texts {
+        if !is_outside(alloc, *text) {
+            return false;
+        }
+    }
+    true
+}
 
 static WRONG_LINES: [&[u8]; 35] = [
     b"1 create 1 G ann",
@@ -43,10 +53,7 @@ static WRONG_LINES: [&[u8]; 35] = [
 
 #[test]
 fn refuses_wrong_lines(rt: HostRuntime) -> Result<(), Fail> {
-    let alloc = rt.alloc();
-    for text in WRONG_LINES {
-        assert!(rt; matches!(text_in(alloc, text), Err(LineFault::Outside)));
-    }
+    assert!(rt; are_outside(rt.alloc(), &WRONG_LINES));
     Ok(())
 }
 
@@ -64,10 +71,7 @@ static WRONG_WAITS: [&[u8]; 9] = [
 
 #[test]
 fn refuses_wrong_waits(rt: HostRuntime) -> Result<(), Fail> {
-    let alloc = rt.alloc();
-    for text in WRONG_WAITS {
-        assert!(rt; matches!(text_in(alloc, text), Err(LineFault::Outside)));
-    }
+    assert!(rt; are_outside(rt.alloc(), &WRONG_WAITS));
     Ok(())
 }
 
@@ -94,10 +98,7 @@ static WRONG_LOCKS: [&[u8]; 18] = [
 
 #[test]
 fn refuses_wrong_locks(rt: HostRuntime) -> Result<(), Fail> {
-    let alloc = rt.alloc();
-    for text in WRONG_LOCKS {
-        assert!(rt; matches!(text_in(alloc, text), Err(LineFault::Outside)));
-    }
+    assert!(rt; are_outside(rt.alloc(), &WRONG_LOCKS));
     Ok(())
 }
 
@@ -132,10 +133,7 @@ static WRONG_EVENTS: [&[u8]; 26] = [
 
 #[test]
 fn refuses_wrong_events(rt: HostRuntime) -> Result<(), Fail> {
-    let alloc = rt.alloc();
-    for text in WRONG_EVENTS {
-        assert!(rt; matches!(text_in(alloc, text), Err(LineFault::Outside)));
-    }
+    assert!(rt; are_outside(rt.alloc(), &WRONG_EVENTS));
     Ok(())
 }
 
@@ -155,13 +153,10 @@ static WRONG_BYTES: [&[u8]; 13] = [
     b"3 outcome 1",
 ];
 
+static OUTCOME: [(&[u8], Sense); 1] = [(b"3 outcome", Sense::Outcome(3))];
+
 #[test]
 fn refuses_wrong_bytes(rt: HostRuntime) -> Result<(), Fail> {
-    let alloc = rt.alloc();
-    for text in WRONG_BYTES {
-        assert!(rt; matches!(text_in(alloc, text), Err(LineFault::Outside)));
-    }
-    let asks = text_in(alloc, b"3 outcome")?;
-    assert!(rt; matches!(&asks, Some(Line::Outcome { client: 3 })));
+    assert!(rt; are_outside(rt.alloc(), &WRONG_BYTES) && say(rt.alloc(), &OUTCOME));
     Ok(())
 }

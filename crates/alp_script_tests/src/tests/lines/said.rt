@@ -1,20 +1,28 @@
 //! What lines say.
+use super::{Sense, is_outside, read, say};
 use alp_base::{Access, AccessList, Choice, NAMES_PER_LIST, Name, Run};
 use alp_files::PropChange;
-use alp_lines::{Line, text_in};
+use alp_lines::Line;
 use alp_modes::Mode;
-use alp_tokens::LineFault;
 use std::alloc::Global;
 use std::test::Fail;
 
-// Whether each of these texts says a line.
-fn are_lines(alloc: Global, texts: &[&[u8]]) -> Result<bool, LineFault> {
+// Whether the text says a line.
+fn is_line(alloc: Global, text: &[u8]) -> bool {
+    match read(alloc, text) {
+        Ok(_line) => true,
+        Err(_fault) => false,
+    }
+}
+
+// Whether each of these texts does.
+fn are_lines(alloc: Global, texts: &[&[u8]]) -> bool {
     for text in texts {
-        if text_in(alloc, text)?.is_none() {
-            return Ok(false);
+        if !is_line(alloc, *text) {
+            return false;
         }
     }
-    Ok(true)
+    true
 }
 
 static ON_FILES: [&[u8]; 20] = [
@@ -42,8 +50,7 @@ static ON_FILES: [&[u8]; 20] = [
 
 #[test]
 fn reads_lines_on_files(rt: HostRuntime) -> Result<(), Fail> {
-    let alloc = rt.alloc();
-    assert!(rt; are_lines(alloc, &ON_FILES)?);
+    assert!(rt; are_lines(rt.alloc(), &ON_FILES));
     Ok(())
 }
 
@@ -59,18 +66,18 @@ static ON_OWNERS: [&[u8]; 7] = [
 
 #[test]
 fn reads_lines_on_owners(rt: HostRuntime) -> Result<(), Fail> {
-    let alloc = rt.alloc();
-    assert!(rt; are_lines(alloc, &ON_OWNERS)?);
+    assert!(rt; are_lines(rt.alloc(), &ON_OWNERS));
     Ok(())
 }
 
+static SENT_AGAIN: [(&[u8], Sense); 2] = [
+    (b"1 repeat", Sense::Repeat(1)),
+    (b"16  old", Sense::Old(16)),
+];
+
 #[test]
 fn reads_lines_that_send_again(rt: HostRuntime) -> Result<(), Fail> {
-    let alloc = rt.alloc();
-    let repeat = text_in(alloc, b"1 repeat")?;
-    assert!(rt; matches!(&repeat, Some(Line::Repeat { client: 1 })));
-    let old = text_in(alloc, b"16  old")?;
-    assert!(rt; matches!(&old, Some(Line::Old { client: 16 })));
+    assert!(rt; say(rt.alloc(), &SENT_AGAIN));
     Ok(())
 }
 
@@ -86,120 +93,143 @@ fn list(alloc: Global, names: &[&[u8]]) -> Result<AccessList, Fail> {
     Ok(AccessList::new(list))
 }
 
-// Whether the text says that a file is to be created with these lists.
-fn creates(
-    alloc: Global,
-    text: &[u8],
-    read: &AccessList,
-    modify: &AccessList,
-) -> Result<bool, Fail> {
-    let said = text_in(alloc, text)?;
-    Ok(matches!(&said, Some(Line::Create { read: r, modify: m, .. }) if r == read && m == modify))
+// Whether a file is to be created with these lists.
+fn has_lists(line: &Line, readers: &AccessList, writers: &AccessList) -> bool {
+    match line {
+        Line::Create { read, modify, .. } => read == readers && modify == writers,
+        _ => false,
+    }
+}
+
+// Whether the text says that a file is to be created with lists of these names.
+fn creates(alloc: Global, text: &[u8], readers: &[&[u8]], writers: &[&[u8]]) -> Result<bool, Fail> {
+    let line = read(alloc, text)?;
+    let readers = list(alloc, readers)?;
+    let writers = list(alloc, writers)?;
+    Ok(has_lists(&line, &readers, &writers))
+}
+
+fn lists_are_left_out(alloc: Global) -> Result<bool, Fail> {
+    Ok(
+        creates(alloc, b"1 create 1 G ann 1", &[b"World"], &[b"Owner"])?
+            && creates(alloc, b"1 create 1 G ann 1 fail", &[b"World"], &[b"Owner"])?
+            && creates(
+                alloc,
+                b"1 create 1 G ann 1 - eve,Owner",
+                &[],
+                &[b"eve", b"Owner"],
+            )?,
+    )
 }
 
 #[test]
 fn lists_may_be_left_out(rt: HostRuntime) -> Result<(), Fail> {
-    let alloc = rt.alloc();
-    let everyone = list(alloc, &[b"World"])?;
-    let owner = list(alloc, &[b"Owner"])?;
-    assert!(rt; creates(alloc, b"1 create 1 G ann 1", &everyone, &owner)?);
-    assert!(rt; creates(alloc, b"1 create 1 G ann 1 fail", &everyone, &owner)?);
-    let two = list(alloc, &[b"eve", b"Owner"])?;
-    assert!(rt;
-        creates(
-            alloc,
-            b"1 create 1 G ann 1 - eve,Owner",
-            &list(alloc, &[])?,
-            &two
-        )?
-    );
+    assert!(rt; lists_are_left_out(rt.alloc())?);
     Ok(())
 }
 
+// Whether this is to be changed of a file, and the call is not to wait.
+fn is_change(line: &Line, to: &PropChange) -> bool {
+    match line {
+        Line::WriteProps { change, choice, .. } => change == to && *choice == Choice::Fail,
+        _ => false,
+    }
+}
+
 // Whether the text says that this changes of a file.
-fn changes(alloc: Global, text: &[u8], to: &PropChange) -> Result<bool, Fail> {
-    let said = text_in(alloc, text)?;
-    Ok(matches!(&said, Some(Line::WriteProps { change, choice: Choice::Fail, .. }) if change == to))
+fn changes(alloc: Global, text: &[u8], to: PropChange) -> Result<bool, Fail> {
+    let line = read(alloc, text)?;
+    Ok(is_change(&line, &to))
+}
+
+fn changes_are_said(alloc: Global) -> Result<bool, Fail> {
+    let eve = PropChange::Modify(list(alloc, &[b"eve"])?);
+    let nobody = PropChange::Read(list(alloc, &[])?);
+    Ok(
+        changes(alloc, b"1 change F modify eve", eve)?
+            && changes(alloc, b"1 change F read -", nobody)?
+            && changes(alloc, b"1 change F type 9", PropChange::TypeNo(9))?
+            && changes(alloc, b"1 change F bytes 10", PropChange::ByteLength(10))?,
+    )
 }
 
 #[test]
 fn says_what_changes(rt: HostRuntime) -> Result<(), Fail> {
-    let alloc = rt.alloc();
-    let eve = PropChange::Modify(list(alloc, &[b"eve"])?);
-    assert!(rt; changes(alloc, b"1 change F modify eve", &eve)?);
-    let nobody = PropChange::Read(list(alloc, &[])?);
-    assert!(rt; changes(alloc, b"1 change F read -", &nobody)?);
-    assert!(rt; changes(alloc, b"1 change F type 9", &PropChange::TypeNo(9))?);
-    assert!(rt; changes(alloc, b"1 change F bytes 10", &PropChange::ByteLength(10))?);
+    assert!(rt; changes_are_said(rt.alloc())?);
     Ok(())
 }
 
-static OPENS: [(&[u8], Access, Mode); 7] = [
-    (b"1 open F read ir", Access::ReadOnly, Mode::IntendRead),
+static OPENS: [(&[u8], Sense); 7] = [
+    (
+        b"1 open F read ir",
+        Sense::Opens(Access::ReadOnly, Mode::IntendRead),
+    ),
     (
         b"1 open F change iw fail",
-        Access::Change,
-        Mode::IntendWrite,
+        Sense::Opens(Access::Change, Mode::IntendWrite),
     ),
-    (b"1 open F read r fail", Access::ReadOnly, Mode::Read),
-    (b"1 open F change u", Access::Change, Mode::Update),
+    (
+        b"1 open F read r fail",
+        Sense::Opens(Access::ReadOnly, Mode::Read),
+    ),
+    (
+        b"1 open F change u",
+        Sense::Opens(Access::Change, Mode::Update),
+    ),
     (
         b"1 open F change riw",
-        Access::Change,
-        Mode::ReadIntendWrite,
+        Sense::Opens(Access::Change, Mode::ReadIntendWrite),
     ),
-    (b"1 open 1.1.1 change w", Access::Change, Mode::Write),
-    (b"1 open F read w", Access::ReadOnly, Mode::Write),
+    (
+        b"1 open 1.1.1 change w",
+        Sense::Opens(Access::Change, Mode::Write),
+    ),
+    (
+        b"1 open F read w",
+        Sense::Opens(Access::ReadOnly, Mode::Write),
+    ),
 ];
 
 #[test]
 fn opens_in_each_mode(rt: HostRuntime) -> Result<(), Fail> {
-    let alloc = rt.alloc();
-    for (text, purpose, lock) in OPENS {
-        let said = text_in(alloc, text)?;
-        assert!(rt;
-            matches!(&said, Some(Line::OpenFile { access, mode, choice: Choice::Fail, .. }) if *access == purpose && *mode == lock)
-        );
-    }
+    assert!(rt; say(rt.alloc(), &OPENS));
     Ok(())
 }
 
-static READS: [(&[u8], Mode); 6] = [
-    (b"1 read F 7 255", Mode::Read),
-    (b"1 read F 7 255 fail", Mode::Read),
-    (b"1 read F 7 255 r", Mode::Read),
-    (b"1 read F 7 255 u", Mode::Update),
-    (b"1 read F 7 255 u fail", Mode::Update),
-    (b"1 read F 7 255 w fail", Mode::Write),
+const LONGEST: Run = Run {
+    first: 7,
+    count: 255,
+};
+
+static READS: [(&[u8], Sense); 6] = [
+    (b"1 read F 7 255", Sense::Reads(LONGEST, Mode::Read)),
+    (b"1 read F 7 255 fail", Sense::Reads(LONGEST, Mode::Read)),
+    (b"1 read F 7 255 r", Sense::Reads(LONGEST, Mode::Read)),
+    (b"1 read F 7 255 u", Sense::Reads(LONGEST, Mode::Update)),
+    (
+        b"1 read F 7 255 u fail",
+        Sense::Reads(LONGEST, Mode::Update),
+    ),
+    (b"1 read F 7 255 w fail", Sense::Reads(LONGEST, Mode::Write)),
 ];
 
 #[test]
 fn reads_pages_in_three_modes(rt: HostRuntime) -> Result<(), Fail> {
-    let alloc = rt.alloc();
-    for (text, lock) in READS {
-        let said = text_in(alloc, text)?;
-        assert!(rt;
-            matches!(&said, Some(Line::ReadPages { run: Run { first: 7, count: 255 }, mode, choice: Choice::Fail, .. }) if *mode == lock)
-        );
-    }
+    assert!(rt; say(rt.alloc(), &READS));
     Ok(())
 }
 
-static LOCKS: [(&[u8], Mode); 3] = [
-    (b"1 lock F 0 1 r", Mode::Read),
-    (b"1 lock F 0 1 u fail", Mode::Update),
-    (b"1 lock F 0 1 w", Mode::Write),
+const FIRST: Run = Run { first: 0, count: 1 };
+
+static LOCKS: [(&[u8], Sense); 3] = [
+    (b"1 lock F 0 1 r", Sense::Locks(FIRST, Mode::Read)),
+    (b"1 lock F 0 1 u fail", Sense::Locks(FIRST, Mode::Update)),
+    (b"1 lock F 0 1 w", Sense::Locks(FIRST, Mode::Write)),
 ];
 
 #[test]
 fn locks_pages_in_three_modes(rt: HostRuntime) -> Result<(), Fail> {
-    let alloc = rt.alloc();
-    for (text, lock) in LOCKS {
-        let said = text_in(alloc, text)?;
-        assert!(rt;
-            matches!(&said, Some(Line::LockPages { run: Run { first: 0, count: 1 }, mode, choice: Choice::Fail, .. }) if *mode == lock)
-        );
-    }
+    assert!(rt; say(rt.alloc(), &LOCKS));
     Ok(())
 }
 
@@ -218,149 +248,136 @@ static WAITING: [&[u8]; 12] = [
     b"auto off",
 ];
 
+static COLLECTED: [(&[u8], Sense); 2] = [
+    (b"7 collect", Sense::Collect(7)),
+    (b"timeout 1 7", Sense::Timeout(1, 7)),
+];
+
+// Whether the text says that an owner is to be read, and that the call is to wait.
+fn reads_owner_and_waits(alloc: Global, text: &[u8]) -> Result<bool, Fail> {
+    let line = read(alloc, text)?;
+    Ok(match &line {
+        Line::ReadOwner { choice, .. } => *choice == Choice::Wait,
+        _ => false,
+    })
+}
+
 #[test]
 fn reads_lines_that_wait(rt: HostRuntime) -> Result<(), Fail> {
-    let alloc = rt.alloc();
-    assert!(rt; are_lines(alloc, &WAITING)?);
-    let collects = text_in(alloc, b"7 collect")?;
-    assert!(rt; matches!(&collects, Some(Line::Collect { client: 7 })));
-    let ends = text_in(alloc, b"timeout 1 7")?;
-    assert!(rt;
-        matches!(
-            &ends,
-            Some(Line::Timeout {
-                server: 1,
-                client: 7
-            })
-        )
-    );
-    let waits = text_in(alloc, b"7 owner 1 ann wait")?;
-    assert!(rt;
-        matches!(
-            &waits,
-            Some(Line::ReadOwner {
-                choice: Choice::Wait,
-                ..
-            })
-        )
-    );
+    let waits = reads_owner_and_waits(rt.alloc(), b"7 owner 1 ann wait")?;
+    assert!(rt; are_lines(rt.alloc(), &WAITING) && say(rt.alloc(), &COLLECTED) && waits);
     Ok(())
 }
+
+static EVENTS: [(&[u8], Sense); 5] = [
+    (b"tick 8", Sense::Tick(8)),
+    (b"force 1", Sense::Force(1)),
+    (b"stop 2 4294967295", Sense::Stop(2, 4294967295)),
+    (
+        b"restart 1 18446744073709551615",
+        Sense::Restart(1, 18446744073709551615),
+    ),
+    (b"settle", Sense::Settle),
+];
 
 #[test]
 fn reads_events(rt: HostRuntime) -> Result<(), Fail> {
-    let alloc = rt.alloc();
-    let tick = text_in(alloc, b"tick 8")?;
-    assert!(rt; matches!(&tick, Some(Line::Tick { server: 8 })));
-    let force = text_in(alloc, b"force 1")?;
-    assert!(rt; matches!(&force, Some(Line::Force { server: 1 })));
-    let stop = text_in(alloc, b"stop 2 4294967295")?;
-    assert!(rt;
-        matches!(
-            &stop,
-            Some(Line::Stop {
-                server: 2,
-                calls: 4294967295
-            })
-        )
-    );
-    let restart = text_in(alloc, b"restart 1 18446744073709551615")?;
-    assert!(rt;
-        matches!(
-            &restart,
-            Some(Line::Restart {
-                server: 1,
-                pick: 18446744073709551615
-            })
-        )
-    );
-    let settle = text_in(alloc, b"settle")?;
-    assert!(rt; matches!(&settle, Some(Line::Settle)));
+    assert!(rt; say(rt.alloc(), &EVENTS));
     Ok(())
 }
 
-static STOPS: [(&[u8], u32); 4] = [
-    (b"stop 1 0", 0),
-    (b"stop 1 255", 255),
-    (b"stop 1 256", 256),
-    (b"stop 1 65536", 65536),
+static STOPS: [(&[u8], Sense); 4] = [
+    (b"stop 1 0", Sense::Stop(1, 0)),
+    (b"stop 1 255", Sense::Stop(1, 255)),
+    (b"stop 1 256", Sense::Stop(1, 256)),
+    (b"stop 1 65536", Sense::Stop(1, 65536)),
 ];
 
 // The count of a stop has four bytes, and none of them is lost.
 #[test]
 fn stops_after_many_calls(rt: HostRuntime) -> Result<(), Fail> {
-    let alloc = rt.alloc();
-    for (text, count) in STOPS {
-        let said = text_in(alloc, text)?;
-        assert!(rt; matches!(&said, Some(Line::Stop { server: 1, calls }) if *calls == count));
-    }
+    assert!(rt; say(rt.alloc(), &STOPS));
     Ok(())
+}
+
+static MESSAGES: [(&[u8], Sense); 3] = [
+    (b"carry 1 8", Sense::Carry(1, 8)),
+    (b"lose  2 1", Sense::Lose(2, 1)),
+    (b"again 3 3", Sense::Again(3, 3)),
+];
+
+// Whether the line of this text names no client, and this server twice.
+fn names_twice(alloc: Global, text: &[u8], server: u8) -> Result<bool, Fail> {
+    let line = read(alloc, text)?;
+    Ok(line.client().is_none() && line.server() == Some(server) && line.receiver() == Some(server))
 }
 
 // A line on messages names the one that sends them, and then the other.
 #[test]
 fn reads_lines_on_messages(rt: HostRuntime) -> Result<(), Fail> {
-    let alloc = rt.alloc();
-    let carry = text_in(alloc, b"carry 1 8")?;
-    assert!(rt; matches!(&carry, Some(Line::Carry { from: 1, to: 8 })));
-    let lose = text_in(alloc, b"lose  2 1")?;
-    assert!(rt; matches!(&lose, Some(Line::Lose { from: 2, to: 1 })));
-    let again = text_in(alloc, b"again 3 3")?;
-    assert!(rt; matches!(&again, Some(Line::Again { from: 3, to: 3 })));
-    let named = again.ok_or("a line")?;
-    assert_eq!(rt;
-        (named.client(), named.server(), named.receiver()),
-        (None, Some(3), Some(3))
-    );
+    assert!(rt; say(rt.alloc(), &MESSAGES) && names_twice(rt.alloc(), b"again 3 3", 3)?);
     Ok(())
 }
 
-// The bytes that the text of a raw line says.
-fn raw_bytes(alloc: Global, text: &[u8]) -> Result<Vec<u8>, Fail> {
-    let Some(
+// The bytes that a raw line of client 3 to server 1 says.
+fn raw_bytes(line: &Line) -> Option<&[u8]> {
+    match line {
         Line::Raw {
             client: 3,
             server: 1,
             bytes,
-        },
-    ) = text_in(alloc, text)?
-    else {
-        return Err("bytes".into());
-    };
-    Ok(Vec::from_slice(alloc, bytes.as_slice())?)
+        } => Some(bytes.as_slice()),
+        _ => None,
+    }
+}
+
+// Whether the text is a raw line of these bytes.
+fn says_bytes(alloc: Global, text: &[u8], bytes: &[u8]) -> Result<bool, Fail> {
+    let line = read(alloc, text)?;
+    Ok(raw_bytes(&line) == Some(bytes))
+}
+
+fn bytes_are_said(alloc: Global) -> Result<bool, Fail> {
+    Ok(
+        says_bytes(alloc, b"3 raw 1 0000", b"\x00\x00")?
+            && says_bytes(alloc, b"3 raw 1 a0", b"\xa0")?
+            && says_bytes(
+                alloc,
+                b"3 raw 1 0123456789abcdefff",
+                b"\x01\x23\x45\x67\x89\xab\xcd\xef\xff",
+            )?
+            && says_bytes(
+                alloc,
+                b"3  raw 1 510200000000000000010103616e6e",
+                b"\x51\x02\x00\x00\x00\x00\x00\x00\x00\x01\x01\x03ann",
+            )?,
+    )
 }
 
 #[test]
 fn reads_bytes(rt: HostRuntime) -> Result<(), Fail> {
-    let alloc = rt.alloc();
-    let zeros = raw_bytes(alloc, b"3 raw 1 0000")?;
-    assert_eq!(rt; zeros.as_slice(), b"\x00\x00".as_slice());
-    let one = raw_bytes(alloc, b"3 raw 1 a0")?;
-    assert_eq!(rt; one.as_slice(), b"\xa0".as_slice());
-    let each = raw_bytes(alloc, b"3 raw 1 0123456789abcdefff")?;
-    assert_eq!(rt;
-        each.as_slice(),
-        b"\x01\x23\x45\x67\x89\xab\xcd\xef\xff".as_slice()
-    );
-    let hello = raw_bytes(alloc, b"3  raw 1 510200000000000000010103616e6e")?;
-    assert_eq!(rt;
-        hello.as_slice(),
-        b"\x51\x02\x00\x00\x00\x00\x00\x00\x00\x01\x01\x03ann".as_slice()
-    );
+    assert!(rt; bytes_are_said(rt.alloc())?);
     Ok(())
+}
+
+// How many bytes the raw line of this text says.
+fn count_bytes(alloc: Global, text: &[u8]) -> Result<usize, Fail> {
+    let line = read(alloc, text)?;
+    match raw_bytes(&line) {
+        Some(bytes) => Ok(bytes.len()),
+        None => Err("bytes".into()),
+    }
 }
 
 // A line of 1,024 bytes has room for 508 of these.
 #[test]
 fn reads_the_longest_bytes(rt: HostRuntime) -> Result<(), Fail> {
-    let alloc = rt.alloc();
-    let mut text = Vec::from_slice(alloc, b"3 raw 1 ")?;
-    for _ in 0..508 {
+    let mut text = Vec::from_slice(rt.alloc(), b"3 raw 1 ")?;
+    for _ in 0..508u32 {
         text.extend_from_slice(b"5a")?;
     }
-    assert_eq!(rt; raw_bytes(alloc, text.as_slice())?.len(), 508);
+    let count = count_bytes(rt.alloc(), text.as_slice())?;
     text.extend_from_slice(b"5a")?;
-    let longer = text_in(alloc, text.as_slice());
-    assert!(rt; matches!(longer, Err(LineFault::Outside)));
+    assert!(rt; count == 508 && is_outside(rt.alloc(), text.as_slice()));
     Ok(())
 }

@@ -1,6 +1,7 @@
 //! Scripts with a line that is outside: of the language, of what was declared, or of its place.
-use super::count;
-use alp_script::ScriptFault;
+use super::{are_bad, are_bad_lines, has_lines, is_bad, with_line};
+use alp_base::OutOfMemory;
+use std::alloc::Global;
 use std::test::Fail;
 
 static BAD_LINES: [(&[u8], u32); 16] = [
@@ -28,10 +29,7 @@ static BAD_LINES: [(&[u8], u32); 16] = [
 // The number of the first line that is outside follows the text of a script.
 #[test]
 fn finds_the_first_bad_line(rt: HostRuntime) -> Result<(), Fail> {
-    let alloc = rt.alloc();
-    for (text, line) in BAD_LINES {
-        assert_eq!(rt; count(alloc, text), Err(ScriptFault::Bad { line }));
-    }
+    assert!(rt; are_bad(rt.alloc(), &BAD_LINES));
     Ok(())
 }
 
@@ -52,21 +50,37 @@ static OF_THREE: [(&[u8], bool); 14] = [
     (b"restart 4 0", false),
 ];
 
+const THREE_SERVERS: &[u8] = b"servers 3
+client 1 Admin
+";
+
+// Whether each of the lines is as it says behind the declaration of three servers.
+fn are_of_three(alloc: Global) -> Result<bool, OutOfMemory> {
+    for (line, inside) in OF_THREE {
+        let text = with_line(alloc, THREE_SERVERS, line)?;
+        if has_lines(alloc, text.as_slice(), 3) != inside {
+            return Ok(false);
+        }
+        if is_bad(alloc, text.as_slice(), 3) == inside {
+            return Ok(false);
+        }
+    }
+    Ok(true)
+}
+
 // Lines name servers of the run alone, also by the id of a file.
 #[test]
 fn names_servers_of_the_run(rt: HostRuntime) -> Result<(), Fail> {
-    let alloc = rt.alloc();
-    for (line, inside) in OF_THREE {
-        let mut text = Vec::from_slice(alloc, b"servers 3\nclient 1 Admin\n")?;
-        text.extend_from_slice(line)?;
-        let said = if inside {
-            Ok(3)
-        } else {
-            Err(ScriptFault::Bad { line: 3 })
-        };
-        assert_eq!(rt; count(alloc, text.as_slice()), said);
-    }
-    assert_eq!(rt; count(alloc, b"servers 8\ntick 8\n"), Ok(2));
+    assert!(rt;
+        are_of_three(rt.alloc())?
+            && has_lines(
+                rt.alloc(),
+                b"servers 8
+tick 8
+",
+                2
+            )
+    );
     Ok(())
 }
 
@@ -87,12 +101,11 @@ static WRONG_CLIENTS: [(&[u8], u32); 9] = [
 
 #[test]
 fn refuses_wrong_clients(rt: HostRuntime) -> Result<(), Fail> {
-    let alloc = rt.alloc();
-    for (text, line) in WRONG_CLIENTS {
-        assert_eq!(rt; count(alloc, text), Err(ScriptFault::Bad { line }));
-    }
+    assert!(rt; are_bad(rt.alloc(), &WRONG_CLIENTS));
     Ok(())
 }
+
+const WITH_FILE: &[u8] = b"servers 1\nclient 1 Admin\n1 create 1 F ann 1 World World\n";
 
 static WRONG_FILES: [&[u8]; 12] = [
     b"1 open A read r",
@@ -111,31 +124,23 @@ static WRONG_FILES: [&[u8]; 12] = [
 
 #[test]
 fn refuses_wrong_file_lines(rt: HostRuntime) -> Result<(), Fail> {
-    let alloc = rt.alloc();
-    for line in WRONG_FILES {
-        let mut text = Vec::from_slice(
-            alloc,
-            b"servers 1\nclient 1 Admin\n1 create 1 F ann 1 World World\n",
-        )?;
-        text.extend_from_slice(line)?;
-        assert_eq!(rt;
-            count(alloc, text.as_slice()),
-            Err(ScriptFault::Bad { line: 4 })
-        );
-    }
+    assert!(rt; are_bad_lines(rt.alloc(), WITH_FILE, 4, &WRONG_FILES)?);
     Ok(())
 }
 
+const EARLY_PATIENCE: &[u8] = b"patience 3\nservers 1\n";
+
+const OFTEN_PATIENCE: &[u8] =
+    b"servers 1\npatience 3\nclient 1 bob\npatience 1\nclient 2 ann\n2 begin 1\npatience 2\n";
+
 #[test]
 fn patience_stands_behind_the_servers(rt: HostRuntime) -> Result<(), Fail> {
-    let alloc = rt.alloc();
-    let early = b"patience 3\nservers 1\n";
-    assert_eq!(rt; count(alloc, early), Err(ScriptFault::Bad { line: 1 }));
-    let often =
-        b"servers 1\npatience 3\nclient 1 bob\npatience 1\nclient 2 ann\n2 begin 1\npatience 2\n";
-    assert_eq!(rt; count(alloc, often), Ok(7usize));
+    assert!(rt; is_bad(rt.alloc(), EARLY_PATIENCE, 1) && has_lines(rt.alloc(), OFTEN_PATIENCE, 7));
     Ok(())
 }
+
+const TIMEOUTS: &[u8] =
+    b"servers 1\nauto off\nclient 1 bob\ntimeout 1 1\nclient 2 ann\n2 begin 1\n2 collect\nauto on\ntimeout 1 2\n";
 
 static EARLY_TIMEOUTS: [(&[u8], u32); 4] = [
     (b"auto on\nservers 1\n", 1),
@@ -147,13 +152,7 @@ static EARLY_TIMEOUTS: [(&[u8], u32); 4] = [
 // A line that ends a transaction names a client and the server that were declared, and is no line of a client.
 #[test]
 fn timeouts_stand_behind_their_clients(rt: HostRuntime) -> Result<(), Fail> {
-    let alloc = rt.alloc();
-    let text =
-        b"servers 1\nauto off\nclient 1 bob\ntimeout 1 1\nclient 2 ann\n2 begin 1\n2 collect\nauto on\ntimeout 1 2\n";
-    assert_eq!(rt; count(alloc, text), Ok(9usize));
-    for (text, line) in EARLY_TIMEOUTS {
-        assert_eq!(rt; count(alloc, text), Err(ScriptFault::Bad { line }));
-    }
+    assert!(rt; has_lines(rt.alloc(), TIMEOUTS, 9) && are_bad(rt.alloc(), &EARLY_TIMEOUTS));
     Ok(())
 }
 
@@ -175,12 +174,12 @@ static WRONG_SIZES: [(&[u8], u32); 10] = [
 
 #[test]
 fn refuses_wrong_sizes(rt: HostRuntime) -> Result<(), Fail> {
-    let alloc = rt.alloc();
-    for (text, line) in WRONG_SIZES {
-        assert_eq!(rt; count(alloc, text), Err(ScriptFault::Bad { line }));
-    }
+    assert!(rt; are_bad(rt.alloc(), &WRONG_SIZES));
     Ok(())
 }
+
+const EVENTS: &[u8] =
+    b"servers 1\nstop 1 3\ntick 1\nclient 1 bob\nforce 1\nrestart 1 7\nsettle\ncarry 1 1\nclient 2 ann\n1 outcome\n1 raw 1 00\nlose 1 1\nagain 1 1\nstop 1 0\n";
 
 static EARLY_EVENTS: [(&[u8], u32); 9] = [
     (b"tick 1\nservers 1\n", 1),
@@ -197,15 +196,11 @@ static EARLY_EVENTS: [(&[u8], u32); 9] = [
 // What happens at the server may stand before its clients are declared, and a line of a client may not.
 #[test]
 fn events_stand_behind_the_servers(rt: HostRuntime) -> Result<(), Fail> {
-    let alloc = rt.alloc();
-    let text =
-        b"servers 1\nstop 1 3\ntick 1\nclient 1 bob\nforce 1\nrestart 1 7\nsettle\ncarry 1 1\nclient 2 ann\n1 outcome\n1 raw 1 00\nlose 1 1\nagain 1 1\nstop 1 0\n";
-    assert_eq!(rt; count(alloc, text), Ok(14usize));
-    for (text, line) in EARLY_EVENTS {
-        assert_eq!(rt; count(alloc, text), Err(ScriptFault::Bad { line }));
-    }
+    assert!(rt; has_lines(rt.alloc(), EVENTS, 14) && are_bad(rt.alloc(), &EARLY_EVENTS));
     Ok(())
 }
+
+const ONE_SERVER: &[u8] = b"servers 1\nclient 1 Admin\n";
 
 static UNDECLARED: [&[u8]; 12] = [
     b"tick 2",
@@ -225,14 +220,6 @@ static UNDECLARED: [&[u8]; 12] = [
 // Each server that a line names is declared, and so is its client.
 #[test]
 fn refuses_undeclared_servers(rt: HostRuntime) -> Result<(), Fail> {
-    let alloc = rt.alloc();
-    for line in UNDECLARED {
-        let mut text = Vec::from_slice(alloc, b"servers 1\nclient 1 Admin\n")?;
-        text.extend_from_slice(line)?;
-        assert_eq!(rt;
-            count(alloc, text.as_slice()),
-            Err(ScriptFault::Bad { line: 3 })
-        );
-    }
+    assert!(rt; are_bad_lines(rt.alloc(), ONE_SERVER, 3, &UNDECLARED)?);
     Ok(())
 }

@@ -1,6 +1,0 @@
-use Rattle.std.proofs.Common.{◌≡◌}
-use Rattle.alp_volume.specs.Known.{IsCatalog}
-use Rattle.alp_measures.proofs.volumes.put_files.Given as goal
-
-abbrev pub invariant-loop-file : goal.invariant-loop-file
-invariant-loop-file l = record { home : l.pages.home ≡ l.fn.pages.home; sized : IsCatalog l.fn.pages.home l.catalog }

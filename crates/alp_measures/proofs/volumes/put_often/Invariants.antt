@@ -1,6 +1,0 @@
-use Rattle.std.proofs.Common.{◌≡◌}
-use Rattle.alp_volume.specs.Known.{IsCatalog}
-use Rattle.alp_measures.proofs.volumes.put_often.Given as goal
-
-abbrev pub invariant-loop-round : goal.invariant-loop-round
-invariant-loop-round l = record { home : l.pages.home ≡ l.fn.pages.home; sized : IsCatalog l.fn.pages.home l.catalog }

@@ -1,0 +1,26 @@
+//! What goes wrong in a test before it asserts anything.
+use alp_base::OutOfMemory;
+use std::alloc::AllocError;
+
+#[derive(Clone, Copy, Debug, PartialEq, Eq)]
+pub(super) enum Wrong {
+    Memory,
+    Disk,
+    Start,
+    Cell,
+    Room,
+    Commit,
+    Recovery,
+}
+
+impl From<OutOfMemory> for Wrong {
+    fn from(_refused: OutOfMemory) -> Wrong {
+        Wrong::Memory
+    }
+}
+
+impl From<AllocError> for Wrong {
+    fn from(_refused: AllocError) -> Wrong {
+        Wrong::Memory
+    }
+}

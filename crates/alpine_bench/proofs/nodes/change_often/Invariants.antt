@@ -1,5 +1,0 @@
-use Rattle.alp_acknowledge.specs.Turns.{InStep}
-use Rattle.alpine_bench.proofs.nodes.change_often.Given as goal
-
-abbrev pub invariant-loop-round : goal.invariant-loop-round
-invariant-loop-round g l = InStep l.caller
