@@ -155,52 +155,53 @@ fn ends_so(alloc: Global, text: &[u8], failing: Failing, ending: Ending) -> Resu
     Ok(told.is(code, said, written))
 }
 
-#[test]
-fn tells_each_failing_read(rt: HostRuntime) -> Result<(), Fail> {
-    let text = long(rt.alloc())?;
-    for reads in 1..6u64 {
-        let failing = Failing {
-            reads,
-            writes: 0,
-            room: 4096,
-        };
-        let ending = if reads < 5 {
-            READ_FAULT
-        } else {
-            (0, "", REFUSED)
-        };
-        assert!(rt;
-            ends_so(rt.alloc(), text.as_slice(), failing, ending)?,
-            "{reads}"
-        );
+// Of streams of which each so many-th read or write fails.
+const fn failing_at(reads: u64, writes: u64) -> Failing {
+    Failing {
+        reads,
+        writes,
+        room: 4096,
     }
-    Ok(())
+}
+
+// Whether each of the first four reads that fails is told, and there is no fifth one.
+fn reads_are_told(alloc: Global, text: &[u8]) -> Result<bool, Fail> {
+    for reads in 1..5u64 {
+        if !ends_so(alloc, text, failing_at(reads, 0), READ_FAULT)? {
+            return Ok(false);
+        }
+    }
+    ends_so(alloc, text, failing_at(5, 0), (0, "", REFUSED))
 }
 
 #[test]
+fn tells_each_failing_read(rt: HostRuntime) -> Result<(), Fail> {
+    let text = long(rt.alloc())?;
+    assert!(rt; reads_are_told(rt.alloc(), text.as_slice())?);
+    Ok(())
+}
+
+// Whether the one write of the report is told where it fails, and there is no second one and no third.
+fn writes_are_told(alloc: Global) -> Result<bool, Fail> {
+    let written = (0, "", IDLE);
+    Ok(
+        ends_so(alloc, b"servers 1", failing_at(0, 1), WRITE_FAULT)?
+            && ends_so(alloc, b"servers 1", failing_at(0, 2), written)?
+            && ends_so(alloc, b"servers 1", failing_at(0, 3), written)?,
+    )
+}
+
+// A sink that has no room for the report.
+const NARROW: Failing = Failing {
+    reads: 0,
+    writes: 0,
+    room: 100,
+};
+
+#[test]
 fn tells_each_failing_write(rt: HostRuntime) -> Result<(), Fail> {
-    for writes in 1..4u64 {
-        let failing = Failing {
-            reads: 0,
-            writes,
-            room: 4096,
-        };
-        let ending = if writes == 1 {
-            WRITE_FAULT
-        } else {
-            (0, "", IDLE)
-        };
-        assert!(rt;
-            ends_so(rt.alloc(), b"servers 1", failing, ending)?,
-            "{writes}"
-        );
-    }
-    let narrow = Failing {
-        reads: 0,
-        writes: 0,
-        room: 100,
-    };
-    assert!(rt; ends_so(rt.alloc(), REFUSALS, narrow, WRITE_FAULT)?);
+    let is_told = writes_are_told(rt.alloc())?;
+    assert!(rt; is_told && ends_so(rt.alloc(), REFUSALS, NARROW, WRITE_FAULT)?);
     Ok(())
 }
 
@@ -263,18 +264,28 @@ fn with_failing_write(alloc: Global, fails: u32) -> Result<(u8, Vec<u8>), Fail> 
     Ok((code, writer.taken))
 }
 
+// Whether so many bytes of the report are written before the call that fails.
+fn stops_behind(alloc: Global, fails: u32, before: usize) -> Result<bool, Fail> {
+    let (code, taken) = with_failing_write(alloc, fails)?;
+    Ok(code == 4 && taken.len() == before && REFUSED.starts_with(taken.as_slice()))
+}
+
+// Whether the report is written before that call.
+fn is_written(alloc: Global, fails: u32) -> Result<bool, Fail> {
+    let (code, taken) = with_failing_write(alloc, fails)?;
+    Ok(code == 0 && taken.as_slice() == REFUSED)
+}
+
 #[test]
 fn writes_a_prefix_before_a_failing_write(rt: HostRuntime) -> Result<(), Fail> {
     let mut fails = 1u32;
     let mut before = 0usize;
     for piece in REFUSED.chunks(50) {
-        let (code, taken) = with_failing_write(rt.alloc(), fails)?;
-        assert!(rt; code == 4 && taken.len() == before && REFUSED.starts_with(taken.as_slice()));
+        assert!(rt; stops_behind(rt.alloc(), fails, before)?);
         fails = fails.saturating_add(1);
         before = before.saturating_add(piece.len());
     }
-    let (code, taken) = with_failing_write(rt.alloc(), fails)?;
-    assert!(rt; before > 50 && code == 0 && taken.as_slice() == REFUSED);
+    assert!(rt; before > 50 && is_written(rt.alloc(), fails)?);
     Ok(())
 }
 
@@ -293,18 +304,26 @@ fn with_failing_call(alloc: Global, number: u64) -> Result<Told, Fail> {
     run_on(alloc, disk, TWO_CLIENTS)
 }
 
-#[test]
-fn tells_each_failing_call_of_a_disk(rt: HostRuntime) -> Result<(), Fail> {
+// The last call of the disk that fails, where each that does is told.
+fn last_failing_call(alloc: Global) -> Result<u64, Fail> {
     let mut met = 0u64;
     // The first call makes the disk.
     for number in 2..2000u64 {
-        let told = with_failing_call(rt.alloc(), number)?;
+        let told = with_failing_call(alloc, number)?;
         if told.code == 0 {
-            break;
+            return Ok(met);
         }
-        assert!(rt; told.code == 5 && told.said.as_str() == "alpine: disk fault server 1");
+        if told.code != 5 || told.said.as_str() != "alpine: disk fault server 1" {
+            return Err("a disk fault".into());
+        }
         met = number;
     }
+    Ok(met)
+}
+
+#[test]
+fn tells_each_failing_call_of_a_disk(rt: HostRuntime) -> Result<(), Fail> {
+    let met = last_failing_call(rt.alloc())?;
     assert!(rt; met > 10 && met < 1999);
     Ok(())
 }
