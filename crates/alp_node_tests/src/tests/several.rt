@@ -243,10 +243,10 @@ const APPLIES: &[Deed] = &[Deed::Hear(1, Word::Commit, JOIN)];
 // ---- writes
 
 // A server and its deeds, of which the last is a vote, a decision, an application.
-const WRITES: [(u8, [&[Deed]; 3]); 3] = [
-    (2, [NOTHING, WORKS, VOTES]),
-    (1, [BEGINS, FINISHES, IS_READY]),
-    (2, [WORKS, VOTES, APPLIES]),
+const WRITES: &[(u8, &[Deed], &[Deed], &[Deed])] = &[
+    (2, NOTHING, WORKS, VOTES),
+    (1, BEGINS, FINISHES, IS_READY),
+    (2, WORKS, VOTES, APPLIES),
 ];
 
 // Whether the server falls in the last deeds of that row, of which its vault does so many writes.
@@ -256,21 +256,20 @@ pub(super) fn falls<V: Vault>(
     row: usize,
     writes: u32,
 ) -> Result<bool, OutOfMemory> {
-    let Some((_server, deeds)) = WRITES.get(row) else {
+    let Some((_server, first, second, last)) = WRITES.get(row) else {
         return Err(OutOfMemory);
     };
-    let [first, second, last] = *deeds;
-    pass(alloc, node, first)?;
-    pass(alloc, node, second)?;
+    pass(alloc, node, *first)?;
+    pass(alloc, node, *second)?;
     node.stop_after(Some(writes));
-    pass(alloc, node, last)?;
+    pass(alloc, node, *last)?;
     Ok(node.is_down())
 }
 
 /// In each a server falls where no write may pass, and another does not where one may.
 #[test]
 fn a_vote_a_decision_and_an_application_are_one_write_each(rt: HostRuntime) -> Result<(), Fail> {
-    for (row, (server, _deeds)) in WRITES.iter().enumerate() {
+    for (row, (server, _, _, _)) in WRITES.iter().enumerate() {
         assert!(rt; in_memory(rt.alloc(), *server, Task::Write(row, 0))?);
         assert!(rt; !in_memory(rt.alloc(), *server, Task::Write(row, 1))?);
     }
