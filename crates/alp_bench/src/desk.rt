@@ -1,8 +1,9 @@
 //! Sixteen clients of one server on a vault in memory, and the one file that all of them lock pages of.
-ghost use Rattle.std.specs.Prelude.{◌≡◌, IfOk, true};
+ghost use Rattle.std.specs.Prelude.{◌≡◌, ◌≤◌, IfOk};
+ghost use Rattle.alp_base.specs.declared.choices.Choice.TheVariants as choice;
 ghost use Rattle.alp_files.specs.declared.call.Call.TheVariants as call;
-ghost use Rattle.alp_modes.specs.Modes.{is_leaf_mode};
 ghost use Rattle.alp_node.specs.Served.{IsAskable};
+ghost use Rattle.alp_node.specs.Shapes.{ReadsSome};
 
 use alp_base::{
     Access, AccessList, Choice, FileId, Name, OutOfMemory, Props, Run, Sizes, Stamp, TransId,
@@ -232,7 +233,7 @@ impl Desk {
 
     /// The client locks pages of the file in this mode, and does not wait.
     pub(crate) fn lock(&mut self, opened: Opened, run: Run, mode: Mode) -> Result<(), OutOfMemory>
-        requires { is_leaf_mode mode ≡ true }
+        requires { ReadsSome (call.LockPages opened.trans opened.open_no run mode choice.Fail) }
     {
         let lock = Call::LockPages {
             trans: opened.trans,
