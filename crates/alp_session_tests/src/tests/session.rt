@@ -379,6 +379,14 @@ fn greets_again(alloc: Global, desk: &mut Desk, line: &Line) -> Result<bool, Fai
     )
 }
 
+// Whether this is the client's transaction.
+fn is_in(client: &Client, wanted: TransId) -> bool {
+    match client.trans {
+        Some(trans) => trans == wanted,
+        None => false,
+    }
+}
+
 // The part is gone, and the transaction is still the client's.
 fn keeps_its_transaction(alloc: Global, desk: &mut Desk, line: &Line) -> Result<bool, Fail>
     requires { IsAskable line.now }
@@ -386,7 +394,7 @@ fn keeps_its_transaction(alloc: Global, desk: &mut Desk, line: &Line) -> Result<
     let gone = Reply::Refused(Refusal::UnknownTrans);
     Ok(
         desk.goes(alloc, line, Next::Call, gone, Next::Over)?
-            && desk.client.trans == Some(TRANS)
+            && is_in(&desk.client, TRANS)
             && desk.sends(alloc, &COMMIT, describe(1, 1, 3, Asked::Commit))?,
     )
 }
