@@ -25,7 +25,7 @@ alpine=$(realpath "${ALPINE:-crates/alpine/out/alpine}")
 . bench/folder.sh
 work=$(mktemp -d "$folder/commits-XXXXXX")
 trap 'rm -rf "$work"' EXIT
-cc -O2 -Wall bench/peers.c -o "$work/peers"
+cc -O2 -Wall -Wno-unused-function bench/peers.c -o "$work/peers"
 
 file_pages=256
 quarter=$((count / 4))

@@ -35,7 +35,7 @@ peer() { # NAME DEFINE HEADER LIBRARY
 peer SQLite WITH_SQLITE sqlite3.h sqlite3
 peer LMDB WITH_LMDB lmdb.h lmdb
 peer "Berkeley DB" WITH_BERKELEY db.h db
-cc -O2 -Wall bench/peers.c -o "$work/peers" ${flags[@]+"${flags[@]}"}
+cc -O2 -Wall -Wno-unused-function bench/peers.c -o "$work/peers" ${flags[@]+"${flags[@]}"}
 
 # The middle one of the numbers on standard input.
 median() { sort -n | awk '{ x[NR] = $1 } END { print x[int((NR + 1) / 2)] }'; }
