@@ -1,5 +1,5 @@
 //! Tests of alp_format.
-ghost use Rattle.std.specs.Prelude.{◌≡◌, ◌<◌, IsTrue, IfSome, false};
+ghost use Rattle.std.specs.Prelude.{◌≡◌, ◌<◌, IsTrue, IfOk, IfSome, false};
 ghost use Rattle.alp_batch.specs.Batch.{IsBatch};
 ghost use Rattle.alp_wal.specs.Wal.{disk_of, is_dead, IsLog, IsKnown};
 
@@ -45,30 +45,25 @@ impl Change {
     }
 
     /// The change as a batch, by way of its spelling.
-    fn batch(&self, alloc: Global) -> Option<Batch>
-        ensures { IfSome result IsBatch }
+    fn batch(&self, alloc: Global) -> Result<Option<Batch>, OutOfMemory>
+        ensures { IfOk result (λ found. IfSome found IsBatch) }
     {
         let mut bytes = Vec::new(alloc);
-        bytes.extend_from_slice(&[0, self.count]).ok()?;
+        bytes.extend_from_slice(&[0, self.count])?;
         for k in 0..self.count {
-            bytes
-                .extend_from_slice(&[0, 0, 0, self.first.wrapping_add(k)])
-                .ok()?;
-            bytes.extend_from_slice(&[self.byte; 512]).ok()?;
+            bytes.extend_from_slice(&[0, 0, 0, self.first.wrapping_add(k)])?;
+            bytes.extend_from_slice(&[self.byte; 512])?;
         }
         if self.note == 0 {
-            bytes.extend_from_slice(&[0, 0]).ok()?;
+            bytes.extend_from_slice(&[0, 0])?;
         } else {
-            bytes.extend_from_slice(&[0, 1, 1, 1, 0x43, 0, 0]).ok()?;
-            bytes.extend_from_slice(&self.note.to_be_bytes()).ok()?;
+            bytes.extend_from_slice(&[0, 1, 1, 1, 0x43, 0, 0])?;
+            bytes.extend_from_slice(&self.note.to_be_bytes())?;
         }
         for _ in 0..self.note {
-            bytes.push(self.byte).ok()?;
+            bytes.push(self.byte)?;
         }
-        match decode(alloc, bytes.as_slice()) {
-            Ok(found) => found,
-            Err(_refused) => None,
-        }
+        decode(alloc, bytes.as_slice())
     }
 }
 
@@ -124,8 +119,10 @@ fn make<D: Disk>(alloc: Global, wal: &mut Wal<D>, change: &Change) -> Option<Res
     ensures log { IsLog (D.size (disk_of wal.new)) wal.new }
     ensures known { IsTrue (D.tells (disk_of wal.new)) → is_dead wal.new ≡ false → IsKnown (D.size (disk_of wal.new)) (D.seen (disk_of wal.new)) (D.may_leave (disk_of wal.new)) wal.new }
 {
-    let batch = change.batch(alloc)?;
-    put(wal, &batch)
+    match change.batch(alloc) {
+        Ok(Some(batch)) => put(wal, &batch),
+        _ => None,
+    }
 }
 
 fn is_made<D: Disk>(alloc: Global, wal: &mut Wal<D>, change: &Change) -> bool

@@ -1,11 +1,11 @@
 //! Tests of alp_pool.
-ghost use Rattle.std.specs.Prelude.{◌≡◌, ◌≤◌, IsTrue, IfSome, false};
+ghost use Rattle.std.specs.Prelude.{◌≡◌, ◌≤◌, IsTrue, IfOk, IfSome, false};
 ghost use Rattle.alp_batch.specs.Batch.{IsBatch};
 ghost use Rattle.alp_wal.specs.Wal.{disk_of, is_dead, IsLog, IsKnown};
 ghost use Rattle.alp_pool.specs.Pools.{IsPool};
 
 use alp_anchor::{Anchor, anchor_page};
-use alp_base::{Page, Sizes};
+use alp_base::{OutOfMemory, Page, Sizes};
 use alp_batch::{Batch, decode};
 use alp_disk::{Disk, MemDisk};
 use alp_pool::Pool;
@@ -54,17 +54,14 @@ fn pool_of<D: Disk>(alloc: Global, disk: D, capacity: u32) -> Option<Pool<D>>
 }
 
 /// Home page `at` with this byte all over.
-fn change(alloc: Global, at: u8, byte: u8) -> Option<Batch>
-    ensures { IfSome result IsBatch }
+fn change(alloc: Global, at: u8, byte: u8) -> Result<Option<Batch>, OutOfMemory>
+    ensures { IfOk result (λ found. IfSome found IsBatch) }
 {
     let mut bytes = Vec::new(alloc);
-    bytes.extend_from_slice(&[0, 1, 0, 0, 0, at]).ok()?;
-    bytes.extend_from_slice(&[byte; 512]).ok()?;
-    bytes.extend_from_slice(&[0, 0]).ok()?;
-    match decode(alloc, bytes.as_slice()) {
-        Ok(found) => found,
-        Err(_refused) => None,
-    }
+    bytes.extend_from_slice(&[0, 1, 0, 0, 0, at])?;
+    bytes.extend_from_slice(&[byte; 512])?;
+    bytes.extend_from_slice(&[0, 0])?;
+    decode(alloc, bytes.as_slice())
 }
 
 /// Whether the first byte of a page is that one, through the buffers.
@@ -114,8 +111,10 @@ fn put<D: Disk>(alloc: Global, pool: &mut Pool<D>, at: u8, byte: u8) -> Option<R
     requires { IsPool D.Disk pool.old }
     ensures { IsPool D.Disk pool.new }
 {
-    let batch = change(alloc, at, byte)?;
-    commit(pool, &batch)
+    match change(alloc, at, byte) {
+        Ok(Some(batch)) => commit(pool, &batch),
+        _ => None,
+    }
 }
 
 /// Whether a buffer gets what is put, and who has the page keeps what was there.
@@ -126,15 +125,17 @@ fn is_replaced<D: Disk>(alloc: Global, pool: &mut Pool<D>) -> bool
     if pool.sizes().home != SIZES.home {
         return false;
     }
-    let Ok(before) = pool.get(7) else {
-        return false;
-    };
-    if put(alloc, pool, 7, 9) != Some(Ok(())) {
-        return false;
+    match pool.get(7) {
+        Ok(before) => {
+            let done = put(alloc, pool, 7, 9) == Some(Ok(()));
+            let mut copy = Page::zero();
+            let there = pool.peek(7, &mut copy);
+            done && there
+                && copy.bytes() == [9; 512].as_slice()
+                && before.bytes() == [0; 512].as_slice()
+        }
+        Err(_fault) => false,
     }
-    let mut copy = Page::zero();
-    let there = pool.peek(7, &mut copy);
-    there && copy.bytes() == [9; 512].as_slice() && before.bytes() == [0; 512].as_slice()
 }
 
 /// Whether two further pages push it out of its buffer, and it is read from the log again.
@@ -142,21 +143,18 @@ fn is_read_again<D: Disk>(pool: &mut Pool<D>) -> bool
     requires { IsPool D.Disk pool.old }
     ensures { IsPool D.Disk pool.new }
 {
-    if !begins(pool, 8, 0) {
-        return false;
-    }
-    if !begins(pool, 9, 0) {
-        return false;
-    }
-    if pool.resident(7) || !pool.resident(8) || !pool.resident(9) {
-        return false;
-    }
-    begins(pool, 7, 9)
+    begins(pool, 8, 0)
+        && begins(pool, 9, 0)
+        && !pool.resident(7)
+        && pool.resident(8)
+        && pool.resident(9)
+        && begins(pool, 7, 9)
 }
 
 /// Whether both pages stand after a checkpoint.
 fn is_kept<D: Disk>(pool: &mut Pool<D>) -> bool
     requires { IsPool D.Disk pool.old }
+    ensures { IsPool D.Disk pool.new }
 {
     pool.checkpoint() == Ok(()) && begins(pool, 7, 9) && begins(pool, 8, 0)
 }
@@ -183,13 +181,9 @@ fn dies<D: Disk>(alloc: Global, pool: &mut Pool<D>) -> bool
     requires { IsPool D.Disk pool.old }
     ensures { IsPool D.Disk pool.new }
 {
-    if !begins(pool, 7, 0) {
-        return false;
-    }
-    if put(alloc, pool, 7, 9) != Some(Err(WalFault::Failed)) {
-        return false;
-    }
-    put(alloc, pool, 7, 9) == Some(Err(WalFault::Dead))
+    begins(pool, 7, 0)
+        && put(alloc, pool, 7, 9) == Some(Err(WalFault::Failed))
+        && put(alloc, pool, 7, 9) == Some(Err(WalFault::Dead))
 }
 
 fn give_what_they_have<D: Disk>(alloc: Global, disk: D) -> bool {
