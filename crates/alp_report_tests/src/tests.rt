@@ -91,13 +91,13 @@ fn line_of(alloc: Global, reply: Reply) -> Result<Vec<u8>, OutOfMemory> {
 }
 
 // Whether the line is this text behind the number of the call's line.
-fn is_line(alloc: Global, line: &[u8], text: &str) -> Result<bool, Fail> {
+fn is_line(alloc: Global, line: &[u8], text: &str) -> Result<bool, OutOfMemory> {
     let wanted = format!(in alloc; "3 {text}\n")?;
     Ok(line == wanted.as_bytes())
 }
 
 // Whether the reply is printed so, behind the number of its line.
-fn prints(alloc: Global, reply: Reply, text: &str) -> Result<bool, Fail> {
+fn prints(alloc: Global, reply: Reply, text: &str) -> Result<bool, OutOfMemory> {
     let line = line_of(alloc, reply)?;
     is_line(alloc, line.as_slice(), text)
 }
@@ -151,19 +151,21 @@ fn outcomes(rt: HostRuntime) -> Result<(), Fail> {
 
 fn properties_are_printed(alloc: Global) -> Result<bool, Fail> {
     let file = Reply::Props(HeldProps::new(alloc, props(alloc)?)?);
-    prints(
+    let holds = prints(
         alloc,
         file,
         "ok props owner ann name a.txt type 7 time 18446744073709551615 bytes 1000 size 4 high 2 read ann,World modify -",
-    )
+    )?;
+    Ok(holds)
 }
 
 fn owners_are_printed(alloc: Global) -> Result<bool, Fail> {
-    prints(
+    let holds = prints(
         alloc,
         Reply::Owner(owner(alloc)?),
         "ok owner ann charge 4 quota 10 create ann",
-    )
+    )?;
+    Ok(holds)
 }
 
 #[test]
