@@ -5,7 +5,6 @@ mod fixtures;
 mod memory;
 mod notes;
 mod quiet_disk;
-mod restarts;
 mod serving;
 mod takes;
 mod turns;
@@ -17,9 +16,8 @@ use alp_files::CellMap;
 use alp_store::Store;
 use alp_vault::Vault;
 use commits::puts_of;
-use fixtures::{FILE, SIZES, Tested, agree, committed, mem_disk, put_file, put_pages};
+use fixtures::{FILE, SIZES, agree, committed, mem_disk, put_file, put_pages, started};
 use quiet_disk::QuietDisk;
-use restarts::{Restarts, started};
 use serving::Serving;
 use std::alloc::Global;
 use std::test::*;
@@ -47,14 +45,14 @@ fn pages_of<D: Disk>(alloc: Global, disk: &mut QuietDisk<D>) -> Result<Vec<Page>
 }
 
 // The pages of the disk once a store on it holds these cells.
-fn written_pages<V: Restarts>(
+fn written_pages<D: Disk>(
     alloc: Global,
-    disk: QuietDisk<V::Device>,
+    disk: QuietDisk<D>,
     cells: &CellMap,
 ) -> Result<Vec<Page>, Wrong> {
-    let store = started::<V>(alloc, disk, SIZES)?;
+    let store = started(alloc, disk, SIZES)?;
     let store = committed(alloc, store, cells, 1)?;
-    let mut disk = V::close(store)?;
+    let mut disk = store.into_disk()?;
     pages_of(alloc, &mut disk)
 }
 
@@ -90,15 +88,15 @@ fn fetches_twice<V: Vault>(store: Serving<V>, cells: &CellMap) -> Option<bool> {
 }
 
 // The same of a store on a disk with these pages; nothing where it does not start either.
-fn is_fetched_twice<V: Restarts>(
+fn is_fetched_twice<D: Disk>(
     alloc: Global,
-    disk: QuietDisk<V::Device>,
+    disk: QuietDisk<D>,
     pages: &[Page],
     cells: &CellMap,
 ) -> Result<Option<bool>, Wrong> {
     let mut disk = disk;
     fill(&mut disk, pages)?;
-    match V::start(disk, alloc, 1, SIZES) {
+    match disk.start(alloc, 1, SIZES) {
         Ok(store) => Ok(fetches_twice(store, cells)),
         Err(_fault) => Ok(None),
     }
@@ -115,7 +113,7 @@ fn first_fetched(
     for n in 0..1000u64 {
         let fails = calls_after(alloc, written.saturating_add(n))?;
         let disk = mem_disk(alloc, SIZES, fails)?;
-        if let Some(same) = is_fetched_twice::<Tested>(alloc, disk, pages, cells)? {
+        if let Some(same) = is_fetched_twice(alloc, disk, pages, cells)? {
             return Ok(Some((n, same)));
         }
     }
@@ -127,7 +125,7 @@ fn a_second_fetch_reads_no_disk(rt: HostRuntime) -> Result<(), Fail> {
     let alloc = rt.alloc();
     let cells = three_pages(alloc)?;
     let disk = mem_disk(alloc, SIZES, Vec::new(alloc))?;
-    let pages = written_pages::<Tested>(alloc, disk, &cells)?;
+    let pages = written_pages(alloc, disk, &cells)?;
     let found = first_fetched(alloc, pages.as_slice(), &cells)?;
     let (calls, same) = found.ok_or("no fetch")?;
     assert!(rt; same && calls > 257);
@@ -161,14 +159,14 @@ fn after_a_stop<V: Vault>(
 }
 
 // The same of three pages on a new volume.
-fn stopped_on<V: Restarts>(
+fn stopped_on<D: Disk>(
     alloc: Global,
-    disk: QuietDisk<V::Device>,
+    disk: QuietDisk<D>,
     calls: u32,
     pick: u64,
 ) -> Result<Option<Left>, Wrong> {
     let cells = three_pages(alloc)?;
-    let store = started::<V>(alloc, disk, SIZES)?;
+    let store = started(alloc, disk, SIZES)?;
     after_a_stop(alloc, store, &cells, calls, pick)
 }
 
@@ -180,7 +178,7 @@ fn a_stopped_commit_was_made_or_not(rt: HostRuntime) -> Result<(), Fail> {
     for calls in 0..40u32 {
         for pick in 0..6u64 {
             let disk = mem_disk(alloc, SIZES, Vec::new(alloc))?;
-            match stopped_on::<Tested>(alloc, disk, calls, pick)? {
+            match stopped_on(alloc, disk, calls, pick)? {
                 Some((5, 0, (0, 0, 0, 0))) => before = before.saturating_add(1),
                 Some((0, 5, (1, 1, 5, 9))) => after = after.saturating_add(1),
                 Some(_) => return Err("half a commit".into()),
@@ -221,12 +219,12 @@ fn looked_at<V: Vault>(
 }
 
 // The same of a new store once it holds the cells.
-fn filled_up<V: Restarts>(
+fn filled_up<D: Disk>(
     alloc: Global,
-    disk: QuietDisk<V::Device>,
+    disk: QuietDisk<D>,
     cells: &CellMap,
 ) -> Result<((u32, u32, u32, u64), u32), Wrong> {
-    let store = started::<V>(alloc, disk, LARGE)?;
+    let store = started(alloc, disk, LARGE)?;
     let store = committed(alloc, store, cells, 1)?;
     looked_at(alloc, store, cells)
 }
@@ -236,7 +234,7 @@ fn a_full_volume_commits(rt: HostRuntime) -> Result<(), Fail> {
     let alloc = rt.alloc();
     let cells = most_pages(alloc)?;
     let disk = mem_disk(alloc, LARGE, Vec::new(alloc))?;
-    assert!(rt; filled_up::<Tested>(alloc, disk, &cells)? == ((1, 1, 255, 1), 302));
+    assert!(rt; filled_up(alloc, disk, &cells)? == ((1, 1, 255, 1), 302));
     Ok(())
 }
 
@@ -251,7 +249,7 @@ fn store_crosses<D: Disk + Send + Sync>(store: &Store<D>) {
 
 // Whether a store starts on the disk.
 fn starts<D: Disk + Send + Sync>(alloc: Global, disk: QuietDisk<D>) -> Result<bool, Wrong> {
-    let store = started::<Store<D>>(alloc, disk, SIZES)?;
+    let store = started(alloc, disk, SIZES)?;
     store_crosses(store.vault());
     Ok(true)
 }

@@ -1,5 +1,6 @@
 //! Disks and cells of the tests.
 ghost use Rattle.std.specs.Prelude.{◌≡◌};
+ghost use Rattle.alp_vault.specs.Vault.{AreSizes};
 
 use super::commits::puts_of;
 use super::quiet_disk::QuietDisk;
@@ -8,7 +9,7 @@ use super::wrong::Wrong;
 use alp_base::{
     AccessList, Cell, FileId, Key, Name, OutOfMemory, OwnerRecord, Page, PageRef, Props, Sizes,
 };
-use alp_disk::{Fuse, MemDisk};
+use alp_disk::{Disk, Fuse, MemDisk};
 use alp_files::CellMap;
 use alp_silent::Silent;
 use alp_store::Store;
@@ -43,8 +44,19 @@ pub(super) fn mem_disk(
     QuietDisk::new(Fuse::new(Silent { disk }))
 }
 
-// The store that is tested.
-pub(super) type Tested = Store<Fuse<Silent>>;
+// The store of the only server on the disk.
+pub(super) fn started<D: Disk>(
+    alloc: Global,
+    disk: QuietDisk<D>,
+    sizes: Sizes,
+) -> Result<Serving<Store<D>>, Wrong>
+    requires { AreSizes sizes }
+{
+    match disk.start(alloc, 1, sizes) {
+        Ok(store) => Ok(store),
+        Err(_fault) => Err(Wrong::Start),
+    }
+}
 
 // ---- cells
 

@@ -1,7 +1,6 @@
 //! Disks of server 1 of three, with notes that a run before left there, spelled by hand.
-use super::fixtures::{SIZES, Tested, mem_disk};
+use super::fixtures::{SIZES, mem_disk};
 use super::quiet_disk::QuietDisk;
-use super::restarts::Restarts;
 use super::wrong::Wrong;
 use alp_base::{OutOfMemory, Page, VaultFault};
 use alp_disk::Disk;
@@ -53,22 +52,16 @@ fn record<D: Disk>(disk: &mut QuietDisk<D>, batch: &[u8]) -> Result<(), Wrong> {
 }
 
 // The disk with a new volume of the server.
-fn new_volume<V: Restarts>(
-    alloc: Global,
-    disk: QuietDisk<V::Device>,
-) -> Result<QuietDisk<V::Device>, Wrong> {
-    match V::start(disk, alloc, SERVERS, SIZES) {
-        Ok(store) => V::close(store),
+fn new_volume<D: Disk>(alloc: Global, disk: QuietDisk<D>) -> Result<QuietDisk<D>, Wrong> {
+    match disk.start(alloc, SERVERS, SIZES) {
+        Ok(store) => store.into_disk(),
         Err(_fault) => Err(Wrong::Start),
     }
 }
 
 // How many notes a vault has that starts on the disk; nothing where it is refused for what is no page.
-fn noted_on<V: Restarts>(
-    alloc: Global,
-    disk: QuietDisk<V::Device>,
-) -> Result<Option<usize>, Wrong> {
-    match V::start(disk, alloc, SERVERS, SIZES) {
+fn noted_on<D: Disk>(alloc: Global, disk: QuietDisk<D>) -> Result<Option<usize>, Wrong> {
+    match disk.start(alloc, SERVERS, SIZES) {
         Ok(store) => Ok(Some(store.note_count())),
         Err(fault) => {
             if fault == (VaultFault::Damaged { place: 0 }) {
@@ -81,21 +74,21 @@ fn noted_on<V: Restarts>(
 }
 
 // The same of a new volume with that batch behind its records.
-fn noted_behind<V: Restarts>(
+fn noted_behind<D: Disk>(
     alloc: Global,
-    disk: QuietDisk<V::Device>,
+    disk: QuietDisk<D>,
     batch: &[u8],
 ) -> Result<Option<usize>, Wrong> {
-    let mut disk = new_volume::<V>(alloc, disk)?;
+    let mut disk = new_volume(alloc, disk)?;
     record(&mut disk, batch)?;
-    noted_on::<V>(alloc, disk)
+    noted_on(alloc, disk)
 }
 
 // The same with these notes.
 fn noted(alloc: Global, count: u8, notes: &[u8]) -> Result<Option<usize>, Wrong> {
     let batch = batch_of(alloc, count, notes)?;
     let disk = mem_disk(alloc, SIZES, Vec::new(alloc))?;
-    noted_behind::<Tested>(alloc, disk, batch.as_slice())
+    noted_behind(alloc, disk, batch.as_slice())
 }
 
 const NOTES: [&[u8]; 3] = [CLOCK, DECISION, READY];

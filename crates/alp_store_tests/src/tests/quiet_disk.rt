@@ -1,9 +1,13 @@
 //! A disk on which a store can be started.
 ghost use Rattle.std.specs.Prelude.{◌≡◌, ◌≤◌, false};
+ghost use Rattle.alp_vault.specs.Vault.{AreSizes, IsServer};
 
+use super::serving::Serving;
 use super::wrong::Wrong;
-use alp_base::Page;
+use alp_base::{Page, Sizes, VaultFault};
 use alp_disk::Disk;
+use alp_store::Store;
+use std::alloc::Global;
 
 // A disk of two pages or more, of which nothing is told.
 #[derive(Drop)]
@@ -21,13 +25,6 @@ impl<D: Disk> QuietDisk<D> {
             return Err(Wrong::Disk);
         }
         Ok(QuietDisk { disk })
-    }
-
-    pub(super) fn into_disk(self) -> D
-        ensures told { D.tells result ≡ false }
-        ensures long { 2 ≤ D.size result }
-    {
-        self.disk
     }
 
     pub(super) fn pages(&self) -> u32 {
@@ -58,6 +55,22 @@ impl<D: Disk> QuietDisk<D> {
         match self.disk.sync() {
             Ok(()) => Ok(()),
             Err(_halt) => Err(Wrong::Disk),
+        }
+    }
+
+    // The store of server 1 of so many on the disk.
+    pub(super) fn start(
+        self,
+        alloc: Global,
+        servers: u8,
+        sizes: Sizes,
+    ) -> Result<Serving<Store<D>>, VaultFault>
+        requires server { IsServer 1 servers }
+        requires sizes { AreSizes sizes }
+    {
+        match Store::start(alloc, self.disk, 1, servers, sizes) {
+            Ok(store) => Ok(Serving::of(store)),
+            Err((_disk, fault)) => Err(fault),
         }
     }
 }

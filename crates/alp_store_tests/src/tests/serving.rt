@@ -4,9 +4,12 @@ ghost use Rattle.alp_files.specs.Changes.{ArePutOnce};
 
 use super::commits::{commit, counts_of};
 use super::fixtures::same_cell;
+use super::quiet_disk::QuietDisk;
 use super::wrong::Wrong;
 use alp_base::{Change, Key, VaultFault};
+use alp_disk::Disk;
 use alp_files::CellMap;
+use alp_store::Store;
 use alp_vault::Vault;
 use std::alloc::Global;
 
@@ -24,12 +27,6 @@ impl<V: Vault> Serving<V> {
         requires told { V.tells vault ≡ false }
     {
         Serving { vault }
-    }
-
-    pub(super) fn into_vault(self) -> V
-        ensures { V.tells result ≡ false }
-    {
-        self.vault
     }
 
     // Makes the change with the note of that clock.
@@ -106,5 +103,11 @@ fn after_crash<V: Vault>(vault: V, pick: u64) -> Result<Serving<V>, Wrong>
     match vault.power_off(pick).recover() {
         Ok(vault) => Ok(Serving { vault }),
         Err(_halted) => Err(Wrong::Recovery),
+    }
+}
+
+impl<D: Disk> Serving<Store<D>> {
+    pub(super) fn into_disk(self) -> Result<QuietDisk<D>, Wrong> {
+        QuietDisk::new(self.vault.into_disk())
     }
 }

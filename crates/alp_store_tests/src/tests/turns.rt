@@ -2,12 +2,13 @@
 ghost use Rattle.std.specs.Prelude.{IsTrue, OnOk};
 
 use super::changes::all_keys;
-use super::fixtures::{SIZES, Tested, mem_disk};
+use super::fixtures::{SIZES, mem_disk, started};
 use super::memory::Memory;
 use super::quiet_disk::QuietDisk;
-use super::restarts::{Restarts, started};
 use super::serving::Serving;
 use super::wrong::Wrong;
+use alp_disk::Disk;
+use alp_store::Store;
 use alp_vault::{MemVault, Vault};
 use std::alloc::Global;
 use std::test::*;
@@ -46,21 +47,25 @@ fn agreeing<V: Vault>(
 }
 
 // The store again: on its disk anew, or after a crash with a recovery.
-fn again<V: Restarts>(alloc: Global, store: Serving<V>, number: u32) -> Result<Serving<V>, Wrong> {
+fn again<D: Disk>(
+    alloc: Global,
+    store: Serving<Store<D>>,
+    number: u32,
+) -> Result<Serving<Store<D>>, Wrong> {
     if number % 2 == 0 {
-        return started(alloc, V::close(store)?, SIZES);
+        return started(alloc, store.into_disk()?, SIZES);
     }
     store.crash(u64::from(number))
 }
 
 // A change of both, maybe a restart of the store behind it, and maybe a look whether both hold the same.
-fn step<V: Restarts>(
+fn step<D: Disk>(
     alloc: Global,
-    store: Serving<V>,
+    store: Serving<Store<D>>,
     memory: &mut Memory,
     number: u32,
     clock: u32,
-) -> Result<Serving<V>, Wrong>
+) -> Result<Serving<Store<D>>, Wrong>
     requires { IsTrue (⟦<MemVault as Vault>⟧.serves memory.old.vault) }
     ensures { OnOk result (IsTrue (⟦<MemVault as Vault>⟧.serves memory.new.vault)) }
 {
@@ -77,15 +82,11 @@ fn step<V: Restarts>(
 }
 
 // All changes of both, and a look at the end.
-fn play<V: Restarts>(
-    alloc: Global,
-    disk: QuietDisk<V::Device>,
-    memory: &mut Memory,
-) -> Result<(), Wrong>
+fn play<D: Disk>(alloc: Global, disk: QuietDisk<D>, memory: &mut Memory) -> Result<(), Wrong>
     requires { IsTrue (⟦<MemVault as Vault>⟧.serves memory.old.vault) }
     ensures { OnOk result (IsTrue (⟦<MemVault as Vault>⟧.serves memory.new.vault)) }
 {
-    let mut store = started::<V>(alloc, disk, SIZES)?;
+    let mut store = started(alloc, disk, SIZES)?;
     let mut seed = 7u64;
     for turn in 0..TURNS {
         store = step(alloc, store, memory, next_number(&mut seed), turn + 1)?;
@@ -107,7 +108,7 @@ fn changes_and_restarts_beside_a_vault_in_memory(rt: HostRuntime) -> Result<(), 
     let alloc = rt.alloc();
     let disk = mem_disk(alloc, SIZES, Vec::new(alloc))?;
     let mut memory = Memory::new(alloc);
-    play::<Tested>(alloc, disk, &mut memory)?;
+    play(alloc, disk, &mut memory)?;
     assert!(rt; has_played(alloc, &memory)?);
     Ok(())
 }
