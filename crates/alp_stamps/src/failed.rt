@@ -2,7 +2,7 @@
 use alp_acknowledge::ServeFault;
 use alp_base::OutOfMemory;
 use alp_bay::BayFault;
-use std::alloc::AllocError;
+use std::alloc::{AllocError, AllocFailed};
 use std::io;
 use thiserror::Error;
 
@@ -35,6 +35,12 @@ impl From<OutOfMemory> for Failed {
 
 impl From<AllocError> for Failed {
     fn from(_fault: AllocError) -> Failed {
+        Failed::OutOfMemory
+    }
+}
+
+impl<T: Drop> From<AllocFailed<T>> for Failed {
+    fn from(_refused: AllocFailed<T>) -> Failed {
         Failed::OutOfMemory
     }
 }
