@@ -3,7 +3,7 @@
 ghost use Rattle.alp_node.specs.Halts.{IsTimelyMessage};
 ghost use Rattle.alp_node.specs.Served.{IsAskable, IsServed};
 
-use super::{Task, in_memory};
+use super::in_memory;
 use alp_base::{AccessList, Choice, JoinNo, Name, OutOfMemory, Stamp, TransId};
 use alp_files::{Call, Cause, Refusal, Reply, Why};
 use alp_journal::{Act, Entry, Event, Message};
@@ -242,36 +242,45 @@ const APPLIES: &[Deed] = &[Deed::Hear(1, Word::Commit, JOIN)];
 
 // ---- writes
 
-// A server and its deeds, of which the last is a vote, a decision, an application.
-const WRITES: &[(u8, &[Deed], &[Deed], &[Deed])] = &[
-    (2, NOTHING, WORKS, VOTES),
-    (1, BEGINS, FINISHES, IS_READY),
-    (2, WORKS, VOTES, APPLIES),
-];
-
-// Whether the server falls in the last deeds of that row, of which its vault does so many writes.
-pub(super) fn falls<V: Vault>(
+// Whether the server falls in the last of these, of which its vault does so many writes.
+fn falls<V: Vault>(
     alloc: Global,
     node: &mut Node<V>,
-    row: usize,
+    deeds: [&[Deed]; 3],
     writes: u32,
 ) -> Result<bool, OutOfMemory> {
-    let Some((_server, first, second, last)) = WRITES.get(row) else {
-        return Err(OutOfMemory);
-    };
-    pass(alloc, node, *first)?;
-    pass(alloc, node, *second)?;
+    let [first, second, last] = deeds;
+    let _ = meet_all(alloc, node, first)?;
+    let _ = meet_all(alloc, node, second)?;
     node.stop_after(Some(writes));
-    pass(alloc, node, *last)?;
+    let _ = meet_all(alloc, node, last)?;
     Ok(node.is_down())
 }
+
+// Whether that server falls so.
+fn server_falls(
+    alloc: Global,
+    server: u8,
+    deeds: [&[Deed]; 3],
+    writes: u32,
+) -> Result<bool, OutOfMemory> {
+    let mut node = in_memory(alloc, server)?;
+    falls(alloc, &mut node, deeds, writes)
+}
+
+// A server and its deeds, of which the last is a vote, a decision, an application.
+const WRITES: [(u8, [&[Deed]; 3]); 3] = [
+    (2, [NOTHING, WORKS, VOTES]),
+    (1, [BEGINS, FINISHES, IS_READY]),
+    (2, [WORKS, VOTES, APPLIES]),
+];
 
 /// In each a server falls where no write may pass, and another does not where one may.
 #[test]
 fn a_vote_a_decision_and_an_application_are_one_write_each(rt: HostRuntime) -> Result<(), Fail> {
-    for (row, (server, _, _, _)) in WRITES.iter().enumerate() {
-        assert!(rt; in_memory(rt.alloc(), *server, Task::Write(row, 0))?);
-        assert!(rt; !in_memory(rt.alloc(), *server, Task::Write(row, 1))?);
+    for (server, deeds) in WRITES {
+        assert!(rt; server_falls(rt.alloc(), server, deeds, 0)?);
+        assert!(rt; !server_falls(rt.alloc(), server, deeds, 1)?);
     }
     Ok(())
 }
@@ -353,23 +362,6 @@ fn is_told(reply: &Option<Reply>, told: &Told) -> bool {
     }
 }
 
-// Whether the last of these is answered so.
-fn is_answered<V: Vault>(
-    alloc: Global,
-    node: &mut Node<V>,
-    deeds: &[Deed],
-    told: &Told,
-) -> Result<bool, OutOfMemory> {
-    let reply = meet_all(alloc, node, deeds)?;
-    Ok(is_told(&reply, told))
-}
-
-// Meets these, whatever is answered.
-fn pass<V: Vault>(alloc: Global, node: &mut Node<V>, deeds: &[Deed]) -> Result<(), OutOfMemory> {
-    let _reply = meet_all(alloc, node, deeds)?;
-    Ok(())
-}
-
 // Whether the last step did nothing but say something, or not even that.
 fn has_said_only(entries: &[Entry]) -> bool {
     match entries {
@@ -385,7 +377,7 @@ fn has_said_only(entries: &[Entry]) -> bool {
 // Whether the deed leaves all as it was: it is not written down, and nothing comes of it but an answer.
 fn is_vain<V: Vault>(alloc: Global, node: &mut Node<V>, deed: &Deed) -> Result<bool, OutOfMemory> {
     node.stop_after(Some(0));
-    let _reply = meet(alloc, node, deed)?;
+    let _ = meet(alloc, node, deed)?;
     node.stop_after(None);
     Ok(!node.is_down() && has_said_only(node.journal().entries()))
 }
@@ -410,7 +402,8 @@ fn stands<V: Vault>(
     rows: &[(&[Deed], Told, &[Deed])],
 ) -> Result<bool, OutOfMemory> {
     for (deeds, told, strangers) in rows {
-        if !is_answered(alloc, node, *deeds, told)? || !are_vain(alloc, node, *strangers)? {
+        let reply = meet_all(alloc, node, *deeds)?;
+        if !is_told(&reply, told) || !are_vain(alloc, node, *strangers)? {
             return Ok(false);
         }
     }
@@ -426,13 +419,15 @@ const AS_COORDINATOR: [(&[Deed], Told, &[Deed]); 5] = [
 ];
 
 // Whether a coordinator stands. What the part says last is heeded.
-pub(super) fn coordinates<V: Vault>(
-    alloc: Global,
-    node: &mut Node<V>,
-) -> Result<bool, OutOfMemory> {
+fn stands_until_done<V: Vault>(alloc: Global, node: &mut Node<V>) -> Result<bool, OutOfMemory> {
     let is_firm = stands(alloc, node, &AS_COORDINATOR)?;
-    pass(alloc, node, IS_DONE)?;
+    let _ = meet_all(alloc, node, IS_DONE)?;
     Ok(is_firm && !has_said_only(node.journal().entries()))
+}
+
+fn coordinator_stands(alloc: Global) -> Result<bool, OutOfMemory> {
+    let mut node = in_memory(alloc, 1)?;
+    stands_until_done(alloc, &mut node)
 }
 
 const AS_PART: [(&[Deed], Told, &[Deed]); 5] = [
@@ -444,8 +439,9 @@ const AS_PART: [(&[Deed], Told, &[Deed]); 5] = [
 ];
 
 // Whether a part does.
-pub(super) fn takes_part<V: Vault>(alloc: Global, node: &mut Node<V>) -> Result<bool, OutOfMemory> {
-    stands(alloc, node, &AS_PART)
+fn part_stands(alloc: Global) -> Result<bool, OutOfMemory> {
+    let mut node = in_memory(alloc, 2)?;
+    stands(alloc, &mut node, &AS_PART)
 }
 
 /// Each of these is heard where nothing may be written, and nothing comes of it but an answer: files, intents, locks and notes are
@@ -463,7 +459,7 @@ pub(super) fn takes_part<V: Vault>(alloc: Global, node: &mut Node<V>) -> Result<
 /// | `Ready`, `Register`, `No`, `Done` | another server, or the coordinator | the same |
 #[test]
 fn strangers_change_nothing(rt: HostRuntime) -> Result<(), Fail> {
-    assert!(rt; in_memory(rt.alloc(), 1, Task::Coordinate)?);
-    assert!(rt; in_memory(rt.alloc(), 2, Task::TakePart)?);
+    assert!(rt; coordinator_stands(rt.alloc())?);
+    assert!(rt; part_stands(rt.alloc())?);
     Ok(())
 }

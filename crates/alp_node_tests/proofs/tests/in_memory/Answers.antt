@@ -8,7 +8,7 @@ use Rattle.alp_vault.specs.Contents.{Contents}
 use Rattle.alp_node_tests.proofs.tests.in_memory.Goals as goal
 
 -- a new vault has no files
-pub run-requires-clause-given : goal.run-requires-clause-given
-run-requires-clause-given c told f x there =
+pub start-requires-clause-given : goal.start-requires-clause-given
+start-requires-clause-given c told f x there =
     let wrong : None ≡ Some x = sym (ap (λ (h : Contents). map.get h.cells (Leader f)) c.new.ensures.empty ∙ get-empty key_cmp (Leader f)) ∙ there in
     cc
