@@ -1,5 +1,5 @@
 -- What was brought, one turn after the other.
-use Rattle.std.proofs.Common.{◌≡◌, ℕ, ◌+◌, ◌≤◌, List, [], ◌∷◌, ◌++◌, length, Option, Some, sym, ap, ◌∙◌, subst, arith, length-append}
+use Rattle.std.proofs.Common.{◌≡◌, ℕ, ◌+◌, ◌≤◌, List, [], ◌++◌, length, sym, ap, ◌∙◌, subst, arith, length-append}
 use mathlib.Core.List.{IsPrefix, append-nil, append_assoc}
 use Rattle.alp_monitor.specs.Passes.{IsHeld, number, turns, front, first_base}
 use Rattle.alp_monitor.specs.declared.monitor.Monitor.{Monitor}

@@ -1,18 +1,15 @@
 -- What follows of each carrier.
-use Rattle.std.proofs.Common.{◌≡◌, ℕ, ◌+◌, ◌*◌, ◌<◌, ◌≤◌, List, [], ◌∷◌, ◌++◌, length, take, drop, map, Option, None, Some, refl, sym, ap, ◌∙◌, subst, arith}
+use Rattle.std.proofs.Common.{◌≡◌, ℕ, ◌+◌, ◌*◌, ◌≤◌, List, [], ◌∷◌, ◌++◌, length, take, map, Option, Some, refl, ap, ◌∙◌, arith}
 use Rattle.std.specs.List.{AllByRecursion}
 use Rattle.alp_journal.specs.declared.message.Message.{Message}
 use Rattle.alp_monitor.specs.History.{entries_in}
 use Rattle.alp_monitor.specs.Passes.{front, first_base}
-use Rattle.alp_monitor.specs.declared.monitor.Monitor.{Monitor}
 use Rattle.alp_monitor.specs.declared.monitor.Pass.{Pass}
 use Rattle.alp_carrier.specs.Sights.{Arrival, Sight, next_rank}
 use Rattle.alp_carrier.specs.Plans.{planned}
-use Rattle.alp_carrier.specs.Takes.{addressed_to, message_of, sent_before, WasSeen}
+use Rattle.alp_carrier.specs.Takes.{message_of, messages_up_to, sent_before, WasSeen}
 use Rattle.alp_carrier.specs.Brings.{Came, AreBrought, nothing, one_came, one_missed}
-use Rattle.alp_carrier.specs.Carries.{HasCarried}
 use Rattle.alp_carrier.specs.Claims.{message_in, messages_of, weight_of, WasSentBefore, BringsWhatWasSent, BringsTwiceAtMost}
-use Rattle.alp_carrier.specs.declared.carrying.Carried.{Carried}
 use Rattle.alp_carrier.specs.declared.route.Route.{Route}
 use Rattle.alp_carrier.specs.declared.taken.Taken.{Taken}
 use Rattle.alp_carrier.proofs.Fronts.{get_begins}
@@ -65,5 +62,5 @@ module _ {S B E : Type 0} (base_of : S → B) (sight : Sight B E) where
   brings_twice r seed sender receiver c h w =
       let came : weight_of w (messages_of sight h.brings.more) ≤ weigh (λ (x : Taken). w x.message) (planned seed h.taken) = brought_weight sight (first_base base_of r.to.now) r.pair.from (front c.receiver) w (length (front receiver)) (planned seed h.taken) h.brings.more h.brings.brought in
       let few : weigh (λ (x : Taken). w x.message) (planned seed h.taken) ≤ 2 * weigh (λ (x : Taken). w x.message) h.taken = few_planned (λ (x : Taken). w x.message) seed h.taken in
-      let are : weigh (λ (x : Taken). w x.message) h.taken ≡ weight_of w (addressed_to r.pair.to (drop r.pair.first (take c.next (sent_before base_of sight r.from.now c.sender)))) = taken_weight w h.taken ∙ ap (weight_of w) h.are_taken.are in
+      let are : weigh (λ (x : Taken). w x.message) h.taken ≡ weight_of w (messages_up_to base_of sight r.from.now r.pair c.next c.sender) = taken_weight w h.taken ∙ ap (weight_of w) h.are_taken.are in
       omega (arith, came, few, are)

@@ -1,5 +1,5 @@
 -- What one turn tells.
-use Rattle.std.proofs.Common.{◌≡◌, ℕ, ◌+◌, ◌<◌, ◌≤◌, List, [], ◌∷◌, ◌++◌, length, take, Some, Bool, true, false, sym, ap, ◌∙◌, subst, arith, length-append}
+use Rattle.std.proofs.Common.{◌≡◌, ℕ, ◌+◌, ◌≤◌, List, [], ◌∷◌, ◌++◌, length, take, Some, Bool, true, false, sym, ap, ◌∙◌, subst, arith, length-append}
 use Rattle.std.specs.Prelude.{if◌then◌else◌}
 use mathlib.Core.List.{IsPrefix, append-nil}
 use Rattle.alp_monitor.specs.History.{entries_in, turns_of}
@@ -8,7 +8,7 @@ use Rattle.alp_monitor.specs.declared.monitor.Monitor.{Monitor}
 use Rattle.alp_monitor.specs.declared.monitor.Pass.{Pass}
 use Rattle.alp_carrier.specs.Sights.{Sight, IsArrival}
 use Rattle.alp_carrier.specs.Takes.{IsLater}
-use Rattle.alp_carrier.specs.Brings.{IsPrevented, HandsIn, Came, IsMissed, nothing, one_came, one_missed, Brings, counted}
+use Rattle.alp_carrier.specs.Brings.{IsPrevented, HandsIn, IsMissed, nothing, one_came, one_missed, Brings, counted}
 use Rattle.alp_carrier.specs.declared.steps.Delivery.{Delivery}
 use Rattle.alp_carrier.specs.declared.taken.Taken.{Taken}
 use Rattle.alp_carrier.proofs.Fronts.{begins_through, not_longer, same_entries, all_entries, same_some}

@@ -1,5 +1,5 @@
 -- How a carrier goes on.
-use Rattle.std.proofs.Common.{◌≡◌, ◌≢◌, ◌⊎◌, ℕ, ◌+◌, ◌≤◌, List, [], ◌∷◌, ◌++◌, length, Option, None, Bool, true, false, refl, sym, ap, ◌∙◌, subst, ⊎_elim, inl, inr, arith}
+use Rattle.std.proofs.Common.{◌≡◌, ◌≢◌, ◌⊎◌, ℕ, ◌+◌, ◌≤◌, [], ◌∷◌, ◌++◌, length, None, true, false, sym, ap, ◌∙◌, subst, ⊎_elim, inl, inr, arith}
 use Rattle.std.specs.Prelude.{IfSome, option_to_list}
 use Rattle.alp_monitor.specs.History.{entries_in}
 use Rattle.alp_monitor.specs.Passes.{IsHeld, number, front, turns, first_base}
@@ -7,7 +7,7 @@ use Rattle.alp_monitor.specs.declared.monitor.Monitor.{Monitor}
 use Rattle.alp_monitor.specs.declared.monitor.Pass.{Pass}
 use Rattle.alp_journal.specs.declared.message.Envelope.{Envelope}
 use Rattle.alp_carrier.specs.Sights.{Sight, IsShown}
-use Rattle.alp_carrier.specs.Plans.{dice_of, roll, fate_of, brought_by, delayed_by, plan_step, plan_steps, planned}
+use Rattle.alp_carrier.specs.Plans.{dice_of, roll, fate_of, brought_by, delayed_by, plan_step, plan_steps}
 use Rattle.alp_carrier.specs.Takes.{IsLater, addressed_to, sent_before, last_before, AreTaken}
 use Rattle.alp_carrier.specs.Brings.{Brings}
 use Rattle.alp_carrier.specs.OnWay.{unlost, IsReadyToGo, HasRolled, Finishes, IsOnWay, GoesOn}
@@ -16,7 +16,6 @@ use Rattle.alp_carrier.specs.declared.carrying.Carried.{Carried}
 use Rattle.alp_carrier.specs.declared.carrying.Way.{Way}
 use Rattle.alp_carrier.specs.declared.plan.Fate.{Fate}
 use Rattle.alp_carrier.specs.declared.route.Route.{Route}
-use Rattle.alp_carrier.specs.declared.steps.Delivery.{Delivery}
 use Rattle.alp_carrier.specs.declared.taken.Taken.{Taken}
 use Rattle.alp_carrier.proofs.BringLemmas.{still_later, later_through, held_itself, brings_none, brings_both}
 use Rattle.alp_carrier.proofs.PlanLemmas.{steps_after, some_by}

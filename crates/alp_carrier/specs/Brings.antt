@@ -3,7 +3,6 @@ use Rattle.std.specs.Prelude.{◌≡◌, ℕ, ◌+◌, ◌<◌, ◌≤◌, ◌^�
 use Rattle.alp_monitor.specs.History.{entries_in}
 use Rattle.alp_monitor.specs.Passes.{turns, front, first_base}
 use Rattle.alp_monitor.specs.declared.monitor.Monitor.{Monitor}
-use Rattle.alp_monitor.specs.declared.monitor.Pass.{Pass}
 use Rattle.alp_carrier.specs.Sights.{Sight, IsArrival}
 use Rattle.alp_carrier.specs.Takes.{IsLater}
 use Rattle.alp_carrier.specs.declared.steps.Delivery.{Delivery}
@@ -37,10 +36,10 @@ module _ {B E : Type 0} (sight : Sight B E) (b : B) (from : ℕ) (history : List
   -- From this place of the history on, one after the other: each message came by one of the turns, or was missed. There are no other turns.
   pub data AreBrought : ℕ → List Taken → List (ℕ × E) → Type 0 where
     nothing : (place : ℕ) → AreBrought place [] []
-    one_came : (place : ℕ) (x : Taken) (t : ℕ × E) (xs : List Taken) (ts : List (ℕ × E)) → place ≤ t.0 → Came sight b from x history t → AreBrought (t.0 + 1) xs ts
-        → AreBrought place (x ∷ xs) (t ∷ ts)
-    one_missed : (place : ℕ) (x : Taken) (xs : List Taken) (ts : List (ℕ × E)) (m : IsMissed sight b from x history) → place ≤ m.after → AreBrought m.after xs ts
-        → AreBrought place (x ∷ xs) ts
+    one_came : (place : ℕ) (x : Taken) (t : ℕ × E) (xs : List Taken) (ts : List (ℕ × E)) → place ≤ t.0 → Came sight b from x history t
+        → AreBrought (t.0 + 1) xs ts → AreBrought place (x ∷ xs) (t ∷ ts)
+    one_missed : (place : ℕ) (x : Taken) (xs : List Taken) (ts : List (ℕ × E)) (m : IsMissed sight b from x history) → place ≤ m.after
+        → AreBrought m.after xs ts → AreBrought place (x ∷ xs) ts
 
 -- a count of 32 bits after so many more, which stays at its greatest number
 abbrev pub counted : ℕ → ℕ → ℕ

@@ -1,10 +1,10 @@
 -- What follows of each carrier that did what `carry` promises.
-use Rattle.std.specs.Prelude.{◌≡◌, ℕ, ◌+◌, ◌*◌, ◌<◌, ◌≤◌, List, [], ◌∷◌, ◌++◌, take, drop, Option, None, Some, slice_get}
+use Rattle.std.specs.Prelude.{◌≡◌, ℕ, ◌+◌, ◌*◌, ◌<◌, ◌≤◌, List, [], ◌∷◌, ◌++◌, Option, None, Some, slice_get}
 use Rattle.std.specs.List.{AllByRecursion}
 use Rattle.alp_journal.specs.declared.message.Message.{Message}
 use Rattle.alp_monitor.specs.declared.monitor.Pass.{Pass}
 use Rattle.alp_carrier.specs.Sights.{Arrival, Sight}
-use Rattle.alp_carrier.specs.Takes.{addressed_to, sent_before}
+use Rattle.alp_carrier.specs.Takes.{sent_before, messages_up_to}
 use Rattle.alp_carrier.specs.Carries.{HasCarried}
 use Rattle.alp_carrier.specs.declared.carrying.Carried.{Carried}
 use Rattle.alp_carrier.specs.declared.route.Route.{Route}
@@ -36,10 +36,11 @@ module _ {S B E : Type 0} (base_of : S → B) (sight : Sight B E) where
 
   -- each turn at the receiver did that
   abbrev pub BringsWhatWasSent : Type 0
-  BringsWhatWasSent = (r : Route S B E) (seed : ℕ) (sender receiver : Pass S B E) (c : Carried S B E) (h : HasCarried base_of sight r seed sender receiver c)
-      → AllByRecursion (WasSentBefore r c.sender) h.brings.more
+  BringsWhatWasSent = (r : Route S B E) (seed : ℕ) (sender receiver : Pass S B E) (c : Carried S B E)
+      → (h : HasCarried base_of sight r seed sender receiver c) → AllByRecursion (WasSentBefore r c.sender) h.brings.more
 
   -- whatever messages weigh, those that were brought weigh at most twice those that were taken
   abbrev pub BringsTwiceAtMost : Type 0
-  BringsTwiceAtMost = (r : Route S B E) (seed : ℕ) (sender receiver : Pass S B E) (c : Carried S B E) (h : HasCarried base_of sight r seed sender receiver c) (w : Message → ℕ)
-      → weight_of w (messages_of sight h.brings.more) ≤ 2 * weight_of w (addressed_to r.pair.to (drop r.pair.first (take c.next (sent_before base_of sight r.from.now c.sender))))
+  BringsTwiceAtMost = (r : Route S B E) (seed : ℕ) (sender receiver : Pass S B E) (c : Carried S B E)
+      → (h : HasCarried base_of sight r seed sender receiver c) (w : Message → ℕ)
+      → weight_of w (messages_of sight h.brings.more) ≤ 2 * weight_of w (messages_up_to base_of sight r.from.now r.pair c.next c.sender)

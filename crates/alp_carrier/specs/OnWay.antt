@@ -13,7 +13,7 @@ use Rattle.alp_carrier.specs.declared.route.Route.{Route}
 use Rattle.alp_carrier.specs.declared.steps.Delivery.{Delivery}
 use Rattle.alp_carrier.specs.declared.taken.Taken.{Taken}
 
--- nothing was lost yet
+-- the delivery of a pass that lost nothing yet
 abbrev pub unlost : {S B E : Type 0} → Pass S B E → Delivery S B E
 unlost p = record { pass = p; lost = 0 }
 

@@ -35,6 +35,10 @@ module _ {S B E : Type 0} (base_of : S → B) (sight : Sight B E) (m : Monitor S
   abbrev pub last_before : Pass S B E → ℕ
   last_before p = sight.last (first_base base_of m) (entries_in (front p))
 
+  -- the pair's messages from its first place up to the next one, in order
+  abbrev pub messages_up_to : Pair → ℕ → Pass S B E → List Message
+  messages_up_to pair next p = addressed_to pair.to (drop pair.first (take next (sent_before p)))
+
   -- the pass saw it sent to that server, after so many entries, the last of which had the rank that it was taken with
   pub record WasSeen (to : ℕ) (p : Pass S B E) (x : Taken) : Type 0 where
     pub after : ℕ
@@ -43,9 +47,9 @@ module _ {S B E : Type 0} (base_of : S → B) (sight : Sight B E) (m : Monitor S
     pub shown : IsShown sight (first_base base_of m) (take after (entries_in (front p))) place (record { to = to; message = x.message })
     pub seen_is : x.seen ≡ sight.last (first_base base_of m) (take after (entries_in (front p)))
 
-  -- these are the pair's messages from its first place up to the next one, in order, each once
+  -- these are just those messages
   pub record AreTaken (pair : Pair) (next : ℕ) (p : Pass S B E) (taken : List Taken) : Type 0 where
     pub from_first : pair.first ≤ next
     pub within : next ≤ length (sent_before p)
-    pub are : list_map message_of taken ≡ addressed_to pair.to (drop pair.first (take next (sent_before p)))
+    pub are : list_map message_of taken ≡ messages_up_to pair next p
     pub seen : AllByRecursion (WasSeen pair.to p) taken

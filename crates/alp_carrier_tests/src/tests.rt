@@ -29,6 +29,13 @@ struct Outcome {
     lost: u32,
 }
 
+// The passes of the thread that sends, and those of the carrier.
+struct Passes {
+    talker: Pass<Depot>,
+    sender: Pass<Depot>,
+    receiver: Pass<Depot>,
+}
+
 fn envelope(to: u8, number: u32) -> Envelope {
     let trans = TransId {
         server: 1,
@@ -123,6 +130,49 @@ fn numbers_at<R: Wait>(
 // One thread sends, and beside it another carries from server 1 to server 2.
 fn carry_beside<R: Threads + Wait + Sync>(
     rt: &R,
+    a: &Monitor<Depot>,
+    b: &Monitor<Depot>,
+    passes: Passes,
+) -> Carried<Depot>
+    requires talker { IsHeld is_open_of a.now (number passes.talker) passes.talker }
+    requires sender { IsHeld is_open_of a.now (number passes.sender) passes.sender }
+    requires receiver { IsHeld is_open_of b.now (number passes.receiver) passes.receiver }
+    ensures { IsHeld is_open_of b.now (number passes.receiver) result.receiver }
+{
+    let Passes {
+        talker,
+        sender,
+        receiver,
+    } = passes;
+    let over = AtomicBool::new(false);
+    let pair = Pair {
+        from: 1,
+        to: 2,
+        first: 0,
+    };
+    let plan = Plan { seed: 5 }.of_pair(1, 2);
+    let ((), carried) = thread::join(
+        rt,
+        || -> ()
+            requires { IsHeld is_open_of a.now (number talker) talker }
+        { send_forty_each(rt, a, talker, &over) },
+        || -> Carried<Depot>
+            requires { IsHeld is_open_of a.now (number sender) sender × IsHeld is_open_of b.now (number receiver) receiver × (pair.first ≡ 0) }
+            ensures { IsHeld is_open_of b.entry.now (number receiver) result.receiver }
+        {
+            let route = Route {
+                pair,
+                from: a,
+                to: b,
+            };
+            carry(rt, &route, plan, sender, receiver, &over)
+        },
+    );
+    carried
+}
+
+fn carry_to<R: Threads + Wait + Sync>(
+    rt: &R,
     alloc: Global,
     is_open: bool,
 ) -> Result<Outcome, AllocError> {
@@ -135,49 +185,30 @@ fn carry_beside<R: Threads + Wait + Sync>(
     let talker = take_pass(&a, &mut of_a);
     let sender = take_pass(&a, &mut of_a);
     let receiver = take_pass(&b, &mut of_b);
-    let over = AtomicBool::new(false);
-    let pair = Pair {
-        from: 1,
-        to: 2,
-        first: 0,
+    let passes = Passes {
+        talker,
+        sender,
+        receiver,
     };
-    let plan = Plan { seed: 5 }.of_pair(1, 2);
-    let ((), carried) = thread::join(
-        rt,
-        || -> ()
-            requires { IsHeld is_open_of a (number talker) talker }
-        { send_forty_each(rt, &a, talker, &over) },
-        || -> Carried<Depot>
-            requires { IsHeld is_open_of a (number sender) sender × IsHeld is_open_of b (number receiver) receiver × (pair.first ≡ 0) }
-            ensures { IsHeld is_open_of b (number receiver) result.receiver }
-        {
-            let route = Route {
-                pair,
-                from: &a,
-                to: &b,
-            };
-            carry(rt, &route, plan, sender, receiver, &over)
-        },
-    );
     let Carried {
         sender: _,
         receiver,
         next,
         lost,
-    } = carried;
+    } = carry_beside(rt, &a, &b, passes);
     let came = numbers_at(rt, alloc, &b, receiver)?;
     Ok(Outcome { came, next, lost })
 }
 
 // All forty were taken, beside the forty to server 3, and came as the plan says.
 fn all_came<R: Threads + Wait + Sync>(rt: &R, alloc: Global) -> Result<bool, AllocError> {
-    let Outcome { came, next, lost } = carry_beside(rt, alloc, true)?;
+    let Outcome { came, next, lost } = carry_to(rt, alloc, true)?;
     Ok(came.as_slice() == BROUGHT.as_slice() && next == 80 && lost == 0)
 }
 
 // All forty were taken, none came, and each time is counted that the plan let one come.
 fn none_came<R: Threads + Wait + Sync>(rt: &R, alloc: Global) -> Result<bool, AllocError> {
-    let Outcome { came, next, lost } = carry_beside(rt, alloc, false)?;
+    let Outcome { came, next, lost } = carry_to(rt, alloc, false)?;
     Ok(came.is_empty() && next == 80 && lost == 43)
 }
 
