@@ -45,7 +45,7 @@ sent_both : (xs ys : List Record) → sent_in (xs ++ ys) ≡ sent_in xs ++ sent_
 sent_both [] ys = refl
 sent_both (x ∷ xs) ys = ap (λ l. sent_by x.rank x.deed ++ l) (sent_both xs ys) ∙ sym (append_assoc (sent_by x.rank x.deed) (sent_in xs) (sent_in ys))
 
-sent_stays : (xs ys : List Record) → IsPrefix (sent_in xs) (sent_in (xs ++ ys))
+pub sent_stays : (xs ys : List Record) → IsPrefix (sent_in xs) (sent_in (xs ++ ys))
 sent_stays xs ys = (sent_in ys, sym (sent_both xs ys))
 
 -- what a carrier sees of a depot
