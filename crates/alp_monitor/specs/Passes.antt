@@ -100,6 +100,11 @@ module _ {S B E : Type 0} where
     pub apart : (i j : ℕ) (p q : Pass S B E) → slice_get ps i ≡ Some p → slice_get ps j ≡ Some q → number p ≡ number q → i ≡ j
 
 module _ {S B E : Type 0} (base_of : S → B) where
+  -- it is the pass of this monitor with the number k, may enter, and shows the base of the state that the monitor was made of
+  pub record IsHeld (m : Monitor S B E) (k : ℕ) (p : Pass S B E) : Type 0 where
+    pub ready : IsReady m k p
+    pub base : base_of_pass p ≡ Some (first_base base_of m)
+
   -- a new pass with this number, which made no turns and saw no history
   pub record IsFresh (m : Monitor S B E) (k : ℕ) (p : Pass S B E) : Type 0 where
     pub own : IsPassOf m p

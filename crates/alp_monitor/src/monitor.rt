@@ -28,7 +28,9 @@ pub struct Pass<S: Story> {
     seat: Place<S>,
 }
 
-/// A pass that is inside, with the state, which is moved out of the monitor until it leaves.
+/// A pass that is inside, with the state, which is moved out of the monitor until it leaves. A turn
+/// that is taken apart, and not handed to `leave`, keeps the state out for good: every other pass
+/// that enters then waits for ever.
 pub struct Turn<S: Story> {
     pub state: S,
     pub pass: Pass<S>,

@@ -1,0 +1,2 @@
+mod DepotLemmas
+mod PassLemmas
