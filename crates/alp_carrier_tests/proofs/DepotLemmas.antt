@@ -1,9 +1,8 @@
 -- What a depot shows, and how it grows.
-use Rattle.std.proofs.Common.{◌≡◌, ℕ, zero, suc, ◌+◌, ◌<◌, ◌≤◌, Bool, List, [], ◌∷◌, ◌++◌, length, map, Option, Some, None, refl, sym, ap, ◌∙◌, subst, arith, length-append}
+use Rattle.std.proofs.Common.{◌≡◌, ℕ, zero, suc, ◌+◌, ◌<◌, ◌≤◌, Bool, List, [], ◌∷◌, ◌++◌, length, map, Some, None, refl, sym, ap, ◌∙◌, subst, arith, length-append}
 use Rattle.std.specs.Prelude.{slice_get, slice_index_or, ◌-◌}
 use Rattle.std.specs.List.{AllByRecursion}
 use mathlib.Core.List.{map-append, append-nil, append_assoc}
-use lib.ListN.{length-map}
 use Rattle.alp_journal.specs.declared.message.Envelope.{Envelope}
 use Rattle.alp_journal.specs.declared.message.Message.{Message}
 use Rattle.alp_carrier.specs.Sights.{IsShown}
