@@ -103,11 +103,12 @@ static uint64_t copies(unsigned rounds, size_t bytes, unsigned places, int is_ne
     if (from == NULL || to == NULL) exit(1);
     memset(from, 7, bytes * places);
     uint64_t start = nanoseconds();
-    for (unsigned round = 0; round < rounds; round++) {
+    for (unsigned round = 0, place = 0; round < rounds; round++) {
         unsigned char *into = is_new ? malloc(bytes) : to;
         if (into == NULL) exit(1);
-        memcpy(into, from + bytes * (round % places), bytes);
-        seen = (unsigned char)(seen + into[round % bytes]);
+        memcpy(into, from + bytes * place, bytes);
+        seen = (unsigned char)(seen + into[round % PAGE_BYTES]);
+        if (++place == places) place = 0;
         if (is_new) free(into);
     }
     uint64_t took = nanoseconds() - start;
