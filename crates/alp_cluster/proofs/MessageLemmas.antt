@@ -9,7 +9,8 @@ use Rattle.alp_journal.specs.declared.act.Act.TheVariants as act
 use Rattle.alp_journal.specs.declared.entry.Entry.{Entry}
 use Rattle.alp_journal.specs.declared.message.Message.{Message}
 use Rattle.alp_journal.specs.declared.message.Message.TheVariants as msg
-use Rattle.alp_node.specs.Halts.{IsTimelyMessage, MaySay}
+use Rattle.alp_journal.specs.Timely.{IsTimelyMessage}
+use Rattle.alp_node.specs.Halts.{MaySay}
 use Rattle.alp_node.specs.NodeStates.{NodeState}
 use Rattle.alp_journal.specs.declared.message.Envelope.{Envelope}
 use Rattle.alp_node.specs.Nodes.{sent_by, sent_in}

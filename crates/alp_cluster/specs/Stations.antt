@@ -4,7 +4,7 @@ use Rattle.alp_journal.specs.declared.entry.Entry.{Entry}
 use Rattle.alp_journal.specs.declared.event.Event.{Event}
 use Rattle.alp_journal.specs.declared.event.Event.TheVariants as event
 use Rattle.alp_node.specs.DownStates.{DownState}
-use Rattle.alp_node.specs.Halts.{IsTimelyMessage}
+use Rattle.alp_journal.specs.Timely.{IsTimelyMessage}
 use Rattle.alp_node.specs.NodeStates.{NodeState}
 use Rattle.alp_node.specs.declared.opened.Opened.{Opened}
 use Rattle.alp_node.specs.declared.server_state.ServerState.{ServerState}

@@ -1,6 +1,6 @@
 //! How messages come from one server of a run to another.
 ghost use Rattle.std.specs.Prelude.{◌≡◌, ◌||◌, ◌∷◌, [], Ok, OnOk, IfOk, IfSome, length};
-ghost use Rattle.alp_node.specs.Halts.{IsTimelyMessage};
+ghost use Rattle.alp_journal.specs.Timely.{IsTimelyMessage};
 ghost use Rattle.alp_course.specs.Courses.{looks, brings, loses, repeats, next_message as next_of};
 ghost use Rattle.alp_course.specs.Languages.{Just};
 ghost use Rattle.alp_course.specs.Plays.{OfTwo};

@@ -11,6 +11,7 @@ pub mod State
 pub mod Moves
 pub mod Laws
 pub mod Messages
+pub mod Timely
 pub mod Answers
 pub mod Halts
 pub mod Answered

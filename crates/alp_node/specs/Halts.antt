@@ -1,5 +1,5 @@
 -- What a fault of the vault comes to.
-use Rattle.std.specs.Prelude.{◌≡◌, ℕ, ◌^◌, ◌≤◌, Bool, true, false, IsTrue, List, [], ◌∷◌, Option, Some, Result, Ok, Err}
+use Rattle.std.specs.Prelude.{◌≡◌, ℕ, ◌≤◌, Bool, true, false, IsTrue, List, [], ◌∷◌, Option, Some, Result, Ok, Err}
 use Rattle.alp_base.specs.Causes.{Rose}
 use Rattle.alp_base.specs.declared.allowance.Allowance.{Allowance}
 use Rattle.alp_base.specs.declared.allowance.Allowance.TheVariants.{Spent}
@@ -12,6 +12,7 @@ use Rattle.alp_journal.specs.declared.act.Act.{Act}
 use Rattle.alp_journal.specs.declared.act.Act.TheVariants as act
 use Rattle.alp_journal.specs.declared.message.Message.{Message}
 use Rattle.alp_journal.specs.declared.message.Message.TheVariants as msg
+use Rattle.alp_journal.specs.Timely.{IsTimelyMessage}
 use Rattle.alp_node.specs.declared.stored.StoreFault.{StoreFault}
 use Rattle.alp_node.specs.declared.stored.StoreFault.TheVariants as fault
 
@@ -34,12 +35,6 @@ abbrev pub says_shut : Option Reply → Bool
 says_shut (Some (reply.Refused refusal.Down)) = true
 says_shut (Some (reply.Refused refusal.JournalFull)) = true
 says_shut r = false
-
--- a time that a message tells
-abbrev pub IsTimelyMessage : Message → Type 0
-IsTimelyMessage (msg.Ready t j ts) = ts ≤ 2 ^ 62
-IsTimelyMessage (msg.Commit t j stamp) = stamp.ts ≤ 2 ^ 62
-IsTimelyMessage m = Unit {0}
 
 -- what is said to another server tells no time beyond the last, and no vote says that a read failed
 abbrev pub MaySay : Message → Type 0

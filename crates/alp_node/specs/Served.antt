@@ -15,7 +15,7 @@ use Rattle.alp_journal.specs.declared.event.Event.{Event}
 use Rattle.alp_journal.specs.declared.event.Event.TheVariants as event
 use Rattle.alp_node.specs.declared.server_state.ServerState.{ServerState}
 use Rattle.alp_node.specs.Calls.{IsServedCall}
-use Rattle.alp_node.specs.Halts.{IsTimelyMessage}
+use Rattle.alp_journal.specs.Timely.{IsTimelyMessage}
 use Rattle.alp_node.specs.Shapes.{ReadsSome}
 
 -- What a server asks of an event. Each line says what it leaves out.

@@ -1,7 +1,7 @@
 //! What other servers of the run say.
 ghost use Rattle.std.specs.Prelude.{◌≡◌, ℕ, IsTrue, None, false};
 ghost use Rattle.alp_journal.specs.declared.event.Event.TheVariants as event;
-ghost use Rattle.alp_node.specs.Halts.{IsTimelyMessage};
+ghost use Rattle.alp_journal.specs.Timely.{IsTimelyMessage};
 ghost use Rattle.alp_node.specs.Served.{AreLivesSound};
 ghost use Rattle.alp_node.specs.ServerState.{IsReadyForMore, IsOfJournal};
 ghost use Rattle.alp_node.specs.Steps.{IsStepAs, IsNoted, IsOn};

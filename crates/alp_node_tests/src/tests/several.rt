@@ -1,6 +1,6 @@
 //! A transaction that the first of three servers coordinates, with a part at the second: each of its writes, and messages that no
 //! server of the run sends, or sends so late.
-ghost use Rattle.alp_node.specs.Halts.{IsTimelyMessage};
+ghost use Rattle.alp_journal.specs.Timely.{IsTimelyMessage};
 ghost use Rattle.alp_node.specs.Served.{IsAskable, IsServed};
 
 use super::in_memory;

@@ -2,7 +2,7 @@ use Rattle.std.specs.Prelude.{None, Ok}
 use Rattle.std.proofs.Common.{sym, subst}
 use Rattle.alp_journal.specs.declared.event.Event.TheVariants as event
 use Rattle.alp_journal.specs.declared.message.Message.{Message}
-use Rattle.alp_node.specs.Halts.{IsTimelyMessage}
+use Rattle.alp_journal.specs.Timely.{IsTimelyMessage}
 use Rattle.alp_node.specs.Steps.{IsStepAs}
 use Rattle.alp_node.proofs.server_state.ServerState.arrive.Goals as goal
 
