@@ -11,5 +11,5 @@ pub mod RunLists
 pub mod SpanSteps
 pub mod WalkLemmas
 pub mod RaisedLemmas
-pub mod CallerLemmas
+pub mod OtherRuns
 pub mod LockLemmas

@@ -10,7 +10,7 @@ use Rattle.alp_chain.specs.Chains.{Nodes, Chains, is_on, is_of, is_whole, remove
 use Rattle.alp_chain.specs.Spans.{PageRun, run_of, run_in, runs, AreRuns, is_own, AreOwnSpans, AreAllSpans, of_others, KeepsOthers, AreLocks}
 use Rattle.alp_chain.proofs.KeyLemmas.{get_put, get_cut}
 use Rattle.alp_chain.proofs.RaisedLemmas.{none-runs}
-use Rattle.alp_chain.proofs.CallerLemmas.{others-runs, fewer-runs}
+use Rattle.alp_chain.proofs.OtherRuns.{others-runs, fewer-runs}
 
 same_view : (v w : NodeView) → Some v ≡ Some w → v ≡ w
 same_view v w e = cc

@@ -3,8 +3,8 @@
 ghost use Rattle.std.specs.Prelude.{◌≡◌, ℕ, ◌+◌, ◌<◌, ◌≤◌, IfOk, OnOk};
 ghost use Rattle.alp_chain.specs.Spans.{runs, AreAllSpans, AreLocks, IsFree};
 
-use crate::{Chains, NodeView, Span, Steps};
 use alp_base::OutOfMemory;
+use alp_chain::{Chains, NodeView, Span, Steps};
 use alp_modes::Mode;
 use std::alloc::{AllocError, Global};
 use std::marker::Brand;

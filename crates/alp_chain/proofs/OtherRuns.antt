@@ -1,11 +1,10 @@
--- for callers: what other runs do while one transaction's change, and what fewer nodes leave
-use Rattle.std.proofs.Common.{◌≡◌, ℕ, Bool, true, false, ◌&&◌, cond, eqb, List, [], Option, None, Some, refl, sym, ◌∙◌, ap}
+-- what other runs do while those of one transaction on one resource change
+use Rattle.std.proofs.Common.{◌≡◌, ℕ, Bool, true, false, ◌&&◌, cond, eqb, List, Option, None, Some, refl, sym, ◌∙◌, ap}
 use Rattle.std.proofs.lemmas.Bool.{eqb-true}
 use Rattle.std.specs.FinMap as map
 use Rattle.alp_chain.specs.declared.node.NodeView.{NodeView}
-use Rattle.alp_chain.specs.Chains.{Chains, is_of, removed_as}
+use Rattle.alp_chain.specs.Chains.{Chains}
 use Rattle.alp_chain.specs.Spans.{PageRun, run_of, run_in, runs, AreRuns, of_others, KeepsOthers}
-use Rattle.alp_chain.proofs.KeyLemmas.{get_cut}
 
 -- a run is of a node of its transaction on its resource
 run_of_others : (r t x y : ℕ) (o : Option NodeView) → ((r ≡ x) → (t ≡ y) → ⊥) → run_in r t o ≡ run_in r t (of_others x y o)
@@ -38,14 +37,3 @@ fewer-runs l m k h s = record {
   apart = λ n x a b p e f. s.apart n x a b p (h n a e) (h x b f);
   longest = λ n x a b e f. s.longest n x a b (h n a e) (h x b f);
 }
-
-gone_or : (r t : ℕ) (b : Bool) (o : Option NodeView) (a : PageRun) → run_in r t (cond b None o) ≡ Some a → run_in r t o ≡ Some a
-gone_or r t true o a e = absurd (cc)
-gone_or r t false o a e = e
-
--- after `remove` and after `remove_trans`
-pub runs-removed : (r t n : ℕ) (c : Chains) (v : NodeView) → AreRuns [] (runs c.nodes r t) → AreRuns [] (runs (removed_as c n (Some v)).nodes r t)
-runs-removed r t n c v s = fewer-runs [] (runs c.nodes r t) (runs (map.remove c.nodes n) r t) (λ x a e. gone_or r t (eqb x n) (map.get c.nodes x) a (sym (ap (run_in r t) (get_cut c.nodes n x)) ∙ e)) s
-
-pub runs-released : (r t u : ℕ) (c d : Chains) → ((n : ℕ) → map.get d.nodes n ≡ cond (is_of u (map.get c.nodes n)) None (map.get c.nodes n)) → AreRuns [] (runs c.nodes r t) → AreRuns [] (runs d.nodes r t)
-runs-released r t u c d h s = fewer-runs [] (runs c.nodes r t) (runs d.nodes r t) (λ x a e. gone_or r t (is_of u (map.get c.nodes x)) (map.get c.nodes x) a (sym (ap (run_in r t) (h x)) ∙ e)) s
