@@ -1,0 +1,15 @@
+pub mod KeyLemmas
+pub mod TimesLemmas
+pub mod LinkLemmas
+pub mod ShowLemmas
+pub mod ListLemmas
+pub mod ChainLemmas
+pub mod StepLemmas
+pub mod ReleaseLemmas
+pub mod SpanLemmas
+pub mod RunLists
+pub mod SpanSteps
+pub mod WalkLemmas
+pub mod RaisedLemmas
+pub mod OtherRuns
+pub mod LockLemmas
