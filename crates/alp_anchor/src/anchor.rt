@@ -1,7 +1,7 @@
 use alp_base::Sizes;
 
 /// What one of the two first pages of a disk says.
-#[derive(Clone, Copy, Debug, PartialEq, Eq)]
+#[derive(Clone, Copy, PartialEq, Eq)]
 pub struct Anchor {
     /// Where it stands: 0 or 1.
     pub page: u8,

@@ -1,7 +1,7 @@
 //! What a coordinator answers of what arrives.
 
 /// What becomes of a part on another server that asks to take part.
-#[derive(Clone, Copy, Debug, PartialEq, Eq)]
+#[derive(Clone, Copy, PartialEq, Eq)]
 pub enum Registration {
     /// The transaction was not drawn here, and nothing is said.
     Silence,
@@ -13,7 +13,7 @@ pub enum Registration {
 }
 
 /// What a vote for a commit comes to.
-#[derive(Clone, Copy, Debug, PartialEq, Eq)]
+#[derive(Clone, Copy, PartialEq, Eq)]
 pub enum Ballot {
     /// The transaction is not finishing, or it is not a vote of one of its parts.
     Dropped,
@@ -24,7 +24,7 @@ pub enum Ballot {
 }
 
 /// What it comes to that a part has applied a commit.
-#[derive(Clone, Copy, Debug, PartialEq, Eq)]
+#[derive(Clone, Copy, PartialEq, Eq)]
 pub enum Receipt {
     /// The commit is not decided or was forgotten, or it is not one of its parts.
     Dropped,

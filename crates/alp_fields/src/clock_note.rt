@@ -9,7 +9,7 @@ use alp_base::{Bytes, NoteChange, OutOfMemory};
 use std::alloc::Global;
 
 /// The epoch in which a server runs, and the greatest time that it gave or heard.
-#[derive(Clone, Copy, Debug, PartialEq, Eq)]
+#[derive(Clone, Copy, PartialEq, Eq)]
 pub struct ClockNote {
     pub epoch: u32,
     /// At most 2 ^ 62.

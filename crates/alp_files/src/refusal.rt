@@ -2,7 +2,7 @@
 use alp_base::TransId;
 
 /// An access list of a file, of an owner, or of the server.
-#[derive(Clone, Copy, Debug, PartialEq, Eq)]
+#[derive(Clone, Copy, PartialEq, Eq)]
 pub enum ListName {
     Read,
     Modify,
@@ -11,7 +11,7 @@ pub enum ListName {
 }
 
 /// What there would be too many of.
-#[derive(Clone, Copy, Debug, PartialEq, Eq)]
+#[derive(Clone, Copy, PartialEq, Eq)]
 pub enum What {
     Run,
     Pages,
@@ -24,7 +24,7 @@ pub enum What {
 }
 
 /// Why a part voted against its transaction.
-#[derive(Clone, Copy, Debug, PartialEq, Eq)]
+#[derive(Clone, Copy, PartialEq, Eq)]
 pub enum Why {
     UnknownJoin,
     Waiting,
@@ -35,7 +35,7 @@ pub enum Why {
 }
 
 /// Why a transaction was aborted.
-#[derive(Clone, Copy, Debug, PartialEq, Eq)]
+#[derive(Clone, Copy, PartialEq, Eq)]
 pub enum Cause {
     Asked,
     TimedOut,
@@ -44,7 +44,7 @@ pub enum Cause {
 }
 
 /// The refusals, in the order of their numbers from 1 on.
-#[derive(Clone, Copy, Debug, PartialEq, Eq)]
+#[derive(Clone, Copy, PartialEq, Eq)]
 pub enum Refusal {
     BadFrame,
     StaleSession { epoch: u32 },

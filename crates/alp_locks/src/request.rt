@@ -15,7 +15,7 @@ pub struct Request {
 }
 
 /// The answer to a request.
-#[derive(Clone, Copy, Debug, PartialEq, Eq)]
+#[derive(Clone, Copy, PartialEq, Eq)]
 pub enum Grant {
     /// All modes are held now.
     Granted,

@@ -1,5 +1,5 @@
 //! Reading through the buffers.
-ghost use Rattle.std.specs.Prelude.{◌≡◌, ◌<◌, ◌≤◌, ◌↔◌, ℕ, List, IsTrue, IfOk, IfErr, OnOk, IsErrOf, Some, false, true, nat_eq};
+ghost use Rattle.std.specs.Prelude.{◌≡◌, ◌<◌, ◌≤◌, ◌↔◌, ℕ, List, IsTrue, IfOk, IfErr, OnOk, OnErr, IsErrOf, Some, false, true, nat_eq};
 ghost use Rattle.std.specs.Map.{lookup};
 ghost use Rattle.alp_disk.specs.Disk.{page as page_of};
 ghost use Rattle.alp_base.specs.Allowances.{HasHaltCause};
@@ -69,6 +69,7 @@ impl<D: Disk> Pool<D> {
         ensures resident { OnOk result (IsResident at (buffers_of self.new)) }
         ensures log { log_of self.new ≡ log_of self.old }
         ensures capacity { capacity_of self.new ≡ capacity_of self.old }
+        ensures kept { OnErr result (buffers_of self.new ≡ buffers_of self.old) }
         ensures buffers { (pages : List (List ℕ)) → page.now ≡ page_of pages at → AreBuffersOf pages (buffers_of self.old) → AreBuffersOf pages (buffers_of self.new) }
     {
         let held = page.share()?;
@@ -91,6 +92,7 @@ impl<D: Disk> Pool<D> {
         // A page that a buffer has asks nothing of the disk.
         ensures held { IsResident at (buffers_of self.old) → (log_of self.new ≡ log_of self.old) × HoldTheSame (buffers_of self.old) (buffers_of self.new) × IfErr result (λ f. f ≡ NoMemory) }
         ensures buffer { (bytes : List ℕ) → lookup (nat_eq at) (buffers_of self.old) ≡ Some bytes → IfOk result (λ p. p ≡ bytes) }
+        ensures kept { OnErr result (HoldTheSame (buffers_of self.old) (buffers_of self.new)) }
         ensures same { IsSameLog (log_of self.old) (log_of self.new) }
         ensures below { OnlyRead D.Disk (device_of self.old) (device_of self.new) }
         ensures capacity { capacity_of self.new ≡ capacity_of self.old }

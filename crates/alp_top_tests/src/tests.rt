@@ -3,6 +3,7 @@ mod crashes;
 mod drills;
 mod faults;
 mod plays;
+mod random;
 mod several;
 
 use alp_base::{MemSink, MemSource};

@@ -1,7 +1,7 @@
 //! What the program is asked to do.
 
 /// A command of the program.
-#[derive(Debug, Drop)]
+#[derive(Drop)]
 pub enum Command {
     /// Play the script on standard input, on the volumes of a folder where one is named, and in memory where none is.
     Play {

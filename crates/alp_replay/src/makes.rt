@@ -1,5 +1,5 @@
 //! Makes a script from a number.
-use super::deeds::{Deed, Line};
+use crate::deeds::{Deed, Line};
 use alp_base::OutOfMemory;
 use rand_core::{Rng, SeedableRng};
 use rand_pcg::Pcg32;
@@ -19,8 +19,9 @@ const TO_DO: u8 = 4;
 // A client whose session a restart ended begins twice: its first call learns of the epoch alone.
 const STALE: u8 = 255;
 
+/// Makes the lines of a script from a number.
 #[derive(Drop)]
-pub(super) struct Maker {
+pub struct Maker {
     random: Pcg32,
     steps: [u8; 3],
     stopping: u8,
@@ -28,7 +29,7 @@ pub(super) struct Maker {
 }
 
 impl Maker {
-    pub(super) fn new(seed: u64) -> Maker {
+    pub fn new(seed: u64) -> Maker {
         Maker {
             random: Pcg32::seed_from_u64(seed),
             steps: [TO_BEGIN; 3],
@@ -75,7 +76,7 @@ impl Maker {
         }
     }
 
-    // What comes next at this step, and the step behind it.
+    // What comes next at this step, and the step after it.
     fn deed_at(&mut self, step: u8) -> (Deed, u8) {
         match step {
             STALE => (Deed::Begin, TO_BEGIN),
@@ -173,8 +174,8 @@ impl Maker {
         Ok(())
     }
 
-    // All lines, the last of which read what is held behind a restart.
-    pub(super) fn lines(&mut self, alloc: Global) -> Result<Vec<Line>, OutOfMemory> {
+    /// All lines, the last of which read what is held after a restart.
+    pub fn lines(&mut self, alloc: Global) -> Result<Vec<Line>, OutOfMemory> {
         let mut lines = Vec::new(alloc);
         for _step in 0..STEPS {
             self.step(&mut lines)?;

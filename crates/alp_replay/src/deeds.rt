@@ -1,9 +1,9 @@
 //! The lines of such a script.
 use std::io::{self, Write};
 
-// What a client does: files are counted from 0, owners too, and so are pages.
+/// What a client does: files are counted from 0, owners too, and so are pages.
 #[derive(Clone, Copy)]
-pub(super) enum Deed {
+pub enum Deed {
     Begin,
     Open {
         file: u8,
@@ -33,8 +33,9 @@ pub(super) enum Deed {
     Abort,
 }
 
+/// A line of a script.
 #[derive(Clone, Copy)]
-pub(super) enum Line {
+pub enum Line {
     Of { client: u8, deed: Deed },
     Stop { calls: u8 },
     Restart { pick: u8 },
@@ -99,8 +100,8 @@ impl Deed {
         }
     }
 
-    // Whether its call waits where a lock is in its way.
-    pub(super) fn waits(&self) -> bool {
+    /// Whether its call waits where a lock is in its way.
+    pub fn waits(&self) -> bool {
         match *self {
             Deed::Read { waits, .. } | Deed::Write { waits, .. } => waits,
             _ => false,
@@ -109,7 +110,8 @@ impl Deed {
 }
 
 impl Line {
-    pub(super) fn put(&self, text: &mut Vec<u8>) -> io::Result<()> {
+    /// Puts the line's text after what stands there, with its end.
+    pub fn put(&self, text: &mut Vec<u8>) -> io::Result<()> {
         match *self {
             Line::Of { client, deed } => {
                 write!(text, "{client} ")?;

@@ -1,9 +1,9 @@
 //! What one thread makes of the transactions that were committed, in the order of their stamps.
-use super::deeds::{Deed, Line};
+use crate::deeds::{Deed, Line};
+use crate::unlike::Unlike;
 use alp_base::OutOfMemory;
 use std::alloc::Global;
 use std::io::Write;
-use std::test::Fail;
 
 // So many pages a file may have here.
 const PAGES: usize = 8;
@@ -32,9 +32,9 @@ struct Party {
     waiting: Option<Deed>,
 }
 
-// How often what happened.
+/// How often what happened.
 #[derive(Clone, Copy, Default)]
-pub(super) struct Counts {
+pub struct Counts {
     commits: u32,
     found: u32,
     lost: u32,
@@ -43,8 +43,8 @@ pub(super) struct Counts {
 }
 
 impl Counts {
-    // Whether each of it happened often, a commit that a restart found and one that it lost among them.
-    pub(super) fn is_rich(&self) -> bool {
+    /// Whether each of it happened often, a commit that a restart found and one that it lost among them.
+    pub fn is_rich(&self) -> bool {
         self.commits > 5000
             && self.found > 20
             && self.lost > 20
@@ -92,8 +92,12 @@ impl<'a> Answers<'a> {
     }
 }
 
-fn file_of(files: &mut Files, file: u8) -> Result<&mut Held, Fail> {
-    Ok(files.get_mut(file as usize).ok_or("a file")?)
+fn file_of(files: &mut Files, file: u8) -> Result<&mut Held, Unlike> {
+    Ok(
+        files
+            .get_mut(file as usize)
+            .ok_or(Unlike::Report("a file"))?,
+    )
 }
 
 // The pages of a file from its size on are zeros.
@@ -104,13 +108,13 @@ fn cut(held: &mut Held) {
 }
 
 // The files behind what a call did, which told what they held.
-fn does(files: &mut Files, done: Done, counts: &mut Counts) -> Result<(), Fail> {
+fn does(files: &mut Files, done: Done, counts: &mut Counts) -> Result<(), Unlike> {
     match done.deed {
         Deed::Read { file, page, .. } => {
             rise(&mut counts.reads);
             let held = file_of(files, file)?;
             if held.pages.get(page as usize).map(|text| *text as u64) != Some(done.told) {
-                return Err("what one thread reads".into());
+                return Err(Unlike::Report("what one thread reads"));
             }
         }
         Deed::Write {
@@ -120,7 +124,10 @@ fn does(files: &mut Files, done: Done, counts: &mut Counts) -> Result<(), Fail> 
             ..
         } => {
             let held = file_of(files, file)?;
-            *held.pages.get_mut(page as usize).ok_or("a page")? = text;
+            *held
+                .pages
+                .get_mut(page as usize)
+                .ok_or(Unlike::Report("a page"))? = text;
         }
         Deed::Size { file, size } => {
             let held = file_of(files, file)?;
@@ -133,8 +140,9 @@ fn does(files: &mut Files, done: Done, counts: &mut Counts) -> Result<(), Fail> 
     Ok(())
 }
 
+/// What one thread makes of the transactions that were committed.
 #[derive(Drop)]
-pub(super) struct Replay {
+pub struct Replay {
     line: u32,
     parties: Vec<Party>,
     files: Files,
@@ -145,8 +153,8 @@ pub(super) struct Replay {
 }
 
 impl Replay {
-    // Behind the lines of the set-up, which are so many.
-    pub(super) fn new(alloc: Global, line: u32) -> Result<Replay, OutOfMemory> {
+    /// The state after the lines of the setup, which are so many: three files of two owners.
+    pub fn new(alloc: Global, line: u32) -> Result<Replay, OutOfMemory> {
         let mut parties = Vec::new(alloc);
         for _client in 0..3u8 {
             parties.push(Party {
@@ -169,20 +177,20 @@ impl Replay {
         })
     }
 
-    fn party(&mut self, client: u8) -> Result<&mut Party, Fail> {
+    fn party(&mut self, client: u8) -> Result<&mut Party, Unlike> {
         Ok(
             self.parties
                 .get_mut(client.saturating_sub(1) as usize)
-                .ok_or("a client")?,
+                .ok_or(Unlike::Report("a client"))?,
         )
     }
 
     // The files behind the transaction of a client, where its reads told what they held.
-    fn behind(&self, client: u8, counts: &mut Counts) -> Result<Files, Fail> {
+    fn behind(&self, client: u8, counts: &mut Counts) -> Result<Files, Unlike> {
         let party = self
             .parties
             .get(client.saturating_sub(1) as usize)
-            .ok_or("a client")?;
+            .ok_or(Unlike::Report("a client"))?;
         let mut files = self.files;
         for done in party.done.iter() {
             does(&mut files, *done, counts)?;
@@ -191,7 +199,7 @@ impl Replay {
     }
 
     // A commit was told, with its stamp: the first behind a stop tells whether the commit that stopped took effect.
-    fn commits(&mut self, client: u8, time: u64, counts: &mut Counts) -> Result<(), Fail> {
+    fn commits(&mut self, client: u8, time: u64, counts: &mut Counts) -> Result<(), Unlike> {
         if let Some(files) = self.doubt.take() {
             if time == self.clock.saturating_add(2) {
                 self.files = files;
@@ -202,7 +210,7 @@ impl Replay {
             }
         }
         if time != self.clock.saturating_add(1) {
-            return Err("the next stamp".into());
+            return Err(Unlike::Report("the next stamp"));
         }
         self.files = self.behind(client, counts)?;
         self.clock = time;
@@ -217,7 +225,7 @@ impl Replay {
         deed: Deed,
         answer: &[u8],
         counts: &mut Counts,
-    ) -> Result<(), Fail> {
+    ) -> Result<(), Unlike> {
         let told = match answer {
             [b't', text @ ..] => number(text),
             _ => 0,
@@ -229,12 +237,17 @@ impl Replay {
                 party.waiting = None;
             }
             Deed::Commit => {
-                let time = answer.strip_prefix(b"stamp ").ok_or("a stamp")?;
+                let time = answer
+                    .strip_prefix(b"stamp ")
+                    .ok_or(Unlike::Report("a stamp"))?;
                 self.commits(client, number(time), counts)?;
             }
             Deed::Collect => {
                 let party = self.party(client)?;
-                let deed = party.waiting.take().ok_or("a call that waits")?;
+                let deed = party
+                    .waiting
+                    .take()
+                    .ok_or(Unlike::Report("a call that waits"))?;
                 party.done.push(Done { deed, told })?;
                 rise(&mut counts.collected);
             }
@@ -244,7 +257,7 @@ impl Replay {
     }
 
     // The server is down: a commit that is the first to be told so may have taken effect.
-    fn stopped(&mut self, client: u8, deed: Deed, counts: &mut Counts) -> Result<(), Fail> {
+    fn stopped(&mut self, client: u8, deed: Deed, counts: &mut Counts) -> Result<(), Unlike> {
         if !self.is_down && matches!(deed, Deed::Commit) {
             self.doubt = Some(self.behind(client, counts)?);
         }
@@ -258,7 +271,7 @@ impl Replay {
         deed: Deed,
         answer: &[u8],
         counts: &mut Counts,
-    ) -> Result<(), Fail> {
+    ) -> Result<(), Unlike> {
         match answer {
             b"refused 20" => self.stopped(client, deed, counts)?,
             b"refused 18" => {
@@ -275,7 +288,7 @@ impl Replay {
         Ok(())
     }
 
-    fn take(&mut self, line: Line, answer: &[u8], counts: &mut Counts) -> Result<(), Fail> {
+    fn take(&mut self, line: Line, answer: &[u8], counts: &mut Counts) -> Result<(), Unlike> {
         match line {
             Line::Of { client, deed } => self.answered(client, deed, answer, counts)?,
             Line::Restart { .. } | Line::Settle => self.is_down = false,
@@ -293,7 +306,7 @@ impl Replay {
     }
 
     // What the report says of the server behind its epoch.
-    fn held(&self, alloc: Global) -> Result<Vec<u8>, Fail> {
+    fn held(&self, alloc: Global) -> Result<Vec<u8>, Unlike> {
         let (ann, bob) = (self.charge(0), self.charge(1));
         let (clock, pages) = (self.clock, ann.saturating_add(bob));
         let mut text = Vec::new(alloc);
@@ -304,14 +317,14 @@ impl Replay {
         Ok(text)
     }
 
-    // Takes each line with what was answered to it, and what the report says at its end.
-    pub(super) fn takes(
+    /// Takes each line with what was answered to it, and what the report says at its end.
+    pub fn takes(
         &mut self,
         alloc: Global,
         lines: &[Line],
         report: &[u8],
         counts: &mut Counts,
-    ) -> Result<(), Fail> {
+    ) -> Result<(), Unlike> {
         let mut answers = Answers { rest: report };
         for line in 0..=self.line {
             let _ = answers.of(line);
@@ -320,7 +333,7 @@ impl Replay {
         let held = self.held(alloc)?;
         let told = |part: &[u8]| part == held.as_slice();
         if held.is_empty() || !report.windows(held.len()).any(told) {
-            return Err("what one thread leaves".into());
+            return Err(Unlike::Report("what one thread leaves"));
         }
         Ok(())
     }
@@ -330,7 +343,7 @@ impl Replay {
         lines: &[Line],
         answers: &mut Answers<'_>,
         counts: &mut Counts,
-    ) -> Result<(), Fail> {
+    ) -> Result<(), Unlike> {
         for line in lines {
             self.line = self.line.saturating_add(1);
             self.take(*line, answers.of(self.line), counts)?;
