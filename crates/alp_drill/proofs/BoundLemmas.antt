@@ -10,6 +10,8 @@ use Rattle.std.proofs.Common.{◌≡◌, ◌⊎◌, ℕ, zero, suc, ◌+◌, ◌
 use Rattle.std.proofs.lemmas.Bool.{or_left, or_right, or_cases, cases_eq, cases_lt}
 use Rattle.std.proofs.lemmas.Cmp.{tied_itself, nat_list_cmp_total}
 use Rattle.alp_script.specs.Order.{word_cmp}
+use Rattle.alp_drill.specs.declared.shape.Shape.{Shape}
+use Rattle.alp_drill.specs.Shapes.{files_of}
 use Rattle.alp_drill.specs.Files.{file_name}
 
 -- the words behind create lines of these files
@@ -75,9 +77,9 @@ bind_groups_has j words a (suc n) least most = elim (cases_lt j (10 * a + 10)) [
 ]
 
 -- the words of all files
-unfoldable pub all_words : List (List ℕ)
-all_words = bind_groups [] (range_with_len 0 20)
+unfoldable pub all_words : Shape → List (List ℕ)
+all_words shape = bind_groups [] (range_with_len 0 shape.groups)
 
-pub all_bound : (j : ℕ) → j < 200 → IsBound all_words j
+pub all_bound : (shape : Shape) (j : ℕ) → j < files_of shape → IsBound (all_words shape) j
 unfolding all_words
-all_bound j low = bind_groups_has j [] 0 20 (omega arith) (omega (arith, low))
+all_bound shape j low = bind_groups_has j [] 0 shape.groups (omega arith) (omega (arith, low))

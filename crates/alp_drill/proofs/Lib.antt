@@ -1,7 +1,9 @@
 mod WordLemmas
 mod RollLemmas
-mod StepLemmas
 mod BoundLemmas
 mod SteadyLemmas
+mod TransactionLemmas
 mod RoundLemmas
 mod AcceptLemmas
+mod StormLemmas
+mod StepLemmas

@@ -8,6 +8,7 @@ use Rattle.alp_lines.specs.declared.line.Line.{Line}
 use Rattle.alp_drill.specs.declared.dice.Dice.{Dice}
 use Rattle.alp_drill.specs.Adds.{Adds}
 use Rattle.alp_drill.specs.Rolls.{in_turn, both}
+use Rattle.alp_drill.specs.Storms.{as_one}
 
 module _ {X Y : Type 0} (make : X → Dice → List Y × Dice) where
   -- one more at the end
@@ -96,8 +97,17 @@ pub closed : (before mid after front there : List Line) (last : Line) → mid �
 closed before mid after front there last so_far here =
     here ∙ ap (λ l. l ++ last ∷ []) so_far ∙ append_assoc before (front ++ there) (last ∷ []) ∙ ap (λ l. before ++ l) (append_assoc front there (last ∷ []))
 
--- a script of four parts
-pub four_parts : (a b c d one two three four : List Line) → one ≡ a → two ≡ one ++ b → three ≡ two ++ c → four ≡ three ++ d → four ≡ a ++ (b ++ (c ++ d))
-four_parts a b c d one two three four e f g h =
-    h ∙ ap (λ l. l ++ d) (g ∙ ap (λ l. l ++ c) (f ∙ ap (λ l. l ++ b) e))
-    ∙ append_assoc (a ++ b) c d ∙ append_assoc a b (c ++ d)
+-- three parts behind what stands before
+pub three_parts : (before a b c one two three : List Line) → one ≡ before ++ a → two ≡ one ++ b → three ≡ two ++ c → three ≡ before ++ (a ++ (b ++ c))
+three_parts before a b c one two three e f g =
+    g ∙ ap (λ l. l ++ c) (f ∙ ap (λ l. l ++ b) e)
+    ∙ append_assoc (before ++ a) b c ∙ append_assoc before a (b ++ c)
+
+-- what is made part by part is what is made at once
+module _ {X : Type 0} (make : X → Dice → List Line × Dice) where
+  pub in_parts : (xs : List X) (dice : Dice)
+      → (flat_map (λ (t : List Line). t) (in_turn (λ x. as_one (make x)) xs dice).0 ≡ (in_turn make xs dice).0) × ((in_turn (λ x. as_one (make x)) xs dice).1 ≡ (in_turn make xs dice).1)
+  in_parts [] dice = (refl, refl)
+  in_parts (x ∷ xs) dice =
+      let rest = in_parts xs (make x dice).1 in
+      (ap (λ (l : List Line). (make x dice).0 ++ l) rest.0, rest.1)

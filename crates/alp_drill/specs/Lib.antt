@@ -1,6 +1,10 @@
 pub mod Rolls
 pub mod Adds
+pub mod Shapes
 pub mod Setup
 pub mod Files
+pub mod Start
+pub mod Transactions
 pub mod Rounds
 pub mod Script
+pub mod Storms

@@ -1,4 +1,4 @@
--- the lines that declare the servers and the clients, and those that make the owners
+-- the lines that declare the clients, and those that make the owners
 use Rattle.std.specs.Prelude.{ℕ, ◌+◌, List, [], ◌∷◌, ◌++◌, map, flat_map, codes}
 use Rattle.std.specs.List.{range_with_len}
 use Rattle.std.specs.Fmt.{decimal}
@@ -6,6 +6,7 @@ use Rattle.alp_base.specs.declared.choices.Choice.TheVariants as choice
 use Rattle.alp_lines.specs.Operands.{its_owner}
 use Rattle.alp_lines.specs.declared.line.Line.{Line}
 use Rattle.alp_lines.specs.declared.line.Line.TheVariants as line
+use Rattle.alp_drill.specs.declared.shape.Shape.{Shape}
 
 -- `o1` and so on
 abbrev pub owner : ℕ → List ℕ
@@ -15,17 +16,17 @@ owner k = codes "o" ++ decimal k
 abbrev pub client_line : ℕ → Line
 client_line k = line.Client (k + 1) (owner k)
 
--- three servers, the administrator, and the clients of eight owners
-abbrev pub declarations : List Line
-declarations = line.Servers 3 ∷ line.Client 1 (codes "Admin") ∷ map client_line (range_with_len 1 8)
+-- the administrator, and the clients of so many owners
+abbrev pub clients : ℕ → List Line
+clients owners = line.Client 1 (codes "Admin") ∷ map client_line (range_with_len 1 owners)
 
 -- `1 mkowner S oK 100000 Owner`
 abbrev pub owner_line : ℕ → ℕ → Line
 owner_line server k = line.MakeOwner 1 server (owner k) 100000 its_owner choice.Fail
 
-abbrev pub owners_at : ℕ → List Line
-owners_at server = map (owner_line server) (range_with_len 1 8)
+abbrev pub owners_at : ℕ → ℕ → List Line
+owners_at owners server = map (owner_line server) (range_with_len 1 owners)
 
--- one transaction makes them all, at server 1, 2 and 3
-abbrev pub owners : List Line
-owners = line.Begin 1 1 ∷ (flat_map owners_at (range_with_len 1 3) ++ line.Commit 1 ∷ [])
+-- one transaction makes them all, at one server after the other
+abbrev pub owners : Shape → List Line
+owners shape = line.Begin 1 1 ∷ (flat_map (owners_at shape.owners) (range_with_len 1 shape.servers) ++ line.Commit 1 ∷ [])

@@ -1,57 +1,67 @@
 //! The files: how many pages each has, and the lines that create them.
 ghost use Rattle.std.specs.Prelude.{◌≡◌, ◌<◌, ◌+◌, ◌%◌, ◌++◌, ◌∷◌, [], IfOk, OnOk};
+ghost use Rattle.alp_drill.specs.Shapes.{files_of as files_said, IsShape};
 ghost use Rattle.alp_drill.specs.Files.{client_of as client_said, server_of as server_said, pages_of_files, AreFiles, create_line, group, groups};
 
 use crate::adding::add;
 use crate::dice::Dice;
-use crate::setup::{OWNERS, SERVERS};
+use crate::shape::{FILES_PER_GROUP, Shape, files_of};
 use crate::words::{list_of, name};
 use alp_base::{Choice, OutOfMemory};
 use alp_lines::Line;
 use std::alloc::Global;
 
-/// So many files are created.
-pub(crate) const FILES: u32 = 200;
-
-// The most pages that a file has.
-const PAGES: u32 = 900;
-
-// So many transactions create the files.
-const GROUPS: u32 = 20;
-
-// So many files each of them creates.
-const FILES_PER_GROUP: u32 = 10;
+// The remainder of a turn by so many servers or owners.
+fn remainder(turn: u32, count: u32) -> u32
+    requires { 0 < count }
+    ensures value { result ≡ turn % count }
+    ensures below { result < count }
+{
+    turn % count
+}
 
 /// The client whose turn it is: one of the owners' clients.
-pub(crate) fn client_of(turn: u32) -> u8
-    ensures { result ≡ client_said turn }
+pub(crate) fn client_of(shape: Shape, turn: u32) -> u8
+    requires { IsShape shape }
+    ensures { result ≡ client_said shape turn }
 {
-    2 + (turn % u32::from(OWNERS)) as u8
+    let which = remainder(turn, u32::from(shape.owners));
+    2 + which as u8
 }
 
 // The number of the owner whose client that is.
-fn owner_of(turn: u32) -> u32
-    ensures { result ≡ 1 + turn % 8 }
+fn owner_of(shape: Shape, turn: u32) -> u32
+    requires { IsShape shape }
+    ensures { result ≡ 1 + turn % shape.owners }
 {
-    1 + turn % u32::from(OWNERS)
+    let which = remainder(turn, u32::from(shape.owners));
+    1 + which
 }
 
-fn server_of(group: u32) -> u8
-    ensures { result ≡ server_said group }
+fn server_of(shape: Shape, turn: u32) -> u8
+    requires { IsShape shape }
+    ensures { result ≡ server_said shape turn }
 {
-    1 + (group % u32::from(SERVERS)) as u8
+    let which = remainder(turn, u32::from(shape.servers));
+    1 + which as u8
 }
 
 /// Rolls how many pages each file has.
 #[tactic(auto, unfolding(crate::specs::Files::pages_of_files))]
-pub(crate) fn roll_pages(alloc: Global, dice: &mut Dice) -> Result<Vec<u32>, OutOfMemory>
-    ensures pages { IfOk result (λ pages. pages.items ≡ (pages_of_files dice.old).0) }
-    ensures dice { OnOk result (dice.new ≡ (pages_of_files dice.old).1) }
-    ensures files { IfOk result (λ pages. AreFiles pages.items) }
+pub(crate) fn roll_pages(
+    alloc: Global,
+    dice: &mut Dice,
+    shape: Shape,
+) -> Result<Vec<u32>, OutOfMemory>
+    requires { IsShape shape }
+    ensures pages { IfOk result (λ pages. pages.items ≡ (pages_of_files shape dice.old).0) }
+    ensures dice { OnOk result (dice.new ≡ (pages_of_files shape dice.old).1) }
+    ensures files { IfOk result (λ pages. AreFiles shape pages.items) }
 {
+    let count = files_of(shape);
     let mut pages = Vec::new(alloc);
-    for _ in 0..FILES {
-        pages.push(1 + dice.roll(PAGES))?;
+    for _ in 0..count {
+        pages.push(1 + dice.roll(shape.pages))?;
     }
     Ok(pages)
 }
@@ -59,21 +69,23 @@ pub(crate) fn roll_pages(alloc: Global, dice: &mut Dice) -> Result<Vec<u32>, Out
 fn create_file(
     alloc: Global,
     script: &mut Vec<Line>,
+    shape: Shape,
     pages: &[u32],
     group: u32,
     file: u32,
 ) -> Result<(), OutOfMemory>
-    requires files { AreFiles pages.now }
-    requires file { file < 200 }
-    ensures { OnOk result (script.new.items ≡ script.old.items ++ create_line pages.now group file ∷ []) }
+    requires shape { IsShape shape }
+    requires files { AreFiles shape pages.now }
+    requires file { file < files_said shape }
+    ensures { OnOk result (script.new.items ≡ script.old.items ++ create_line shape pages.now group file ∷ []) }
 {
     let word = name(alloc, "f", file)?;
-    let owner = name(alloc, "o", owner_of(group))?;
+    let owner = name(alloc, "o", owner_of(shape, group))?;
     let read = list_of(alloc, b"World")?;
     let modify = list_of(alloc, b"World")?;
     let line = Line::Create {
-        client: client_of(group),
-        server: server_of(group),
+        client: client_of(shape, group),
+        server: server_of(shape, group),
         word,
         owner,
         size: pages[file as usize],
@@ -89,18 +101,27 @@ fn create_file(
 fn create_group(
     alloc: Global,
     script: &mut Vec<Line>,
+    shape: Shape,
     pages: &[u32],
     number: u32,
 ) -> Result<(), OutOfMemory>
-    requires files { AreFiles pages.now }
-    requires number { number < 20 }
-    ensures { OnOk result (script.new.items ≡ script.old.items ++ group pages.now number) }
+    requires shape { IsShape shape }
+    requires files { AreFiles shape pages.now }
+    requires number { number < shape.groups }
+    ensures { OnOk result (script.new.items ≡ script.old.items ++ group shape pages.now number) }
 {
-    let client = client_of(number);
-    let server = server_of(number);
+    let client = client_of(shape, number);
+    let server = server_of(shape, number);
     add(script, Line::Begin { client, server })?;
     for i in 0..FILES_PER_GROUP {
-        create_file(alloc, script, pages, number, FILES_PER_GROUP * number + i)?;
+        create_file(
+            alloc,
+            script,
+            shape,
+            pages,
+            number,
+            FILES_PER_GROUP * number + i,
+        )?;
     }
     add(script, Line::Commit { client })?;
     Ok(())
@@ -110,13 +131,15 @@ fn create_group(
 pub(crate) fn create_files(
     alloc: Global,
     script: &mut Vec<Line>,
+    shape: Shape,
     pages: &[u32],
 ) -> Result<(), OutOfMemory>
-    requires { AreFiles pages.now }
-    ensures { OnOk result (script.new.items ≡ script.old.items ++ groups pages.now) }
+    requires shape { IsShape shape }
+    requires files { AreFiles shape pages.now }
+    ensures { OnOk result (script.new.items ≡ script.old.items ++ groups shape pages.now) }
 {
-    for number in 0..GROUPS {
-        create_group(alloc, script, pages, number)?;
+    for number in 0..shape.groups {
+        create_group(alloc, script, shape, pages, number)?;
     }
     Ok(())
 }

@@ -3,10 +3,12 @@ ghost use Rattle.std.specs.Prelude.{◌≡◌, ◌≤◌, ◌<◌, ◌+◌, ◌+
 ghost use Rattle.alp_script.specs.Accepted.{IsAccepted, servers_said};
 ghost use Rattle.alp_drill.specs.Script.{drill_lines, drill_script, counted as counted_said};
 
+use crate::adding::add;
 use crate::dice::Dice;
-use crate::files::{create_files, roll_pages};
+use crate::files::roll_pages;
 use crate::rounds::rounds;
-use crate::setup::{declare, make_owners};
+use crate::shape::drill_shape;
+use crate::start::set_up;
 use alp_base::OutOfMemory;
 use alp_lines::Line;
 use alp_script::NumberedLine;
@@ -15,13 +17,13 @@ use std::alloc::Global;
 fn lines_of(alloc: Global, seed: u64, size: u32) -> Result<Vec<Line>, OutOfMemory>
     ensures { IfOk result (λ lines. lines.items ≡ drill_lines seed size) }
 {
+    let shape = drill_shape();
     let mut dice = Dice::new(seed);
-    let pages = roll_pages(alloc, &mut dice)?;
-    let mut script = Vec::new(alloc);
-    declare(alloc, &mut script)?;
-    make_owners(alloc, &mut script)?;
+    let pages = roll_pages(alloc, &mut dice, shape)?;
     let files = pages.as_slice();
-    create_files(alloc, &mut script, files)?;
+    let mut script = Vec::new(alloc);
+    add(&mut script, Line::Servers { count: 3 })?;
+    set_up(alloc, &mut script, shape, files)?;
     rounds(alloc, &mut script, &mut dice, files, size)?;
     Ok(script)
 }
@@ -36,8 +38,8 @@ fn add_counted(script: &mut Vec<NumberedLine>, line: Line) -> Result<(), OutOfMe
     Ok(())
 }
 
-// The lines with their numbers.
-fn counted(alloc: Global, lines: Vec<Line>) -> Result<Vec<NumberedLine>, OutOfMemory>
+/// The lines with their numbers.
+pub(crate) fn counted(alloc: Global, lines: Vec<Line>) -> Result<Vec<NumberedLine>, OutOfMemory>
     requires { length lines.items ≤ 200000 }
     ensures { IfOk result (λ script. script.items ≡ counted_said 1 lines.items) }
 {

@@ -2,5 +2,6 @@
 mod drill;
 mod lines;
 mod script;
+mod storm;
 mod tokens;
 mod words;

@@ -5,4 +5,5 @@ use Rattle.alp_drill.specs.Files.{client_of, server_of, create_line}
 use Rattle.alp_drill.proofs.files.create_group.Given as goal
 
 abbrev pub invariant-loop-i : goal.invariant-loop-i
-invariant-loop-i l = l.script.items ≡ l.fn.script.items ++ ((line.Begin (client_of l.number) (server_of l.number) ∷ []) ++ map (create_line l.pages l.number) (range_with_len (10 * l.number) l.i))
+invariant-loop-i l = l.script.items ≡ l.fn.script.items
+    ++ ((line.Begin (client_of l.shape l.number) (server_of l.shape l.number) ∷ []) ++ map (create_line l.shape l.pages l.number) (range_with_len (10 * l.number) l.i))

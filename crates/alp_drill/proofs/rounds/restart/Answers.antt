@@ -1,4 +1,4 @@
-use Rattle.std.proofs.Common.{refl, sym}
+use Rattle.std.proofs.Common.{sym}
 use Rattle.alp_drill.proofs.StepLemmas.{restart_none, restart_done, stopped_kept}
 use Rattle.alp_drill.proofs.rounds.restart.Goals as goal
 

@@ -1,7 +1,6 @@
 use Rattle.std.proofs.Common.{◌≡◌, ◌≤◌, ◌∙◌, List, length, sym, ap, subst}
 use Rattle.alp_lines.specs.declared.line.Line.{Line}
 use Rattle.alp_script.specs.Accepted.{IsAccepted, servers_said}
-use Rattle.alp_script.specs.declared.numbered.NumberedLine.{NumberedLine}
 use Rattle.alp_drill.specs.Script.{counted, drill_lines}
 use Rattle.alp_drill.proofs.AcceptLemmas.{few_lines, accepted, three_servers}
 use Rattle.alp_drill.proofs.StepLemmas.{is_script}

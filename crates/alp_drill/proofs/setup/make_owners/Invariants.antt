@@ -6,4 +6,4 @@ use Rattle.alp_drill.specs.Setup.{owners_at}
 use Rattle.alp_drill.proofs.setup.make_owners.Given as goal
 
 abbrev pub invariant-loop-i : goal.invariant-loop-i
-invariant-loop-i l = l.script.items ≡ l.fn.script.items ++ ((line.Begin 1 1 ∷ []) ++ flat_map owners_at (range_with_len 1 l.i))
+invariant-loop-i l = l.script.items ≡ l.fn.script.items ++ ((line.Begin 1 1 ∷ []) ++ flat_map (owners_at l.shape.owners) (range_with_len 1 l.i))
