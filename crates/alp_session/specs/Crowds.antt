@@ -28,6 +28,18 @@ client_at c k = get_or c.places k new_client
 abbrev pub with_client : Crowd → WordMap → ℕ → Client → Crowd
 with_client c words k d = record c { words = words; places = slice_set c.places k d }
 
+-- A client that is lent stands at its number among clients that know nothing, with the words and the settings of all.
+abbrev pub lent_crowd : Crowd → ℕ → Crowd
+lent_crowd c k = with_client (record new_crowd { settings = c.settings }) c.words k (client_at c k)
+
+-- among those that stay one that knows nothing stands in its place
+abbrev pub left_crowd : Crowd → ℕ → Crowd
+left_crowd c k = with_client c c.words k new_client
+
+-- it is taken back from the others among whom it was lent
+abbrev pub taken_back : Crowd → ℕ → (lent : Crowd) → Crowd
+taken_back c k lent = with_client c c.words k (client_at lent k)
+
 -- what the client asks anew for a line that is not over
 abbrev pub request_next : Crowd → ℕ → Line → Next → Option Request
 request_next c k l next.Call = request_of c.words k (client_at c k) l

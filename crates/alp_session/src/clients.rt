@@ -1,16 +1,18 @@
 //! The clients of a script: the words that all of them know, and what each of them knows.
-ghost use Rattle.std.specs.Prelude.{◌≡◌, ◌≤◌, OnOk, OnErr, IfOk, IfSome, replicate};
+ghost use Rattle.std.specs.Prelude.{◌≡◌, ◌≤◌, ℕ, OnOk, OnErr, IfOk, IfSome, replicate};
 ghost use Rattle.alp_rpc.specs.Frames.{request};
 ghost use Rattle.alp_session.specs.Clients.{new_client};
 ghost use Rattle.alp_session.specs.Calls.{IsAskable};
 ghost use Rattle.alp_session.specs.Frames.{request_of, frame_of, told_by, IsReady};
-ghost use Rattle.alp_session.specs.Crowds.{new_crowd, client_at, request_next, times_out, asks as asks_said, hears as heard, at_line as at_said, declares as declared};
+ghost use Rattle.alp_session.specs.Crowd.{Crowd as ACrowd};
+ghost use Rattle.alp_session.specs.Crowds.{new_crowd, client_at, lent_crowd, left_crowd, taken_back, request_next, times_out, asks as asks_said, hears as heard, at_line as at_said, declares as declared};
 
 use crate::{Addressed, Client, Next, Settings, Words};
-use alp_base::{Bytes, CLIENTS, OutOfMemory, TransId};
+use alp_base::{Bytes, CLIENTS, OutOfMemory, Stamp, TransId};
 use alp_lines::Line;
 use std::alloc::Global;
 use std::marker::Model;
+use std::mem::swap;
 
 /// After so many collects of one call its transaction times out, until a line says otherwise.
 const PATIENCE_FIRST: u32 = 100;
@@ -59,6 +61,40 @@ impl Clients {
                 patience: PATIENCE_FIRST,
             },
         })
+    }
+
+    /// Lends out one client, so that a thread can own it: it stands at its number among clients that know nothing yet, with the words
+    /// and the settings of all. Until it is taken back, a client that knows nothing yet stands at its number here.
+    pub fn lend(&mut self, alloc: Global, number: u8) -> Result<Clients, OutOfMemory>
+        requires { number ≤ 16 }
+        ensures lent { IfOk result (λ c. c ≡ lent_crowd self.old number) }
+        ensures left { OnOk result (self.new ≡ left_crowd self.old number) }
+        ensures err { OnErr result (self.new ≡ self.old) }
+    {
+        let words = self.words.clone()?;
+        let mut places = new_places(alloc)?;
+        swap(
+            &mut places[number as usize],
+            &mut self.places[number as usize],
+        );
+        Ok(Clients {
+            words,
+            places,
+            settings: self.settings,
+        })
+    }
+
+    /// Takes back a client from those among whom it was lent: what it knows now stands at its number again. What words stand for and what is
+    /// set stays as it is here.
+    pub fn take_back(&mut self, number: u8, lent: Clients)
+        requires { number ≤ 16 }
+        ensures { self.new ≡ taken_back self.old number lent }
+    {
+        let mut lent = lent;
+        swap(
+            &mut self.places[number as usize],
+            &mut lent.places[number as usize],
+        );
     }
 
     // The frame of the call or of the collect of a line.
@@ -141,6 +177,14 @@ impl Clients {
         self.settings.collects
     }
 
+    /// The greatest stamp that the client was told.
+    pub fn told(&self, number: u8) -> Stamp
+        requires { number ≤ 16 }
+        ensures { result ≡ (client_at self.now number).told }
+    {
+        self.places[number as usize].told
+    }
+
     /// The transaction of the client, if it has one.
     pub fn trans_of(&self, number: u8) -> Option<TransId>
         requires { number ≤ 16 }
@@ -176,3 +220,11 @@ impl Clients {
         }
     }
 }
+
+/// A client that is lent and taken back as it was leaves all as it was. Who is lent knows what it knew, and taking it back changes nobody
+/// else.
+pub fn lending_loses_nothing()
+    ensures back { (c : ACrowd) (k : ℕ) → k ≤ 16 → taken_back (left_crowd c k) k (lent_crowd c k) ≡ c }
+    ensures lent { (c : ACrowd) (k : ℕ) → k ≤ 16 → client_at (lent_crowd c k) k ≡ client_at c k }
+    ensures others { (c d : ACrowd) (k j : ℕ) → (j ≡ k → ⊥) → client_at (taken_back c k d) j ≡ client_at c j }
+{}

@@ -15,7 +15,7 @@ mod waits;
 
 pub use asking::{Asking, Sending};
 pub use client::Client;
-pub use clients::Clients;
+pub use clients::{Clients, lending_loses_nothing};
 pub use frames::{Addressed, Frames};
 pub use greeted::Greeted;
 pub use meaning::Meaning;

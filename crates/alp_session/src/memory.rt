@@ -10,7 +10,7 @@ ghost use Rattle.alp_session.specs.declared.meaning.Meaning.{Meaning as AMeaning
 use crate::Meaning;
 use alp_base::{FileId, Name, OutOfMemory, TransId};
 use alp_lines::{FileWord, Line};
-use std::alloc::Global;
+use std::alloc::{AllocError, Global};
 use std::collections::BTreeMap;
 use std::marker::Model;
 
@@ -42,6 +42,15 @@ impl Model for Words {
     ghost coded = { map.code name_type.the_row.coded meaning_type.the_row.coded };
 
     ghost view = { λ w. map.from_entries w.meanings.entries };
+}
+
+impl Clone for Words {
+    ghost is_clone = { λ a b. b ≡ a };
+
+    fn clone(&self) -> Result<Words, AllocError> {
+        let meanings = self.meanings.clone()?;
+        Ok(Words { meanings })
+    }
 }
 
 // The id that a word stands for, if it stands for something.
