@@ -4,6 +4,7 @@ mod drills;
 mod faults;
 mod plays;
 mod several;
+mod storms;
 
 use alp_base::{MemSink, MemSource};
 use alp_bay::{Bay, MemBay};
