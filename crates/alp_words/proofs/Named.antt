@@ -152,7 +152,7 @@ lacks_seed rows e = ap (λ (o : Option ℕ). not (is_some o && is_some (number_i
 pub lacks_size : (rows : List Row) → number_in 1 5000 (first_of (codes "size") rows) ≡ None → lacks_in rows ≡ true
 lacks_size rows e = ap not (and_right (is_some (number_in 0 18446744073709551615 (first_of (codes "seed") rows))) _ (ap is_some e))
 
--- of a row of tests the first fails, or one behind it
+-- of a row of tests the first fails, or one after it
 none_of : (a b : Bool) → a ≡ false → (a && b) ≡ false
 none_of a b e = ap (λ (x : Bool). x && b) e
 
