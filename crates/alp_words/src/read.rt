@@ -23,14 +23,14 @@ fn with_name(alloc: Global, words: &[String]) -> Result<Vec<&str>, AllocError>
 }
 
 // What the command line has at the words.
-#[tactic(auto, using(crate::proofs::Refusals::told))]
 fn matches_of<'a>(alloc: Global, words: &'a [&'a str]) -> Result<ArgMatches<'a>, WordsFault>
     ensures good { OnOk result (are_refused (map (λ w. w.now) words.entry.now) ≡ false) }
     ensures rows { IfOk result (λ m. subcommand_rows_of m ≡ subcommand_of alpine (map (λ w. w.now) words.entry.now)) }
     ensures ours { IfOk result (λ m. IsOurs (subcommand_name_of m)) }
     ensures bad { IfErr result (λ fault. fault ≡ WordsFault.Bad → are_refused (map (λ w. w.now) words.entry.now) ≡ true) }
 {
-    match alpine(alloc)?.try_get_matches_from(words) {
+    let command = alpine(alloc)?;
+    match command.try_get_matches_from(words) {
         Ok(matches) => Ok(matches),
         Err(error) => Err(WordsFault::from(error)),
     }
