@@ -158,7 +158,7 @@ few_setup shape pages sizes =
       sizes.few_groups,
     )
 
--- ---- the lines behind that of the servers
+-- ---- the lines after that of the servers
 
 pub record AreLawful (servers : ℕ) (ls : List Line) : Type 0 where
   pub last : Known
@@ -169,7 +169,7 @@ pub record AreLawful (servers : ℕ) (ls : List Line) : Type 0 where
 pub few_with : (n : ℕ) (ls : List Line) → AreLawful n ls → length (line.Servers n ∷ ls) ≤ 200000
 few_with n ls are = omega (arith, are.few)
 
--- some settings, the setup, and lines that may stand behind it
+-- some settings, the setup, and lines that may stand after it
 pub record AreSettings (servers : ℕ) (ls : List Line) : Type 0 where
   pub reads : read (declared servers []) ls ≡ Some (declared servers [])
   pub forms : AllByRecursion (λ (l : Line). IsForm l) ls

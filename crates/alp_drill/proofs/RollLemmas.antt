@@ -97,7 +97,7 @@ pub closed : (before mid after front there : List Line) (last : Line) → mid �
 closed before mid after front there last so_far here =
     here ∙ ap (λ l. l ++ last ∷ []) so_far ∙ append_assoc before (front ++ there) (last ∷ []) ∙ ap (λ l. before ++ l) (append_assoc front there (last ∷ []))
 
--- three parts behind what stands before
+-- three parts after what stands before
 pub three_parts : (before a b c one two three : List Line) → one ≡ before ++ a → two ≡ one ++ b → three ≡ two ++ c → three ≡ before ++ (a ++ (b ++ c))
 three_parts before a b c one two three e f g =
     g ∙ ap (λ l. l ++ c) (f ∙ ap (λ l. l ++ b) e)

@@ -25,7 +25,7 @@ drill_sizes = record {
   few_pages = omega arith;
 }
 
--- a line that may stand behind the setup of a drill
+-- a line that may stand after the setup of a drill
 abbrev pub IsLater : Line → Type 0
 IsLater = IsSteady drill_shape (all_words drill_shape)
 

@@ -91,7 +91,7 @@ below n dice some = mod_below (pcg32 dice.rng).0 n some
 
 -- ---- one step after the other
 
--- the line may stand behind the setup, and is this client's
+-- the line may stand after the setup, and is this client's
 pub record IsOwn (shape : Shape) (client : ℕ) (l : Line) : Type 0 where
   pub steady : IsSteady shape (all_words shape) l
   pub own : client_named l ≡ Some client

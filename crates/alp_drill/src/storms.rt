@@ -98,7 +98,7 @@ fn turn_of(storm: Storm, client: u8, number: u32) -> Turn
     }
 }
 
-// Puts the lines of a client's job behind the others.
+// Puts the lines of a client's job after the others.
 fn add_job(
     alloc: Global,
     script: &mut Vec<Line>,

@@ -1,7 +1,7 @@
 -- the lines of a command
 use Rattle.std.specs.Prelude.{IfOk, IfErr, Option, None, Some, Result, Ok, Err, Vec}
 use Rattle.std.specs.Global.{Global}
-use Rattle.std.proofs.Common.{inl, inr, ◌⊎◌, ◌≡◌, ℕ, List, [], ◌++◌, refl, sym, ◌∙◌, ap, subst, append-nil}
+use Rattle.std.proofs.Common.{inl, inr, ◌⊎◌, ◌≡◌, ℕ, List, [], ◌++◌, refl, sym, ◌∙◌, ap, subst, append-nil, arith}
 use Rattle.alp_script.specs.Accepted.{IsAccepted}
 use Rattle.alp_script.specs.Reading.{GaveScript, GaveFlaw, SaysScript, ReadsScript}
 use Rattle.alp_script.specs.Script.{script}
@@ -57,7 +57,16 @@ play_lines c folder old new r is h = subst (λ (d : Command). IfOk r (λ v. AreT
 pub play_none : (c : Command) (folder : _) (old new : Option (List ℕ)) (r : Result (Vec NumberedLine Global) ScriptFault) → c ≡ command.Play folder → ReadsScript old new r → IfErr r (HasNoLines c old new)
 play_none c folder old new r is h = subst (λ (d : Command). IfErr r (HasNoLines d old new)) (sym is) (script_none folder old new r h)
 
--- a drill that words name has few rounds
+-- a drill that words name has few rounds, and a storm is in its bounds
 pub few_rounds : (words : List (List ℕ)) (c : Command) → IsNamedBy words c → HasFewRounds c
 few_rounds words (command.Play folder) h = tt
 few_rounds words (command.Drill seed size folder) h = h.most
+few_rounds words (command.Storm servers clients size seed patience folder) h = record {
+  some_servers = omega (arith, h.servers_within.0);
+  few_servers = h.servers_within.1;
+  some_clients = omega (arith, h.clients_within.0);
+  few_clients = h.clients_within.1;
+  few_transactions = h.size_within.1;
+  some_patience = omega (arith, h.patience_within.0);
+  little_patience = h.patience_within.1;
+}

@@ -322,6 +322,7 @@ module _ {D : Type 0} {g : Ghosts D} where
 pub named_folder : (words : List (List ℕ)) (c : Command) → IsNamedBy words c → folder_in c ≡ folder_named words
 named_folder words (command.Play folder) h = h.place
 named_folder words (command.Drill seed size folder) h = h.place
+named_folder words (command.Storm servers clients size seed patience folder) h = h.place
 
 -- an option is none where what is made of it is
 none_of : {X Y : Type 0} (f : X → Y) (o : Option X) → option_map f o ≡ None → o ≡ None

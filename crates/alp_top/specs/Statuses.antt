@@ -181,6 +181,7 @@ module _ {D : Type 0} {g : Ghosts D} where
 abbrev pub folder_in : Command → Option (List ℕ)
 folder_in (command.Play folder) = option_map string_bytes folder
 folder_in (command.Drill seed size folder) = option_map string_bytes folder
+folder_in (command.Storm servers clients size seed patience folder) = option_map string_bytes folder
 
 -- the words name no folder, or the bay tells what stands in it
 abbrev pub IsTold : List (List ℕ) → Bool → Type 0

@@ -1,12 +1,12 @@
 //! A whole run, from the words of the program to the bytes of the report and the disks that are given back.
-ghost use Rattle.std.specs.Prelude.{◌≡◌, ℕ, false, take, map, string_bytes, codes, Some, IfOk, IfErr};
+ghost use Rattle.std.specs.Prelude.{◌≡◌, ◌⊎◌, ℕ, false, take, map, string_bytes, codes, Some, IfOk, IfErr};
 ghost use Rattle.std.specs.Io.KnownBytes.{Appends};
 ghost use Rattle.std.specs.Option.{option_map};
 ghost use Rattle.alp_base.specs.Causes.{Rose};
 ghost use Rattle.alp_script.specs.Accepted.{IsAccepted};
 ghost use Rattle.alp_script.specs.Reading.{HasReadCause};
 ghost use Rattle.alp_top.specs.Anywhere.{IsToldAnywhere};
-ghost use Rattle.alp_top.specs.Commands.{AreToPlay, HasNoLines, IsWithoutLines, HasFewRounds, OnDrill, shows_lines};
+ghost use Rattle.alp_top.specs.Commands.{AreToPlay, HasNoLines, IsWithoutLines, HasFewRounds, OnMade, shows_lines};
 ghost use Rattle.alp_top.specs.Headline.{IsPlayed, IsCutOff, HasCause, StartsHere, HasLinesFor};
 ghost use Rattle.alp_top.specs.Statuses.{AreWordsTold, IsTold, OnDone, OnBadWords, OnNoLines, OnWriteFault, OnCutShort, OnUntaken, folder_in, IsReadFaultTold, IsWriteFaultTold, IsBayFaultTold, IsFolderTold, OnUnwritten, IsPlayedOrMemory, IsHandedOver};
 ghost use Rattle.alp_words.specs.Words.{are_bad, folder_named, name_named};
@@ -18,7 +18,7 @@ use crate::write_all::write_all;
 use alp_base::{OutOfMemory, Sink, Source};
 use alp_bay::Bay;
 use alp_disk::{Disk, Fuse};
-use alp_drill::drill;
+use alp_drill::{Storm, drill, storm_script};
 use alp_script::{NumberedLine, SCRIPT_LINES_MOST, ScriptFault, accepted_lines, read_script};
 use alp_store::Store;
 use alp_vault::Vault;
@@ -37,6 +37,14 @@ fn folder_of(command: &Command) -> Option<&str>
             size: _,
             folder,
         } => folder.as_deref(),
+        Command::Storm {
+            servers: _,
+            clients: _,
+            size: _,
+            seed: _,
+            patience: _,
+            folder,
+        } => folder.as_deref(),
     }
 }
 
@@ -49,6 +57,14 @@ fn shows(command: &Command) -> bool
         Command::Drill {
             seed: _,
             size: _,
+            folder: _,
+        } => false,
+        Command::Storm {
+            servers: _,
+            clients: _,
+            size: _,
+            seed: _,
+            patience: _,
             folder: _,
         } => false,
     }
@@ -65,7 +81,7 @@ fn lines_of<S: Source>(
     ensures accepted { IfOk result (λ lines. IsAccepted lines.items) }
     ensures none { IfErr result (HasNoLines command.now (S.left script.old) (S.left script.new)) }
     ensures cause { HasReadCause (S.faults script.old) (S.faults script.new) result }
-    ensures unread { OnDrill command.now (script.new ≡ script.old) }
+    ensures unread { OnMade command.now (script.new ≡ script.old) }
 {
     accepted_lines();
     match command {
@@ -78,6 +94,26 @@ fn lines_of<S: Source>(
             Ok(lines) => Ok(lines),
             Err(OutOfMemory) => Err(ScriptFault::OutOfMemory),
         },
+        Command::Storm {
+            servers,
+            clients,
+            size,
+            seed,
+            patience,
+            folder: _,
+        } => {
+            let storm = Storm {
+                servers: *servers,
+                clients: *clients,
+                size: *size,
+                seed: *seed,
+                patience: *patience,
+            };
+            match storm_script(alloc, storm) {
+                Ok(lines) => Ok(lines),
+                Err(OutOfMemory) => Err(ScriptFault::OutOfMemory),
+            }
+        }
     }
 }
 
@@ -95,10 +131,11 @@ fn hand_over<D: Disk, K: Sink>(ended: &Ended<Store<Fuse<D>>>, out: &mut K) -> St
     }
 }
 
-/// Plays the script that the words name, which the source gives or the seed of a drill makes, on its servers, on the disks that the bay
-/// has for them, in the folder that the words name or in memory, and writes the report, which is made whole before its first byte is
-/// written; of a drill that is the summary alone. The words come first, then the script to its first bad line, then the disks, server 1
-/// first; the first event that ends the run gives its status. Disks that were taken are given back however the run ends.
+/// Plays the script that the words name, which the source gives or the seed of a drill or a storm makes, on its servers, on the disks
+/// that the bay has for them, in the folder that the words name or in memory, and writes the report, which is made whole before its first
+/// byte is written; of a drill or a storm that is the summary alone. The words come first, then the script to its first bad line, then
+/// the disks, server 1 first; the first event that ends the run gives its status. Disks that were taken are given back however the run
+/// ends.
 ///
 /// What a folder's files hold no contract can say: what is said of disks holds of those in memory, and of a bay that tells.
 pub fn run_alpine<S: Source, K: Sink, B: Bay>(
@@ -117,10 +154,10 @@ pub fn run_alpine<S: Source, K: Sink, B: Bay>(
     // The words are told bad just where the program's command line has no such words, and then nothing is read.
     ensures words { AreWordsTold (are_bad (map string_bytes words.now)) result × OnBadWords result (script.new ≡ script.old) }
     // Of a script that line of what the source gave is the first outside the language, or the lines are too many, or the source failed, which is
-    // not asked so far behind a line outside the language. Of a drill none of this is told.
+    // not asked so far behind a line outside the language. Of a drill or a storm none of this is told.
     ensures no_lines { OnNoLines result (IsWithoutLines (map string_bytes words.now) (S.left script.old) (S.left script.new)) }
-    // A drill reads nothing.
-    ensures unread { name_named (map string_bytes words.now) ≡ Some (codes "drill") → script.new ≡ script.old }
+    // A drill or a storm reads nothing.
+    ensures unread { (name_named (map string_bytes words.now) ≡ Some (codes "drill")) ⊎ (name_named (map string_bytes words.now) ≡ Some (codes "storm")) → script.new ≡ script.old }
     // A fault of a stream or of the bay is told just where it came in this call.
     ensures faults { IsReadFaultTold result (S.faults script.old) (S.faults script.new) × IsWriteFaultTold result (K.faults out.old) (K.faults out.new) × IsBayFaultTold result (B.faults bay.old) (B.faults bay.new) }
     // Why a run ended before its report, and what is said of the disks then: the bay or a disk failed in this call, a disk is none that its

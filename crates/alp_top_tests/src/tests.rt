@@ -5,6 +5,7 @@ mod faults;
 mod plays;
 mod random;
 mod several;
+mod storms;
 
 use alp_base::{MemSink, MemSource};
 use alp_bay::{Bay, MemBay};

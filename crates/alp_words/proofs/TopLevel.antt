@@ -114,6 +114,10 @@ enters_drill : (rest : List Text) → stop_after top.rules names (codes "drill" 
 unfolding walked
 enters_drill rest = ap (λ v. v.stopped) (sym (walk_stopped top.rules names start (codes "drill") [] rest))
 
+enters_storm : (rest : List Text) → stop_after top.rules names (codes "storm" ∷ rest) ≡ Some (codes "storm", rest)
+unfolding walked
+enters_storm rest = ap (λ v. v.stopped) (sym (walk_stopped top.rules names start (codes "storm") [] rest))
+
 abbrev pub name_of : Option (Text × List Row) → Option Text
 name_of = option_map (λ p. p.0)
 
@@ -123,16 +127,19 @@ plays rest = ap (λ stop. name_of (entered app stop)) (enters rest)
 drills : (rest : List Text) → name_of (subcommand_of alpine (codes "alpine" ∷ codes "drill" ∷ rest)) ≡ Some (codes "drill")
 drills rest = ap (λ stop. name_of (entered app stop)) (enters_drill rest)
 
+storms : (rest : List Text) → name_of (subcommand_of alpine (codes "alpine" ∷ codes "storm" ∷ rest)) ≡ Some (codes "storm")
+storms rest = ap (λ stop. name_of (entered app stop)) (enters_storm rest)
+
 -- where the first word fails, the line does
 line_fails : (w : Text) (rest : List Text) → are_any (turn_fault top names start w) ≡ true → are_any (fault_of alpine (codes "alpine" ∷ w ∷ rest)) ≡ true
 unfolding walk_fault
 line_fails w rest e = first_fails _ _ (first_fails _ _ e)
 
 -- a word that is no name of a command
-turn_other : (w : Text) → bytes_eq (codes "play") w ≡ false → bytes_eq (codes "drill") w ≡ false → bytes_eq (codes "help") w ≡ false → bytes_eq w (codes "--") ≡ false
+turn_other : (w : Text) → bytes_eq (codes "play") w ≡ false → bytes_eq (codes "drill") w ≡ false → bytes_eq (codes "storm") w ≡ false → bytes_eq (codes "help") w ≡ false → bytes_eq w (codes "--") ≡ false
     → are_any (turn_fault top names start w) ≡ true
-turn_other w not_play not_drill not_help not_dashes =
-    let none : subcommand_met names idle w ≡ None = rw (not_play, not_drill, not_help) refl in
+turn_other w not_play not_drill not_storm not_help not_dashes =
+    let none : subcommand_met names idle w ≡ None = rw (not_play, not_drill, not_storm, not_help) refl in
     ap (λ o. are_any (word_kinds w o)) none ∙ stray_fails w not_dashes
 
 no_words : are_any (fault_of alpine (codes "alpine" ∷ [])) ≡ true
@@ -149,17 +156,19 @@ NamesOurs words = IsOurs (name_of (subcommand_of alpine (codes "alpine" ∷ word
 -- words that are taken begin with the name of a command of ours
 begins_with_ours : (words : List Text) → are_any (fault_of alpine (codes "alpine" ∷ words)) ≡ false → NamesOurs words
 begins_with_ours [] taken = absurd (true≢false (sym no_words ∙ taken))
-begins_with_ours (w ∷ rest) taken = go (bytes_eq (codes "play") w) (bytes_eq (codes "drill") w) (bytes_eq (codes "help") w) (bytes_eq w (codes "--")) refl refl refl refl
+begins_with_ours (w ∷ rest) taken =
+    go (bytes_eq (codes "play") w) (bytes_eq (codes "drill") w) (bytes_eq (codes "storm") w) (bytes_eq (codes "help") w) (bytes_eq w (codes "--")) refl refl refl refl refl
   where
     bad : are_any (fault_of alpine (codes "alpine" ∷ w ∷ rest)) ≡ true → ⊥
     bad e = true≢false (sym e ∙ taken)
 
-    go : (a d b c : Bool) → bytes_eq (codes "play") w ≡ a → bytes_eq (codes "drill") w ≡ d → bytes_eq (codes "help") w ≡ b → bytes_eq w (codes "--") ≡ c → NamesOurs (w ∷ rest)
-    go true d b c p s q r = subst (λ (v : Text). NamesOurs (v ∷ rest)) ((bytes_eq-Decides (codes "play") w).0 p) (inl (plays rest))
-    go false true b c p s q r = subst (λ (v : Text). NamesOurs (v ∷ rest)) ((bytes_eq-Decides (codes "drill") w).0 s) (inr (drills rest))
-    go false false true c p s q r = absurd (bad (subst (λ (v : Text). are_any (fault_of alpine (codes "alpine" ∷ v ∷ rest)) ≡ true) ((bytes_eq-Decides (codes "help") w).0 q) (helps rest)))
-    go false false false true p s q r = absurd (bad (subst (λ (v : Text). are_any (fault_of alpine (codes "alpine" ∷ v ∷ rest)) ≡ true) (sym ((bytes_eq-Decides w (codes "--")).0 r)) (behind_dashes rest)))
-    go false false false false p s q r = absurd (bad (line_fails w rest (turn_other w p s q r)))
+    go : (a d m b c : Bool) → bytes_eq (codes "play") w ≡ a → bytes_eq (codes "drill") w ≡ d → bytes_eq (codes "storm") w ≡ m → bytes_eq (codes "help") w ≡ b → bytes_eq w (codes "--") ≡ c → NamesOurs (w ∷ rest)
+    go true d m b c p s t q r = subst (λ (v : Text). NamesOurs (v ∷ rest)) ((bytes_eq-Decides (codes "play") w).0 p) (inl (plays rest))
+    go false true m b c p s t q r = subst (λ (v : Text). NamesOurs (v ∷ rest)) ((bytes_eq-Decides (codes "drill") w).0 s) (inr (inl (drills rest)))
+    go false false true b c p s t q r = subst (λ (v : Text). NamesOurs (v ∷ rest)) ((bytes_eq-Decides (codes "storm") w).0 t) (inr (inr (storms rest)))
+    go false false false true c p s t q r = absurd (bad (subst (λ (v : Text). are_any (fault_of alpine (codes "alpine" ∷ v ∷ rest)) ≡ true) ((bytes_eq-Decides (codes "help") w).0 q) (helps rest)))
+    go false false false false true p s t q r = absurd (bad (subst (λ (v : Text). are_any (fault_of alpine (codes "alpine" ∷ v ∷ rest)) ≡ true) (sym ((bytes_eq-Decides w (codes "--")).0 r)) (behind_dashes rest)))
+    go false false false false false p s t q r = absurd (bad (line_fails w rest (turn_other w p s t q r)))
 
 -- and so they do with the program's name before them, which may be any word
 pub taken_is_ours : (all : List Text) → are_any (fault_of alpine all) ≡ false → IsOurs (name_of (subcommand_of alpine all))

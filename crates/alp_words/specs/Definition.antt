@@ -24,13 +24,26 @@ drill =
     with_rule (with_rule (with_rule (new_app (codes "drill")) (number (codes "seed") 0 (2 ^ 64 - 1)))
     (number (codes "size") 1 5000)) (option (codes "folder"))
 
+-- the first three options of `storm`
+abbrev pub storm_counts : App
+storm_counts =
+    with_rule (with_rule (with_rule (new_app (codes "storm")) (number (codes "servers") 1 8))
+    (number (codes "clients") 1 15)) (number (codes "size") 1 200)
+
+-- `storm --servers N --clients N --size N --seed N --patience N [--folder DIR]`; up to 8 servers, 15 clients, 200 transactions of a
+-- client, and a patience of 1,000
+abbrev pub storm : App
+storm =
+    with_rule (with_rule (with_rule storm_counts (number (codes "seed") 0 (2 ^ 64 - 1)))
+    (number (codes "patience") 1 1000)) (option (codes "folder"))
+
 -- one of its subcommands has to be given
 abbrev pub wants_one : App → App
 wants_one a = record a { top = record a.top { subcommand_required = true } }
 
 -- the whole command line
 abbrev pub alpine : App
-alpine = with_subcommand (with_subcommand (wants_one (new_app (codes "alpine"))) play.top) drill.top
+alpine = with_subcommand (with_subcommand (with_subcommand (wants_one (new_app (codes "alpine"))) play.top) drill.top) storm.top
 
 -- a command that reads words as this one does, and that can be added to another
 abbrev pub IsMade : App → Command → Type 0

@@ -42,9 +42,22 @@ seed_named words = number_in 0 18446744073709551615 (text_named (codes "seed") w
 abbrev pub size_named : List (List ℕ) → Option ℕ
 size_named words = number_in 1 5000 (text_named (codes "size") words)
 
+-- the numbers of a storm: from 1 to 8, 15, 200 and 1,000
+abbrev pub servers_named : List (List ℕ) → Option ℕ
+servers_named words = number_in 1 8 (text_named (codes "servers") words)
+
+abbrev pub clients_named : List (List ℕ) → Option ℕ
+clients_named words = number_in 1 15 (text_named (codes "clients") words)
+
+abbrev pub job_named : List (List ℕ) → Option ℕ
+job_named words = number_in 1 200 (text_named (codes "size") words)
+
+abbrev pub patience_named : List (List ℕ) → Option ℕ
+patience_named words = number_in 1 1000 (text_named (codes "patience") words)
+
 -- the name is one of the commands'
 abbrev pub IsOurs : Option (List ℕ) → Type 0
-IsOurs name = (name ≡ Some (codes "play")) ⊎ (name ≡ Some (codes "drill"))
+IsOurs name = (name ≡ Some (codes "play")) ⊎ (name ≡ Some (codes "drill")) ⊎ (name ≡ Some (codes "storm"))
 
 -- the words name no command
 unfoldable pub are_bad : List (List ℕ) → Bool
@@ -62,10 +75,28 @@ pub record DrillIsNamed (words : List (List ℕ)) (seed size : ℕ) (folder : Op
   pub most : size ≤ 5000
   pub place : folder ≡ folder_named words
 
+-- a number is from the least to the most
+abbrev pub IsWithin : ℕ → ℕ → ℕ → Type 0
+IsWithin least most n = (least ≤ n) × (n ≤ most)
+
+pub record StormIsNamed (words : List (List ℕ)) (servers clients size seed patience : ℕ) (folder : Option (List ℕ)) : Type 0 where
+  pub name : name_named words ≡ Some (codes "storm")
+  pub of_servers : servers_named words ≡ Some servers
+  pub of_clients : clients_named words ≡ Some clients
+  pub of_size : job_named words ≡ Some size
+  pub of_seed : seed_named words ≡ Some seed
+  pub of_patience : patience_named words ≡ Some patience
+  pub servers_within : IsWithin 1 8 servers
+  pub clients_within : IsWithin 1 15 clients
+  pub size_within : IsWithin 1 200 size
+  pub patience_within : IsWithin 1 1000 patience
+  pub place : folder ≡ folder_named words
+
 -- they name this command
 abbrev pub IsNamedBy : List (List ℕ) → Command → Type 0
 IsNamedBy words (command.Play folder) = PlayIsNamed words (option_map string_bytes folder)
 IsNamedBy words (command.Drill seed size folder) = DrillIsNamed words seed size (option_map string_bytes folder)
+IsNamedBy words (command.Storm servers clients size seed patience folder) = StormIsNamed words servers clients size seed patience (option_map string_bytes folder)
 
 -- a number of a drill is missing among what stands in the matches of its command
 abbrev pub lacks_in : List Row → Bool
@@ -82,3 +113,27 @@ pub record StandsThere (rows : List Row) (seed size : ℕ) (folder : Option (Lis
 abbrev pub IsDrillOf : List Row → Command → Type 0
 IsDrillOf rows (command.Play folder) = ⊥
 IsDrillOf rows (command.Drill seed size folder) = StandsThere rows seed size (option_map string_bytes folder)
+IsDrillOf rows (command.Storm servers clients size seed patience folder) = ⊥
+
+-- a number of a storm is missing there
+abbrev pub lacks_of_storm : List Row → Bool
+lacks_of_storm rows =
+    not (is_some (number_in 1 8 (first_of (codes "servers") rows))
+    && (is_some (number_in 1 15 (first_of (codes "clients") rows))
+    && (is_some (number_in 1 200 (first_of (codes "size") rows))
+    && (is_some (number_in 0 18446744073709551615 (first_of (codes "seed") rows))
+    && is_some (number_in 1 1000 (first_of (codes "patience") rows))))))
+
+-- what stands there is this storm
+pub record StormStandsThere (rows : List Row) (servers clients size seed patience : ℕ) (folder : Option (List ℕ)) : Type 0 where
+  pub of_servers : number_in 1 8 (first_of (codes "servers") rows) ≡ Some servers
+  pub of_clients : number_in 1 15 (first_of (codes "clients") rows) ≡ Some clients
+  pub of_size : number_in 1 200 (first_of (codes "size") rows) ≡ Some size
+  pub of_seed : number_in 0 18446744073709551615 (first_of (codes "seed") rows) ≡ Some seed
+  pub of_patience : number_in 1 1000 (first_of (codes "patience") rows) ≡ Some patience
+  pub place : folder ≡ first_of (codes "folder") rows
+
+abbrev pub IsStormOf : List Row → Command → Type 0
+IsStormOf rows (command.Play folder) = ⊥
+IsStormOf rows (command.Drill seed size folder) = ⊥
+IsStormOf rows (command.Storm servers clients size seed patience folder) = StormStandsThere rows servers clients size seed patience (option_map string_bytes folder)

@@ -3,9 +3,9 @@ ghost use Rattle.std.specs.Prelude.{◌≡◌, ◌≤◌, ◌∷◌, false, true
 ghost use Rattle.std.specs.Prelude.{Option, Some, None, option_map, IfOk, IfErr, IfSome, OnOk};
 ghost use Rattle.clap.specs.Words.{first_of, found_of, rows_of, subcommand_name_of, subcommand_of, subcommand_rows_of};
 ghost use Rattle.alp_words.specs.Definition.{alpine};
-ghost use Rattle.alp_words.specs.Words.{are_bad, are_refused, number_in as number_in_said, IsOurs, IsNamedBy, IsDrillOf, lacks_in};
+ghost use Rattle.alp_words.specs.Words.{are_bad, are_refused, number_in as number_in_said, IsOurs, IsNamedBy, IsDrillOf, IsStormOf, lacks_in, lacks_of_storm};
 
-use crate::definition::{SIZE_MOST, alpine};
+use crate::definition::{CLIENTS_MOST, JOB_MOST, PATIENCE_MOST, SERVERS_MOST, SIZE_MOST, alpine};
 use crate::{Command, WordsFault};
 use clap::ArgMatches;
 use std::alloc::{AllocError, Global};
@@ -23,14 +23,14 @@ fn with_name(alloc: Global, words: &[String]) -> Result<Vec<&str>, AllocError>
 }
 
 // What the command line has at the words.
-#[tactic(auto, using(crate::proofs::Refusals::told))]
 fn matches_of<'a>(alloc: Global, words: &'a [&'a str]) -> Result<ArgMatches<'a>, WordsFault>
     ensures good { OnOk result (are_refused (map (λ w. w.now) words.entry.now) ≡ false) }
     ensures rows { IfOk result (λ m. subcommand_rows_of m ≡ subcommand_of alpine (map (λ w. w.now) words.entry.now)) }
     ensures ours { IfOk result (λ m. IsOurs (subcommand_name_of m)) }
     ensures bad { IfErr result (λ fault. fault ≡ WordsFault.Bad → are_refused (map (λ w. w.now) words.entry.now) ≡ true) }
 {
-    match alpine(alloc)?.try_get_matches_from(words) {
+    let command = alpine(alloc)?;
+    match command.try_get_matches_from(words) {
         Ok(matches) => Ok(matches),
         Err(error) => Err(WordsFault::from(error)),
     }
@@ -106,9 +106,41 @@ fn drill_in(alloc: Global, matches: &ArgMatches) -> Result<Command, WordsFault>
     })
 }
 
+// The storm that stands in the matches of its command.
+#[tactic(auto, using(crate::proofs::Named::storm_lacks_servers, crate::proofs::Named::storm_lacks_clients, crate::proofs::Named::storm_lacks_size, crate::proofs::Named::storm_lacks_seed, crate::proofs::Named::storm_lacks_patience))]
+fn storm_in(alloc: Global, matches: &ArgMatches) -> Result<Command, WordsFault>
+    ensures made { IfOk result (IsStormOf (rows_of (found_of matches.now))) }
+    ensures bad { IfErr result (λ fault. fault ≡ WordsFault.Bad → lacks_of_storm (rows_of (found_of matches.now)) ≡ true) }
+{
+    let Some(servers) = number_in(matches, "servers", 1, SERVERS_MOST) else {
+        return Err(WordsFault::Bad);
+    };
+    let Some(clients) = number_in(matches, "clients", 1, CLIENTS_MOST) else {
+        return Err(WordsFault::Bad);
+    };
+    let Some(size) = number_in(matches, "size", 1, JOB_MOST) else {
+        return Err(WordsFault::Bad);
+    };
+    let Some(seed) = number_in(matches, "seed", 0, u64::MAX) else {
+        return Err(WordsFault::Bad);
+    };
+    let Some(patience) = number_in(matches, "patience", 1, PATIENCE_MOST) else {
+        return Err(WordsFault::Bad);
+    };
+    let folder = folder_in(alloc, matches)?;
+    Ok(Command::Storm {
+        servers: servers as u8,
+        clients: clients as u8,
+        size: size as u32,
+        seed,
+        patience: patience as u32,
+        folder,
+    })
+}
+
 /// The command that the words name, which are those after the program's name. `Bad` where the command line does not take them: an
-/// unknown word or option, one that is missing, stands twice or has no value, a seed that is no number of 64 bits, a size that is
-/// none from 1 to 5,000, a request for help. `OutOfMemory` where memory is wanting.
+/// unknown word or option, one that is missing, stands twice or has no value, a number that is none or is out of its range, a request
+/// for help. `OutOfMemory` where memory is wanting.
 #[tactic(auto, unfolding(crate::specs::Words::are_bad))]
 pub fn read_command(alloc: Global, words: &[String]) -> Result<Command, WordsFault>
     // Words that are bad give no command.
@@ -124,8 +156,11 @@ pub fn read_command(alloc: Global, words: &[String]) -> Result<Command, WordsFau
         let folder = folder_in(alloc, play)?;
         return Ok(Command::Play { folder });
     }
-    let Some(drill) = matches.subcommand_matches("drill") else {
+    if let Some(drill) = matches.subcommand_matches("drill") {
+        return drill_in(alloc, drill);
+    }
+    let Some(storm) = matches.subcommand_matches("storm") else {
         return Err(WordsFault::Bad);
     };
-    drill_in(alloc, drill)
+    storm_in(alloc, storm)
 }

@@ -15,13 +15,17 @@ enum Wanted {
     Drill(u64, u32),
     // A drill on the volumes of this folder.
     DrillIn(u64, u32, &'static str),
+    // A storm in memory, of so many servers, clients and transactions of a client, of this seed, and of this patience.
+    Storm([u64; 5]),
+    // A storm on the volumes of this folder.
+    StormIn([u64; 5], &'static str),
     // Nothing: its words are bad.
     Bad,
 }
 
-use Wanted::{Bad, Drill, DrillIn, In, InMemory};
+use Wanted::{Bad, Drill, DrillIn, In, InMemory, Storm, StormIn};
 
-static LINES: [(&[&str], Wanted); 88] = [
+static LINES: [(&[&str], Wanted); 107] = [
     (&["play"], InMemory),
     (&["play", "--folder", "DIR"], In("DIR")),
     (&["play", "--folder=DIR"], In("DIR")),
@@ -143,6 +147,219 @@ static LINES: [(&[&str], Wanted); 88] = [
     (&["play", "--size", "20"], Bad),
     (&["help", "drill"], Bad),
     (&["Drill", "--seed", "7", "--size", "20"], Bad),
+    // A storm has five numbers, in any order, and may have a folder.
+    (
+        &[
+            "storm",
+            "--servers",
+            "3",
+            "--clients",
+            "6",
+            "--size",
+            "20",
+            "--seed",
+            "5",
+            "--patience",
+            "20",
+        ],
+        Storm([3, 6, 20, 5, 20]),
+    ),
+    (
+        &[
+            "storm",
+            "--patience=1000",
+            "--seed=18446744073709551615",
+            "--size=200",
+            "--clients=15",
+            "--servers=8",
+        ],
+        Storm([8, 15, 200, 18446744073709551615, 1000]),
+    ),
+    (
+        &[
+            "storm",
+            "--servers=1",
+            "--folder=DIR",
+            "--clients=1",
+            "--size=1",
+            "--seed=0",
+            "--patience=1",
+        ],
+        StormIn([1, 1, 1, 0, 1], "DIR"),
+    ),
+    (
+        &[
+            "storm",
+            "--servers=0",
+            "--clients=6",
+            "--size=20",
+            "--seed=5",
+            "--patience=20",
+        ],
+        Bad,
+    ),
+    (
+        &[
+            "storm",
+            "--servers=9",
+            "--clients=6",
+            "--size=20",
+            "--seed=5",
+            "--patience=20",
+        ],
+        Bad,
+    ),
+    (
+        &[
+            "storm",
+            "--servers=3",
+            "--clients=0",
+            "--size=20",
+            "--seed=5",
+            "--patience=20",
+        ],
+        Bad,
+    ),
+    (
+        &[
+            "storm",
+            "--servers=3",
+            "--clients=16",
+            "--size=20",
+            "--seed=5",
+            "--patience=20",
+        ],
+        Bad,
+    ),
+    (
+        &[
+            "storm",
+            "--servers=3",
+            "--clients=6",
+            "--size=0",
+            "--seed=5",
+            "--patience=20",
+        ],
+        Bad,
+    ),
+    (
+        &[
+            "storm",
+            "--servers=3",
+            "--clients=6",
+            "--size=201",
+            "--seed=5",
+            "--patience=20",
+        ],
+        Bad,
+    ),
+    (
+        &[
+            "storm",
+            "--servers=3",
+            "--clients=6",
+            "--size=20",
+            "--seed=5",
+            "--patience=0",
+        ],
+        Bad,
+    ),
+    (
+        &[
+            "storm",
+            "--servers=3",
+            "--clients=6",
+            "--size=20",
+            "--seed=5",
+            "--patience=1001",
+        ],
+        Bad,
+    ),
+    (
+        &[
+            "storm",
+            "--servers=3",
+            "--clients=6",
+            "--size=20",
+            "--seed=-1",
+            "--patience=20",
+        ],
+        Bad,
+    ),
+    (
+        &[
+            "storm",
+            "--clients=6",
+            "--size=20",
+            "--seed=5",
+            "--patience=20",
+        ],
+        Bad,
+    ),
+    (
+        &[
+            "storm",
+            "--servers=3",
+            "--size=20",
+            "--seed=5",
+            "--patience=20",
+        ],
+        Bad,
+    ),
+    (
+        &[
+            "storm",
+            "--servers=3",
+            "--clients=6",
+            "--seed=5",
+            "--patience=20",
+        ],
+        Bad,
+    ),
+    (
+        &[
+            "storm",
+            "--servers=3",
+            "--clients=6",
+            "--size=20",
+            "--patience=20",
+        ],
+        Bad,
+    ),
+    (
+        &[
+            "storm",
+            "--servers=3",
+            "--clients=6",
+            "--size=20",
+            "--seed=5",
+        ],
+        Bad,
+    ),
+    (
+        &[
+            "storm",
+            "--servers=3",
+            "--clients=6",
+            "--size=20",
+            "--seed=5",
+            "--patience=20",
+            "--servers=3",
+        ],
+        Bad,
+    ),
+    (
+        &[
+            "storm",
+            "--servers=3",
+            "--clients=6",
+            "--size=20",
+            "--seed=5",
+            "--patience=20",
+            "now",
+        ],
+        Bad,
+    ),
 ];
 
 fn meaning_of(alloc: Global, line: &[&str]) -> Result<Result<Command, WordsFault>, Fail> {
@@ -173,6 +390,15 @@ fn is_drill(seed: u64, size: u32, folder: Option<&str>, wanted: Wanted) -> bool 
     }
 }
 
+// Whether the storm is.
+fn is_storm(numbers: [u64; 5], folder: Option<&str>, wanted: Wanted) -> bool {
+    match wanted {
+        Storm(of) => of == numbers && folder.is_none(),
+        StormIn(of, name) => of == numbers && folder == Some(name),
+        _ => false,
+    }
+}
+
 fn name_of(folder: &Option<String>) -> Option<&str> {
     match folder {
         Some(name) => Some(name.as_str()),
@@ -185,6 +411,23 @@ fn is_command(command: &Command, wanted: Wanted) -> bool {
     match command {
         Command::Play { folder } => is_play(name_of(folder), wanted),
         Command::Drill { seed, size, folder } => is_drill(*seed, *size, name_of(folder), wanted),
+        Command::Storm {
+            servers,
+            clients,
+            size,
+            seed,
+            patience,
+            folder,
+        } => {
+            let numbers = [
+                u64::from(*servers),
+                u64::from(*clients),
+                u64::from(*size),
+                *seed,
+                u64::from(*patience),
+            ];
+            is_storm(numbers, name_of(folder), wanted)
+        }
     }
 }
 
