@@ -122,9 +122,9 @@ pub record StopsBehindLines (servers : ℕ) (lines : List NumberedLine) (turns :
   pub plays : Plays servers new_crowd lines turns happened_before clients
   pub settles : IsCut (IsSettling servers) happened_now due
 
--- The run ended before, for that fault, and this is what was played by then: the servers stood so, and there was more to come, for which
--- that is no way. These are left.
-pub record HasEndedEarly {V : Type 0} (G : Ghosts V) (servers : ℕ) (lines : List NumberedLine) (f : RunFault) (left : Stations V) : Type 0 where
+-- The run ended before, for that fault, and this is what was played by then: the servers stood so, each item stands in its client's list, and
+-- there was more to come, for which that is no way. These are left.
+pub record HasEndedEarly {V : Type 0} (G : Ghosts V) (servers : ℕ) (lines : List NumberedLine) (f : RunFault) (left : Stations V) (vs : List (Vec Item Global)) : Type 0 where
   pub last : Stations V
   pub on : AreOn G last
   pub count : length last.all.items ≡ servers
@@ -137,4 +137,5 @@ pub record HasEndedEarly {V : Type 0} (G : Ghosts V) (servers : ℕ) (lines : Li
   pub ran : Ran G hs last
   pub next_was : StopsInLine servers lines turns hs due ⊎ StopsBehindLines servers lines turns hs due
   pub ends : IsEndFor f (course_of G last) due
-  pub ended : EndsFor G f last left
+  pub ended : EndsFor G f due last left
+  pub lists : (k : ℕ) → lists_in vs k ≡ own_in k turns
