@@ -18,7 +18,6 @@ use Rattle.alp_cluster.specs.declared.fault.RunFault.TheVariants as fault
 use Rattle.alp_cluster.specs.declared.server.Server.{Server}
 use Rattle.alp_cluster.specs.declared.station.Station.{Station}
 use Rattle.alp_cluster.specs.declared.stations.Stations.{Stations}
-use Rattle.alp_cluster.proofs.AddsLemmas.{adds_at, adds_both}
 use Rattle.alp_cluster.proofs.GoneLemmas.{gone_nothing, gone_then, gone_ok, gone_memory, gone_err, gone_where}
 
 module _ {V : Type 0} (G : Ghosts V) where
@@ -101,7 +100,7 @@ module _ {V : Type 0} (G : Ghosts V) where
   pub say_did : (A : Language) (some : _) (a b : Stations V) → DidSay G A some a b → Did G A a b
   say_did A some a b d = record { hs = d.hs; word = d.word; goes = d.goes }
 
-  -- ---- their vaults and journals
+  -- ---- their vaults
 
   -- the one that stands there
   pub manned : (s : Stations V) → AreOn G s → (i : ℕ) (x : Station V) → slice_get s.all.items i ≡ Some x → IsManned G (length s.all.items) (i + 1) x
@@ -112,7 +111,7 @@ module _ {V : Type 0} (G : Ghosts V) where
 
   leaves_same : {T : Type 0} (P : Type 0) (s : Stations V) (i : ℕ) (x : Station V) (n : NodeState V) (r : Result T RunFault) → slice_get s.all.items i ≡ Some x → x.server ≡ standing n → HasGoneBy G (IsOfRun (length s.all.items)) P n.kept.vault n.kept.vault r
       → LeavesOf G (length s.all.items) P n (slice_get s.all.items i) r
-  leaves_same P s i x n r there stood gone = record { station = x; there = there; vault = n.kept.vault; its = subst (λ (o : Option (Server V)). HasVault o n.kept.vault) (sym stood) refl; gone = gone; adds = adds_at x.server n stood }
+  leaves_same P s i x n r there stood gone = record { station = x; there = there; vault = n.kept.vault; its = subst (λ (o : Option (Server V)). HasVault o n.kept.vault) (sym stood) refl; gone = gone }
 
   -- nothing was done
   pub gone_none : {T : Type 0} (P : Type 0) (s : Stations V) (x : T) → HaveGone G P s s (Ok x)
@@ -139,7 +138,6 @@ module _ {V : Type 0} (G : Ghosts V) where
             vault = two.vault;
             its = two.its;
             gone = gone_then G (IsOfRun (length a.all.items)) P Q R n.kept.vault one.vault two.vault x r first second one.gone later;
-            adds = adds_both n mid.node one.station.server two.station.server mid.keeps.stands one.adds two.adds;
           }
 
   pub gone_both : {T U : Type 0} (P : Type 0) (a b c : Stations V) (x : T) (r : Result U RunFault) → AreOn G b → HaveGone {T = T} G P a b (Ok x) → HaveGone G P b c r → HaveGone G P a c r
@@ -147,7 +145,7 @@ module _ {V : Type 0} (G : Ghosts V) where
 
   leaves_map : {T U : Type 0} (P Q : Type 0) (count : ℕ) (n : NodeState V) (now : Option (Station V)) (r : Result T RunFault) (q : Result U RunFault) → ((v : V) → HasGoneBy G (IsOfRun count) P n.kept.vault v r → HasGoneBy G (IsOfRun count) Q n.kept.vault v q)
       → LeavesOf G count P n now r → LeavesOf G count Q n now q
-  leaves_map P Q count n now r q make l = record { station = l.station; there = l.there; vault = l.vault; its = l.its; gone = make l.vault l.gone; adds = l.adds }
+  leaves_map P Q count n now r q make l = record { station = l.station; there = l.there; vault = l.vault; its = l.its; gone = make l.vault l.gone }
 
   pub gone_map : {T U : Type 0} (P Q : Type 0) (a b : Stations V) (r : Result T RunFault) (q : Result U RunFault)
       → ((n : NodeState V) (v : V) → HasGoneBy G (IsOfRun (length a.all.items)) P n.kept.vault v r → HasGoneBy G (IsOfRun (length a.all.items)) Q n.kept.vault v q) → HaveGone G P a b r → HaveGone G Q a b q

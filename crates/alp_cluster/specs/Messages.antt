@@ -49,6 +49,7 @@ pub record HasNoRoomFor {V : Type 0} (G : Ghosts V) (to : ℕ) (before after : S
 
 -- the device of that server failed in the step of this event, which saw that rank; what was taken is as before
 pub record FailsFor {V : Type 0} (G : Ghosts V) (server seen : ℕ) (e : Event) (before after : Stations V) : Type 0 where
+  pub here : IsOneOf before server
   pub up : (seat_at (course_of G before) server).stand.is_down ≡ false
   pub room : (seat_at (course_of G before) server).stand.place < entries_limit
   pub station : Station V

@@ -163,12 +163,14 @@ pub record Go {V : Type 0} (G : Ghosts V) (hs : List Occurrence) (before after :
 -- one of them did not start again: it fell, with some pick of what a crash leaves, and is left so
 pub record EndsAt {V : Type 0} (G : Ghosts V) (f : RunFault) (before now : Stations V) : Type 0 where
   pub number : ℕ
+  pub here : IsOneOf before number
   pub pick : ℕ
   pub station : Station V
   pub left : Station V
   pub node : NodeState V
   pub there : slice_get before.all.items (number - 1) ≡ Some station
   pub stood : station.server ≡ standing node
+  pub number_is : node.kept.server ≡ number
   pub others : now.all.items ≡ slice_set before.all.items (number - 1) left
   pub ends : EndsHere G pick f node left.server
 
@@ -186,6 +188,7 @@ pub record IsNoFurther {V : Type 0} (G : Ghosts V) (before now : Stations V) : T
 -- The device of the server of this number failed in the step that was due. There is one entry more, of the event that was to come, with its
 -- rank, which shows the failure; and nothing else changed.
 pub record FailsAt {V : Type 0} (G : Ghosts V) (number : ℕ) (due : Due) (before now : Stations V) : Type 0 where
+  pub here : IsOneOf before number
   pub station : Station V
   pub left : Station V
   pub was : NodeState V
