@@ -141,20 +141,20 @@ module _ {V : Type 0} (G : Ghosts V) where
 
       brought_failed : (k : ℕ) → k ≡ to → (seen : ℕ) → seen ≡ last_rank (seat_at (course_of G s) from).ranks → FailsFor G to seen (event.Arrive from m) shown after → DidSome G (Just (brings from to ∷ [])) (fault.DiskFault k) s after
       brought_failed k same seen is h = subst (λ (i : ℕ). DidSome G (Just (brings from to ∷ [])) (fault.DiskFault i) s after) (sym same) (brought_done (fault.DiskFault to)
-        (record { step = brings_one; there = refl; up = up_so h.up; room = subst (λ (r : Course). (seat_at r to).stand.place < entries_limit) course h.room })
-        (record {
-          here = two.receiver;
-          station = h.station;
-          left = h.left;
-          was = h.was;
-          there = ap (λ (v : Vec (Station V) Global). slice_get v.items (to - 1)) (sym all) ∙ h.there;
-          stood = h.stood;
-          others = h.others ∙ ap (λ (v : Vec (Station V) Global). slice_set v.items (to - 1) h.left) all;
-          posts = ap (list_map unshown) h.posts ∙ ap (λ (r : Course). r.posts) course;
-          event = event.Arrive from m;
-          its = (m, next, refl);
-          fails = subst (λ (n : ℕ). IsLeftFailed G n (event.Arrive from m) h.station h.left h.was) is h.fails;
-        }))
+          (record { step = brings_one; there = refl; up = up_so h.up; room = subst (λ (r : Course). (seat_at r to).stand.place < entries_limit) course h.room })
+          (record {
+            here = two.receiver;
+            station = h.station;
+            left = h.left;
+            was = h.was;
+            there = ap (λ (v : Vec (Station V) Global). slice_get v.items (to - 1)) (sym all) ∙ h.there;
+            stood = h.stood;
+            others = h.others ∙ ap (λ (v : Vec (Station V) Global). slice_set v.items (to - 1) h.left) all;
+            posts = ap (list_map unshown) h.posts ∙ ap (λ (r : Course). r.posts) course;
+            event = event.Arrive from m;
+            its = (m, next, refl);
+            fails = subst (λ (n : ℕ). IsLeftFailed G n (event.Arrive from m) h.station h.left h.was) is h.fails;
+          }))
 
       further : IsNoFurther G shown after → IsNoFurther G s after
       further h = record {
@@ -181,20 +181,20 @@ module _ {V : Type 0} (G : Ghosts V) where
 
       repeated_failed : (k : ℕ) → k ≡ to → FailsFor G to x.1 (event.Arrive from x.0) s after → DidSome G (Just (repeats from to ∷ [])) (fault.DiskFault k) s after
       repeated_failed k same h = subst (λ (i : ℕ). DidSome G (Just (repeats from to ∷ [])) (fault.DiskFault i) s after) (sym same) (repeated_done (fault.DiskFault to)
-        (record { step = repeats_one; there = refl; up = h.up; room = h.room })
-        (record {
-          here = two.receiver;
-          station = h.station;
-          left = h.left;
-          was = h.was;
-          there = h.there;
-          stood = h.stood;
-          others = h.others;
-          posts = ap (list_map unshown) h.posts;
-          event = event.Arrive from x.0;
-          its = (x, last, refl);
-          fails = subst (λ (n : ℕ). IsLeftFailed G n (event.Arrive from x.0) h.station h.left h.was) (sym (ap seen_in last)) h.fails;
-        }))
+          (record { step = repeats_one; there = refl; up = h.up; room = h.room })
+          (record {
+            here = two.receiver;
+            station = h.station;
+            left = h.left;
+            was = h.was;
+            there = h.there;
+            stood = h.stood;
+            others = h.others;
+            posts = ap (list_map unshown) h.posts;
+            event = event.Arrive from x.0;
+            its = (x, last, refl);
+            fails = subst (λ (n : ℕ). IsLeftFailed G n (event.Arrive from x.0) h.station h.left h.was) (sym (ap seen_in last)) h.fails;
+          }))
 
       pub ends_repeated : (f : RunFault) → EndsEventAt G f to x.1 (event.Arrive from x.0) s after → DidSome G (Just (repeats from to ∷ [])) f s after
       ends_repeated fault.JournalFull room = repeated_done fault.JournalFull (record { step = repeats_one; up = room.up; full = room.full }) room.still

@@ -6,13 +6,13 @@ use Rattle.alp_node.specs.NodeStates.{NodeState}
 use Rattle.alp_vault.specs.declared.vault.Vault.{Ghosts}
 use Rattle.alp_course.specs.Courses.{Course, Occurrence, at, Occurs, AreCourse}
 use Rattle.alp_course.specs.Languages.{Language, Nothing, Just, Then, Each}
-use Rattle.alp_course.specs.Plays.{Due, IsCut}
-use Rattle.alp_course.proofs.LanguageLemmas.{Has, then_word, cut_first, cut_second, cut_map, each_cut, each_next}
+use Rattle.alp_course.specs.Plays.{Due, to_come, IsCut}
+use Rattle.alp_course.proofs.LanguageLemmas.{Has, then_word, cut_first, cut_second, cut_map, cut_just, each_cut, each_next}
 use Rattle.alp_cluster.specs.Come.{Come}
 use Rattle.alp_cluster.specs.Messages.{DidSay}
 use Rattle.alp_cluster.specs.Servers.{HasGoneBy}
 use Rattle.alp_cluster.specs.Station.{standing, HasVault}
-use Rattle.alp_cluster.specs.Stations.{AreOn, AreLater, Passes, Crashes, Go, Did, DidSome, EndsFor, IsManned, IsOfRun, LeavesOf, HaveGone, AreCalmSince, course_of, openings_of, state_at, IsReachedBy}
+use Rattle.alp_cluster.specs.Stations.{AreOn, AreLater, Passes, Crashes, Go, Did, DidSome, EndsFor, IsManned, IsOfRun, LeavesOf, HaveGone, IsNoFurther, AreCalmSince, course_of, openings_of, state_at, IsReachedBy}
 use Rattle.alp_cluster.specs.declared.fault.RunFault.{RunFault}
 use Rattle.alp_cluster.specs.declared.fault.RunFault.TheVariants as fault
 use Rattle.alp_cluster.specs.declared.server.Server.{Server}
@@ -53,6 +53,10 @@ module _ {V : Type 0} (G : Ghosts V) where
   pub go_one : (x : Occurrence) (a b : Stations V) → AreLater G a b → Occurs (course_of G a) x (course_of G b) → Crashes G x a b → Go G (x ∷ []) a b
   go_one x a b later occurs crashes = record { later = later; passes = (b, occurs, crashes, refl) }
 
+  -- memory was wanting, and nothing was done
+  pub none_further : (s : Stations V) → IsNoFurther G s s
+  none_further s = record { course = refl; openings = refl; calm = calm_none s }
+
   -- ---- what they did
 
   pub did_nothing : (s : Stations V) → AreOn G s → Did G Nothing s s
@@ -69,6 +73,10 @@ module _ {V : Type 0} (G : Ghosts V) where
 
   pub some_map : (A B : Language) (f : RunFault) (a b : Stations V) → ((xs : List Occurrence) → A xs → B xs) → DidSome G A f a b → DidSome G B f a b
   some_map A B f a b make d = record { at_end = d.at_end; hs = d.hs; due = d.due; cut = cut_map A B d.hs d.due make d.cut; goes = d.goes; ends = d.ends; left = d.left }
+
+  -- memory was wanting before the one thing
+  pub some_wanting : (x : Occurrence) (s : Stations V) → AreOn G s → DidSome G (Just (x ∷ [])) fault.OutOfMemory s s
+  some_wanting x s on = record { at_end = s; hs = []; due = to_come x; cut = cut_just x; goes = go_none s on; ends = tt; left = none_further s }
 
   pub some_first : (A B : Language) (f : RunFault) (a b : Stations V) → Has B → DidSome G A f a b → DidSome G (Then A B) f a b
   some_first A B f a b has d = record { at_end = d.at_end; hs = d.hs; due = d.due; cut = cut_first A B d.hs d.due d.cut has; goes = d.goes; ends = d.ends; left = d.left }

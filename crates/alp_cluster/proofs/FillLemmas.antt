@@ -33,13 +33,6 @@ use Rattle.alp_cluster.proofs.EventLemmas.{event_makes}
 use Rattle.alp_cluster.proofs.StationsLemmas.{read_or, seat_stands, now_there, others_there}
 use Rattle.alp_cluster.proofs.TakenLemmas.{untouched}
 
--- where nothing was done nothing changed
-pub still_same : {V : Type 0} (G : Ghosts V) (s : Stations V) → IsUnchanged G s s
-still_same G s = record { servers = refl; course = refl }
-
-pub none_further : {V : Type 0} (G : Ghosts V) (s : Stations V) → IsNoFurther G s s
-none_further G s = record { course = refl; openings = refl; calm = λ n calm. (calm, refl) }
-
 -- a server that was not touched has the seat that it had
 seat_still : {V : Type 0} (G : Ghosts V) (f g : Bool) (rs qs : List ℕ) (n m : NodeState V) → IsUntouched G n m → g ≡ f → qs ≡ rs → seat_for G g qs (standing m) ≡ seat_for G f rs (standing n)
 seat_still G f g rs qs n m h fused ranks = λ i. record {

@@ -92,8 +92,8 @@ module _ {V : Type 0} (G : Ghosts V) (servers : ℕ) (ls : List NumberedLine) (c
   -- ---- a run that ends before its script does
 
   -- in a line
-  pub line_ended : (lines : List NumberedLine) (l : NumberedLine) (later : List NumberedLine) (known : Crowd) (f : RunFault) → lines ≡ ls ++ l ∷ later → length ls < 2 ^ 29 → AddsSome G f servers c known s t l → HasEndedEarly G servers lines f t
-  line_ended lines l later known f are low e = record {
+  pub line_ended : (lines : List NumberedLine) (l : NumberedLine) (later : List NumberedLine) (known : Crowd) (f : RunFault) (now : List (Vec Item Global)) → lines ≡ ls ++ l ∷ later → length ls < 2 ^ 29 → AddsSome G f servers c known s t l lists now → HasEndedEarly G servers lines f t now
+  line_ended lines l later known f now are low e = record {
     last = e.at_end;
     on = e.goes.later.on;
     count = count_more e.at_end e.hs e.goes;
@@ -124,10 +124,11 @@ module _ {V : Type 0} (G : Ghosts V) (servers : ℕ) (ls : List NumberedLine) (c
     });
     ends = e.ends;
     ended = e.left;
+    lists = λ k. e.lists k ∙ ap (λ (xs : List Item). xs ++ own_in k e.turns) (h.lists k) ∙ sym (own_append k h.turns e.turns);
   }
 
   -- or behind all lines
-  pub end_ended : (f : RunFault) → length ls < 2 ^ 29 → DidSome G (IsSettling servers) f s t → HasEndedEarly G servers ls f t
+  pub end_ended : (f : RunFault) → length ls < 2 ^ 29 → DidSome G (IsSettling servers) f s t → HasEndedEarly G servers ls f t lists
   end_ended f low e = record {
     last = e.at_end;
     on = e.goes.later.on;
@@ -142,6 +143,7 @@ module _ {V : Type 0} (G : Ghosts V) (servers : ℕ) (ls : List NumberedLine) (c
     next_was = inr (record { clients = c; happened_before = h.happened; happened_now = e.hs; happened_are = refl; plays = h.plays; settles = e.cut });
     ends = e.ends;
     ended = e.left;
+    lists = h.lists;
   }
 
   -- ---- all of it

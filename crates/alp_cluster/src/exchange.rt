@@ -15,7 +15,7 @@ use alp_base::{Bytes, OutOfMemory};
 use alp_files::{Call, Refusal, Reply};
 use alp_journal::{Event, Item, Mark, Sent};
 use alp_node::Node;
-use alp_rpc::{ReplyFrame, Request, decode_request, encode_reply};
+use alp_rpc::{ReplyFrame, Request, decode_request, encode_reply, reply_fits};
 use alp_vault::Vault;
 use std::alloc::Global;
 
@@ -90,6 +90,7 @@ fn spell(
         number,
         reply,
     };
+    reply_fits(&frame);
     match encode_reply(alloc, &frame) {
         Ok(bytes) => (Ok(Some(bytes)), Some(frame.reply)),
         Err(OutOfMemory) => (Err(OutOfMemory), Some(frame.reply)),

@@ -80,8 +80,7 @@ returns-then-shows_fault-clause-ended g c =
       | then-shows_fault-via-else-shows_fault+then-failed_at w ↦
           inr (sym (failed_last n.journal w.entries.result.now (record { event = c.args.event; reply = c.in_ok-reply.reply; acts = a.acts }) (length c.entries-place.result.now) (w.entries.ensures ∙ w.journal-else-shows_fault.ensures ∙ a.entry) long)
           ∙ sym w.failed_at.ensures ∙ w.if-failed_at.true)
-    ] in
-    (
+    ] in (
       c.server-server.ensures,
       failed_left g.V.Vault n m c.args.event c.in_ok-reply.reply c.requires.on c.requires.served up room a h.opening h.seat (h.turned room) c.knows.ensures shows,
     )
