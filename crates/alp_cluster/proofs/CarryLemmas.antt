@@ -159,6 +159,7 @@ module _ {V : Type 0} (G : Ghosts V) where
       further : IsNoFurther G shown after → IsNoFurther G s after
       further h = record {
         course = h.course ∙ course;
+        each = λ i x n there stood. h.each i x n (ap (λ (v : Vec (Station V) Global). slice_get v.items i) all ∙ there) stood;
         openings = h.openings ∙ ap (λ (v : Vec (Station V) Global). list_map (λ (x : Station V). opening_in x.server) v.items) all;
         calm = λ n. subst (λ (v : Vec (Station V) Global). IsCalmSince G (server_in (slice_get v.items (n - 1))) (server_in (slice_get after.all.items (n - 1)))) all (h.calm n);
       }

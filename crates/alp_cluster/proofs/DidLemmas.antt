@@ -18,6 +18,7 @@ use Rattle.alp_cluster.specs.declared.fault.RunFault.TheVariants as fault
 use Rattle.alp_cluster.specs.declared.server.Server.{Server}
 use Rattle.alp_cluster.specs.declared.station.Station.{Station}
 use Rattle.alp_cluster.specs.declared.stations.Stations.{Stations}
+use Rattle.alp_cluster.proofs.TakenLemmas.{untouched}
 use Rattle.alp_cluster.proofs.GoneLemmas.{gone_nothing, gone_then, gone_ok, gone_memory, gone_err, gone_where}
 
 module _ {V : Type 0} (G : Ghosts V) where
@@ -55,7 +56,7 @@ module _ {V : Type 0} (G : Ghosts V) where
 
   -- memory was wanting, and nothing was done
   pub none_further : (s : Stations V) → IsNoFurther G s s
-  none_further s = record { course = refl; openings = refl; calm = calm_none s }
+  none_further s = record { course = refl; each = λ i x n there stood. record { station = x; there = there; node = n; stands = stood; untouched = untouched G n }; openings = refl; calm = calm_none s }
 
   -- ---- what they did
 

@@ -22,7 +22,7 @@ use Rattle.alp_cluster.specs.Goes.{opening_in}
 use Rattle.alp_cluster.specs.Messages.{HasNoRoomFor, FailsFor, EndsEventAt}
 use Rattle.alp_cluster.specs.Servers.{AreCalm, HasNoRoom, IsUntouched}
 use Rattle.alp_cluster.specs.Station.{standing, seat_for, seat_of, IsStill, IsLeftUntouched, IsLeftFailed, EndsEvent, EndsHere, EndsRestart}
-use Rattle.alp_cluster.specs.Stations.{AreOn, IsOneOf, IsUnchanged, IsNoFurther, IsCalmSince, AreCalmSince, FailsAt, EndsAt, EndsFor, DidSome, unshown, course_of, openings_of, servers_of, server_in, server_at}
+use Rattle.alp_cluster.specs.Stations.{AreOn, IsOneOf, IsUnchanged, IsStillThere, IsNoFurther, IsCalmSince, AreCalmSince, FailsAt, EndsAt, EndsFor, DidSome, unshown, course_of, openings_of, servers_of, server_in, server_at}
 use Rattle.alp_cluster.specs.declared.fault.RunFault.{RunFault}
 use Rattle.alp_cluster.specs.declared.fault.RunFault.TheVariants as fault
 use Rattle.alp_cluster.specs.declared.server.Server.{Server}
@@ -30,7 +30,8 @@ use Rattle.alp_cluster.specs.declared.station.Station.{Station}
 use Rattle.alp_cluster.specs.declared.stations.Stations.{Stations}
 use Rattle.alp_cluster.proofs.DidLemmas.{go_none}
 use Rattle.alp_cluster.proofs.EventLemmas.{event_makes}
-use Rattle.alp_cluster.proofs.StationsLemmas.{read_or, seat_stands, now_there, others_there}
+use Rattle.alp_cluster.proofs.StationsLemmas.{read_or, same_some, seat_stands, now_there, others_there}
+use Rattle.alp_cluster.proofs.StationLemmas.{one_of}
 use Rattle.alp_cluster.proofs.TakenLemmas.{untouched}
 
 -- a server that was not touched has the seat that it had
@@ -75,10 +76,26 @@ module _ {V : Type 0} (G : Ghosts V) (s after : Stations V) (on : AreOn G s) (se
       | inr away ↦ subst (λ (o : Option (Server V)). IsCalmSince G (server_at s k) o) (sym (ap server_in (others_there G s after on server here x y there items (k - 1) away))) (λ calm. (calm, refl))
     ]
 
+    each_still : (i : ℕ) (z : Station V) (m : NodeState V) → slice_get s.all.items i ≡ Some z → z.server ≡ standing m → IsStillThere G m (slice_get after.all.items i)
+    each_still i z m at stands = elim (cases_eq i (server - 1)) [
+      | inl same ↦
+          let one : z ≡ x = same_some (slice_get s.all.items (server - 1)) z x (ap (slice_get s.all.items) (sym same) ∙ at) there in
+          let is : n ≡ m = one_of x.server n m stood (ap (λ (w : Station V). w.server) (sym one) ∙ stands) in
+          record {
+            station = y;
+            there = ap (slice_get after.all.items) same ∙ now_there G s after on server here x y there items;
+            node = h.after;
+            stands = h.stands;
+            untouched = subst (λ (k : NodeState V). IsUntouched G k h.after) is h.untouched;
+          }
+      | inr away ↦ record { station = z; there = others_there G s after on server here x y there items i away ∙ at; node = m; stands = stands; untouched = untouched G m }
+    ]
+
     pub no_further : IsNoFurther G s after
     no_further = record {
       course = course_same (ap (list_map unshown) posts)
           (ap (seat_for G y.is_fused y.ranks.items) h.stands ∙ seat_still G x.is_fused y.is_fused x.ranks.items y.ranks.items n h.after h.untouched h.fused h.ranks ∙ sym (ap (seat_for G x.is_fused x.ranks.items) stood));
+      each = each_still;
       openings = map_same (λ (z : Station V). opening_in z.server) None (ap opening_in h.stands ∙ ap (λ (o : Opened V). Some o) h.untouched.opening ∙ sym (ap opening_in stood));
       calm = calm_one;
     }

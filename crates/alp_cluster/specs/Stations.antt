@@ -17,7 +17,7 @@ use Rattle.alp_course.specs.Plays.{Due, IsCut}
 use Rattle.alp_cluster.specs.Come.{Come, IsReached}
 use Rattle.alp_cluster.specs.Fills.{IsEndFor, IsEventDue, IsFailing, seen_due}
 use Rattle.alp_cluster.specs.Goes.{opening_in, journal_in}
-use Rattle.alp_cluster.specs.Servers.{AreCalm, HasGoneBy, HasStopSet, StartsAgain}
+use Rattle.alp_cluster.specs.Servers.{AreCalm, HasGoneBy, IsUntouched, HasStopSet, StartsAgain}
 use Rattle.alp_cluster.specs.Station.{standing, HasVault, seat_of, Keeps, IsLeftFailed, EndsHere}
 use Rattle.alp_cluster.specs.declared.fault.RunFault.{RunFault}
 use Rattle.alp_cluster.specs.declared.fault.RunFault.TheVariants as fault
@@ -179,9 +179,18 @@ pub record IsUnchanged {V : Type 0} (G : Ghosts V) (before now : Stations V) : T
   pub servers : servers_of now ≡ servers_of before
   pub course : course_of G now ≡ course_of G before
 
+-- the server stands there still, and took no step
+pub record IsStillThere {V : Type 0} (G : Ghosts V) (n : NodeState V) (now : Option (Station V)) : Type 0 where
+  pub station : Station V
+  pub there : now ≡ Some station
+  pub node : NodeState V
+  pub stands : station.server ≡ standing node
+  pub untouched : IsUntouched G n node
+
 -- Memory was wanting: no server took a step, and each stands as it stood. Vaults may have other pages at hand.
 pub record IsNoFurther {V : Type 0} (G : Ghosts V) (before now : Stations V) : Type 0 where
   pub course : course_of G now ≡ course_of G before
+  pub each : (i : ℕ) (x : Station V) (n : NodeState V) → slice_get before.all.items i ≡ Some x → x.server ≡ standing n → IsStillThere G n (slice_get now.all.items i)
   pub openings : openings_of now ≡ openings_of before
   pub calm : AreCalmSince G before now
 

@@ -56,7 +56,7 @@ pub end_over : (f : RunFault) (s : ℕ) (P : RunFault → Type 0) → OnEndBy f 
 end_over f s P h is = subst P (sym is) (subst (λ (q : RunFault). OnEndBy q P) is h)
 
 -- what ends the closing of servers comes to no limit
-pub close_unended : (lines : List NumberedLine) (f : RunFault) → OnEndBy f (λ e. ⊥) → IsEndTold lines (played f)
+pub close_unended : (lines : List NumberedLine) (f : RunFault) → IsLookFault f → IsEndTold lines (played f)
 close_unended lines f room = ended_told lines f (λ is. absurd (end_full f (λ e. ⊥) room is)) (λ s is. absurd (end_over f s (λ e. ⊥) room is))
 
 -- none of the bay
@@ -215,7 +215,7 @@ module _ {V D : Type 0} (G : VaultGhosts V) (g : Ghosts D) (tells : Bool) (lines
       pub close_counted : IsOfServers g (servers_said lines) (played f)
       close_counted = play_counted G g tells lines before after first now U f some (rest_at (Err f) closed)
 
-      pub close_ended : IsTrue tells → (bay_before bay_after : ℕ) → OnEndBy f (λ e. ⊥) → HasRunCause g lines before after bay_before bay_after (played f)
+      pub close_ended : IsTrue tells → (bay_before bay_after : ℕ) → IsLookFault f → HasRunCause g lines before after bay_before bay_after (played f)
       close_ended told bay_before bay_after room =
           play_ended G g tells lines before after first now U f some (rest_at (Err f) closed) told (others_then closed.others told) bay_before bay_after
           (λ is. absurd (end_full f (λ e. ⊥) room is))
