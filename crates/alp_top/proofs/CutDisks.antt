@@ -313,15 +313,15 @@ module _ {V D T : Type 0} (G : VaultGhosts V) (g : Ghosts D) (tells : Bool) (tol
   one_of_seat = one_seat G g tells told lines before after first last left (Err f) early.on early.count opens_last gone
 
   -- one of them as it stood, and as it was left
-  record Place (n : ℕ) (here : IsOneOf (servers_said lines) n) : Type 0 where
-    station : Station V
-    there : slice_get last.all.items (n - 1) ≡ Some station
-    manned : IsManned G (length last.all.items) n station
-    sits : seat_at r n ≡ seat_for G station.is_fused station.ranks.items (standing manned.node)
-    other : (IsOfFault f n → ⊥) → IsLeftOther G manned.node (at n here).at.left.server
-    own : IsOfFault f n → IsLeftOwn G f r early.due manned.node (at n here).at.left.server
+  pub record Place (n : ℕ) (here : IsOneOf (servers_said lines) n) : Type 0 where
+    pub station : Station V
+    pub there : slice_get last.all.items (n - 1) ≡ Some station
+    pub manned : IsManned G (length last.all.items) n station
+    pub sits : seat_at r n ≡ seat_for G station.is_fused station.ranks.items (standing manned.node)
+    pub other : (IsOfFault f n → ⊥) → IsLeftOther G manned.node (at n here).at.left.server
+    pub own : IsOfFault f n → IsLeftOwn G f r early.due manned.node (at n here).at.left.server
 
-  place : (n : ℕ) (here : IsOneOf (servers_said lines) n) → Place n here
+  pub place : (n : ℕ) (here : IsOneOf (servers_said lines) n) → Place n here
   place n here =
       let (y, now, m, sits) = seat_on G last early.on n (seat_of_one n here) in
       record {
