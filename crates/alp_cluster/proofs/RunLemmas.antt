@@ -29,12 +29,13 @@ use Rattle.alp_course.proofs.PlayLemmas.{Plays-push, sent_append, sent_in-append
 use Rattle.alp_course.proofs.TakenLemmas.{taken_all}
 use Rattle.alp_course.proofs.UpLemmas.{lifting_up, many_on}
 use Rattle.alp_cluster.specs.Clients.{States, come_in, session_of, HasSaid}
-use Rattle.alp_cluster.specs.Runs.{Ran, HasPlayed, HasPlayedOut, HasEndedEarly}
+use Rattle.alp_cluster.specs.Runs.{Ran, HasPlayed, HasPlayedOut, HasEndedEarly, IsSettledDown}
 use Rattle.alp_cluster.specs.Station.{seat_of}
 use Rattle.alp_cluster.specs.Stations.{Go, Did, DidSome, course_of, state_at}
 use Rattle.alp_cluster.specs.Steps.{Adds, AddsSome}
 use Rattle.alp_cluster.specs.declared.fault.RunFault.{RunFault}
 use Rattle.alp_cluster.specs.declared.stations.Stations.{Stations}
+use Rattle.alp_cluster.proofs.CarryLemmas.{count_later}
 use Rattle.alp_cluster.proofs.DidLemmas.{passes_course}
 use Rattle.alp_cluster.proofs.LineLemmas.{said_goes}
 use Rattle.alp_cluster.proofs.RestAllLemmas.{rested_all}
@@ -180,6 +181,18 @@ module _ {V : Type 0} (G : Ghosts V) (servers : ℕ) (ls : List NumberedLine) (c
     text = h.text;
     ran = ran_more t e.hs e.goes;
   }
+
+-- a settling by itself
+pub settled_down : {V : Type 0} (G : Ghosts V) (s t : Stations V) → Did G (IsSettling (length s.all.items)) s t → IsSettledDown G s t
+settled_down G s t e =
+    let many : length (list_map (seat_of G) s.all.items) ≡ length s.all.items = length-map s.all.items (seat_of G) in
+    let word : IsSettling (length (course_of G s).seats) e.hs = subst (λ (n : ℕ). IsSettling n e.hs) (sym many) e.word in
+    let course : AreCourse (course_of G s) e.hs (course_of G t) = passes_course G e.hs s t e.goes.passes in
+    record {
+      up = lifting_up (course_of G s) (course_of G t) e.hs word course;
+      taken = taken_all (course_of G s) (course_of G t) e.hs word course;
+      rested = λ hs ran. rested_all G t e.goes.later.on (length s.all.items) ran.first (hs ++ e.hs) hs e.hs ran.is_first (course_append ran.first (course_of G s) (course_of G t) hs e.hs ran.course course) refl (count_later G s t e.goes.later) e.word;
+    }
 
 -- ---- the line at a place
 

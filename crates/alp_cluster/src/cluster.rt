@@ -11,7 +11,7 @@ ghost use Rattle.alp_course.specs.Settles.{IsSettling};
 ghost use Rattle.alp_cluster.specs.Clients.{InStep};
 ghost use Rattle.alp_cluster.specs.Gathered.{AreGathered};
 ghost use Rattle.alp_cluster.specs.Fills.{OnEnd};
-ghost use Rattle.alp_cluster.specs.Runs.{StopNone, is_stop_line, HasPlayed, HasPlayedOut, HasEndedEarly};
+ghost use Rattle.alp_cluster.specs.Runs.{StopNone, is_stop_line, HasPlayed, HasPlayedOut, HasEndedEarly, IsSettledDown};
 ghost use Rattle.alp_cluster.specs.Stations.{AreOn, AreCalmSince, AreCalmBut, Did, DidSome, HaveGone, openings_of};
 ghost use Rattle.alp_cluster.specs.Steps.{Adds, AddsSome, PlaysOn, BeginsOn};
 
@@ -148,11 +148,13 @@ impl<V: Vault> Cluster<V> {
 
     /// All comes to rest: nobody stops a disk any more, each server that is down starts again with pick 0, each transaction times out where
     /// it has an open part, and there are rounds of ticks and messages, one at least and eight at most. A fault ends it as it ends a line.
+    /// Else each server is up then, nobody stops its disk, no message is left, and in a run from its first moment on all are at rest.
     pub fn settle(&mut self) -> Result<(), RunFault>
         requires on { AreOn V.Vault self.old.parties.stations }
         ensures gone { HaveGone V.Vault (Unit {0}) self.old.parties.stations self.new.parties.stations result }
         ensures ended { OnEnd result (λ f. DidSome V.Vault (IsSettling (length self.old.parties.stations.all.items)) f self.old.parties.stations self.new.parties.stations) }
         ensures settled { OnOk result (Did V.Vault (IsSettling (length self.old.parties.stations.all.items)) self.old.parties.stations self.new.parties.stations) }
+        ensures rest { OnOk result (IsSettledDown V.Vault self.old.parties.stations self.new.parties.stations) }
         ensures clients { self.new.parties.clients ≡ self.old.parties.clients }
         ensures lists { self.new.lists ≡ self.old.lists }
         ensures text { self.new.text ≡ self.old.text }
