@@ -447,7 +447,7 @@ module _ {V D T : Type 0} (G : VaultGhosts V) (g : Ghosts D) (tells : Bool) (tol
       let p = place n here in
       bare_here G g tells told lines before after first last left (Err f) early.on early.count opens_last gone n here p.station p.there p.manned p.sits (place_tells n here p) alone
 
-  pub short : IsCutShort lines f r
+  abbrev pub short : IsCutShort lines f r
   short = cut_short G lines f left vs early all_told all_bare
 
   pub others_left : (n : ℕ) (here : IsOneOf (servers_said lines) n) → (IsOfFault f n → ⊥) → IsLeftBy g lines r n (taken_at n here) (given_at n here)
@@ -507,7 +507,7 @@ module _ {V D T : Type 0} (G : VaultGhosts V) (g : Ghosts D) (tells : Bool) (tol
     unchanged : IsUnchanged G last left
     unchanged = subst (λ (q : RunFault). EndsFor G q early.due last left) is early.ended
 
-    pub full_at : ℕ
+    abbrev pub full_at : ℕ
     full_at = server_due early.due - 1 + 1
 
     pub full_among : IsOneOf (servers_said lines) full_at

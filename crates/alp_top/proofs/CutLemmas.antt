@@ -105,7 +105,7 @@ module _ {V : Type 0} (G : Ghosts V) (lines : List NumberedLine) (last : Station
   run_to = record { first = h.ran.first; begins = h.ran.is_first; count = seats_many; course = h.ran.course; sent = h.sent; tells = told; right = seat_right; history = cut_history; alone = alone }
 
 -- it ended there for that fault
-pub cut_short : {V : Type 0} (G : Ghosts V) (lines : List NumberedLine) (f : RunFault) (left : Stations V) (vs : List (Vec Item Global)) (h : HasEndedEarly G (servers_said lines) lines f left vs) → TellAll (course_of G h.last)
+abbrev pub cut_short : {V : Type 0} (G : Ghosts V) (lines : List NumberedLine) (f : RunFault) (left : Stations V) (vs : List (Vec Item Global)) (h : HasEndedEarly G (servers_said lines) lines f left vs) → TellAll (course_of G h.last)
     → ((n : ℕ) → IsSeat (course_of G h.last) n → servers_said lines ≡ 1 → IsBare (seat_at (course_of G h.last) n).opening) → IsCutShort lines f (course_of G h.last)
 cut_short G lines f left vs h told bare = record { turns = h.turns; happened = h.hs; run = run_to G lines h.last (come_early G lines f left vs h) told bare; due = h.due; stopped = h.next_was; ends = h.ends }
 
