@@ -37,8 +37,8 @@ returns-in_err-reply-clause-ended g c =
     end_on c.in_err-reply.field-0.0 c.from_residual-in_err-reply.result _ _ (handed_on c.in_err-reply.field-0.0 c.from_residual-in_err-reply.result c.from_residual-in_err-reply.ensures.0 c.from_residual-in_err-reply.ensures.1)
     (λ f ends. ends) c.in_err-reply.ensures.ended
 
-pub spell-requires-clause-sendable : goal.spell-requires-clause-sendable
-spell-requires-clause-sendable g c =
+pub spell-bytes-requires-clause-sendable : goal.spell-bytes-requires-clause-sendable
+spell-bytes-requires-clause-sendable g c =
     asked_sendable g.V.Vault c.args.node.now c.step.new.node c.args.request c.in_ok-reply.reply c.requires.on c.in_ok-reply.ensures.steps
 
 pub place_of-requires : goal.place_of-requires
@@ -56,14 +56,14 @@ returns-clause-asked g c =
     let q = c.args.request in
     let n = c.args.node.now in
     let m = c.step.new.node in
-    let spelled = c.spell.ensures in
+    let spelled = c.spell-bytes.ensures in
     let is_down : c.is_down-is_down.result ≡ n.kept.is_down = c.is_down-is_down.ensures in
     let epoch : c.epoch.result ≡ n.kept.epoch = c.epoch.ensures ∙ steps_epoch g.V.Vault n m n.kept.is_down (event_of q) c.in_ok-reply.reply c.in_ok-reply.ensures.steps in
     record {
       sent = ap (λ (x : Call). sent.Call q.client q.epoch q.number x) c.in_ok-copied.ensures;
       served = request_served q c.requires.fits c.requires.request;
       steps = subst (λ (r : Option Reply). Steps g.V.Vault n.kept.is_down n m (event_of q) r) (sym spelled.reply) c.in_ok-reply.ensures.steps;
-      bytes = IfOk-weaker c.spell.result.0 _ _ (λ b is. is ∙ (λ i. handed_for (epoch i) q.client q.number (sym spelled.reply i))) spelled.bytes;
+      bytes = IfOk-weaker c.spell-bytes.result.0 _ _ (λ b is. is ∙ (λ i. handed_for (epoch i) q.client q.number (sym spelled.reply i))) spelled.bytes;
       told = (λ i. told_by (handed_for (sym epoch i) q.client q.number (spelled.reply i))) ∙ spelled.told ∙ sym spelled.reply;
       place = c.place_of.ensures ∙ (λ i. place_for (is_down i) (length ((c.entries-at.ensures ∙ c.journal.ensures) i)));
     }

@@ -1,5 +1,5 @@
 use Rattle.std.specs.Prelude.{Option}
-use Rattle.std.proofs.Common.{refl, subst}
+use Rattle.std.proofs.Common.{refl, sym, ◌∙◌, subst}
 use Rattle.alp_fields.specs.Forms.{whole}
 use Rattle.alp_rpc.specs.Frames.{request}
 use Rattle.alp_rpc.specs.declared.frame.Request.{Request}
@@ -20,6 +20,12 @@ returns-in_err-request-clause-ended g c =
     end_any fault.OutOfMemory c.from_residual.result _ (handed_on fault.OutOfMemory c.from_residual.result c.from_residual.ensures.0 c.from_residual.ensures.1)
     (wants_memory g.V.Vault c.args.node.now c.args.node.now (whole request c.args.frame.now) (untouched g.V.Vault c.args.node.now))
 
+pub returns-in_err-refuse-in-None-clause-ended : goal.returns-in_err-refuse-in-None-clause-ended
+returns-in_err-refuse-in-None-clause-ended g c =
+    end_any fault.OutOfMemory c.from_residual-in_err-refuse-in-None.result _
+    (handed_on fault.OutOfMemory c.from_residual-in_err-refuse-in-None.result c.from_residual-in_err-refuse-in-None.ensures.0 c.from_residual-in_err-refuse-in-None.ensures.1)
+    (wants_memory g.V.Vault c.args.node.now c.args.node.now (whole request c.args.frame.now) (untouched g.V.Vault c.args.node.now))
+
 pub returns-in-Some-clause-ended : goal.returns-in-Some-clause-ended
 returns-in-Some-clause-ended g c =
-    end_map c.ask.result _ _ (λ f ends. subst (λ (o : Option Request). EndsHanding g.V.Vault f c.args.node.now c.ask.new.node o) c.in_ok-request.ensures.exact (rw c.in-Some.is ends)) c.ask.ensures.ended
+    end_map c.ask.result _ _ (λ f ends. subst (λ (o : Option Request). EndsHanding g.V.Vault f c.args.node.now c.ask.new.node o) (sym c.in-Some.is ∙ c.in_ok-request.ensures.exact) ends) c.ask.ensures.ended

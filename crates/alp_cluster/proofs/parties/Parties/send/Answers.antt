@@ -61,9 +61,9 @@ returns-in_err-bytes-clause-ended g c =
       refl,
       heard.0,
       heard.1,
-      c.into_item.result.0,
-      c.push_reserved.ensures.items ∙ ap (λ (xs : List Item). xs ++ c.into_item.result.0 ∷ []) c.reserve.ensures.items,
-      subst (λ (x : Item). Exchanged g.V.Vault c.args.self.now.clients heard.0 s c.hand.new.self c.args.client c.args.line.now c.args.next c.args.frame heard.1 x) (sym c.into_item.ensures.item)
+      c.into_item-item.result.0,
+      c.push_reserved.ensures.items ∙ ap (λ (xs : List Item). xs ++ c.into_item-item.result.0 ∷ []) c.reserve.ensures.items,
+      subst (λ (x : Item). Exchanged g.V.Vault c.args.self.now.clients heard.0 s c.hand.new.self c.args.client c.args.line.now c.args.next c.args.frame heard.1 x) (sym c.into_item-item.ensures.item)
           (exchanged g.V.Vault c.args.self.now.clients s c.hand.new.self c.args.client c.args.line.now c.args.next c.args.frame h c.requires.step c.requires.client.1 c.requires.form c.requires.asked c.requires.fits c.requires.own
           (subst (λ (bytes : List ℕ). AreHanded g.V.Vault c.args.frame.server c.args.client bytes h s c.hand.new.self) c.as_slice.ensures c.in_ok-handed.ensures.handed)
           heard.0 heard.1 c.mark_of.result refl c.mark_of.ensures),
@@ -84,9 +84,9 @@ returns-in_err-behind-clause-ended g c =
       refl,
       heard.0,
       heard.1,
-      c.into_item.result.0,
-      c.push_reserved.ensures.items ∙ ap (λ (xs : List Item). xs ++ c.into_item.result.0 ∷ []) c.reserve.ensures.items,
-      subst (λ (x : Item). Exchanged g.V.Vault c.args.self.now.clients heard.0 s c.hand.new.self c.args.client c.args.line.now c.args.next c.args.frame heard.1 x) (sym c.into_item.ensures.item)
+      c.into_item-item.result.0,
+      c.push_reserved.ensures.items ∙ ap (λ (xs : List Item). xs ++ c.into_item-item.result.0 ∷ []) c.reserve.ensures.items,
+      subst (λ (x : Item). Exchanged g.V.Vault c.args.self.now.clients heard.0 s c.hand.new.self c.args.client c.args.line.now c.args.next c.args.frame heard.1 x) (sym c.into_item-item.ensures.item)
           (exchanged g.V.Vault c.args.self.now.clients s c.hand.new.self c.args.client c.args.line.now c.args.next c.args.frame h c.requires.step c.requires.client.1 c.requires.form c.requires.asked c.requires.fits c.requires.own
           (subst (λ (bytes : List ℕ). AreHanded g.V.Vault c.args.frame.server c.args.client bytes h s c.hand.new.self) c.as_slice.ensures c.in_ok-handed.ensures.handed)
           heard.0 heard.1 c.mark_of.result refl c.mark_of.ensures),
@@ -102,10 +102,10 @@ returns-clause-sent g c =
     let handed : AreHanded g.V.Vault c.args.frame.server c.args.client c.args.frame.bytes h s c.hand.new.self =
     subst (λ (bytes : List ℕ). AreHanded g.V.Vault c.args.frame.server c.args.client bytes h s c.hand.new.self) c.as_slice.ensures c.in_ok-handed.ensures.handed in
     let told = told_here g.V.Vault c.args.self.now.clients s c.hand.new.self c.args.client c.args.line.now c.args.next c.args.frame h c.requires.step c.requires.client.1 c.requires.form c.requires.asked c.requires.fits c.requires.own handed c.in_ok-bytes.bytes
-    (sym c.into_item.ensures.bytes ∙ c.in_ok-bytes.is) in (
-      c.into_item.result.0,
-      c.push_reserved.ensures.items ∙ ap (λ (xs : List Item). xs ++ c.into_item.result.0 ∷ []) c.reserve.ensures.items,
-      subst (λ (x : Item). Exchanged g.V.Vault c.args.self.now.clients c.hears.new.self s c.hand.new.self c.args.client c.args.line.now c.args.next c.args.frame c.in_ok-behind.behind x) (sym c.into_item.ensures.item)
+    (sym c.into_item-item.ensures.bytes ∙ c.in_ok-bytes.is) in (
+      c.into_item-item.result.0,
+      c.push_reserved.ensures.items ∙ ap (λ (xs : List Item). xs ++ c.into_item-item.result.0 ∷ []) c.reserve.ensures.items,
+      subst (λ (x : Item). Exchanged g.V.Vault c.args.self.now.clients c.hears.new.self s c.hand.new.self c.args.client c.args.line.now c.args.next c.args.frame c.in_ok-behind.behind x) (sym c.into_item-item.ensures.item)
           (exchanged g.V.Vault c.args.self.now.clients s c.hand.new.self c.args.client c.args.line.now c.args.next c.args.frame h c.requires.step c.requires.client.1 c.requires.form c.requires.asked c.requires.fits c.requires.own handed c.hears.new.self
           c.in_ok-behind.behind c.mark_of.result (c.in_ok-behind.ensures.ok ∙ ap (hears c.args.self.now.clients c.args.client c.args.line.now.line c.args.next c.args.frame) told) c.mark_of.ensures),
     )
