@@ -77,9 +77,9 @@ module _ {V : Type 0} (G : Ghosts V) (s after : Stations V) (on : AreOn G s) (se
     ]
 
     each_still : (i : ℕ) (z : Station V) (m : NodeState V) → slice_get s.all.items i ≡ Some z → z.server ≡ standing m → IsStillThere G m (slice_get after.all.items i)
-    each_still i z m at stands = elim (cases_eq i (server - 1)) [
+    each_still i z m found stands = elim (cases_eq i (server - 1)) [
       | inl same ↦
-          let one : z ≡ x = same_some (slice_get s.all.items (server - 1)) z x (ap (slice_get s.all.items) (sym same) ∙ at) there in
+          let one : z ≡ x = same_some (slice_get s.all.items (server - 1)) z x (ap (slice_get s.all.items) (sym same) ∙ found) there in
           let is : n ≡ m = one_of x.server n m stood (ap (λ (w : Station V). w.server) (sym one) ∙ stands) in
           record {
             station = y;
@@ -88,7 +88,7 @@ module _ {V : Type 0} (G : Ghosts V) (s after : Stations V) (on : AreOn G s) (se
             stands = h.stands;
             untouched = subst (λ (k : NodeState V). IsUntouched G k h.after) is h.untouched;
           }
-      | inr away ↦ record { station = z; there = others_there G s after on server here x y there items i away ∙ at; node = m; stands = stands; untouched = untouched G m }
+      | inr away ↦ record { station = z; there = others_there G s after on server here x y there items i away ∙ found; node = m; stands = stands; untouched = untouched G m }
     ]
 
     pub no_further : IsNoFurther G s after
