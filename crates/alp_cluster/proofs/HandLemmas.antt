@@ -110,7 +110,7 @@ module _ {V : Type 0} (G : Ghosts V) (client : ℕ) (frame : Addressed) (s after
 
   module _ (q : Request) (spelled : whole request frame.bytes ≡ Some q) where
     spells : IsSome (whole request frame.bytes)
-    spells = subst (λ (o : Option Request). IsSome o) (sym spelled) tt
+    spells = subst (λ (o : Option Request). IsSome o) (sym spelled) refl
 
     none_failed : (m : ℕ) → m ≡ frame.server → FailsFor G frame.server 0 (event_of q) s after → ExchangesNone G (fault.DiskFault m) client frame s after
     none_failed m is k = subst (λ (i : ℕ). ExchangesNone G (fault.DiskFault i) client frame s after) (sym is) (record {

@@ -11,7 +11,7 @@ use Rattle.alp_lines.specs.declared.line.Line.{Line}
 use Rattle.alp_lines.specs.declared.line.Line.TheVariants as line
 use Rattle.alp_script.specs.declared.numbered.NumberedLine.{NumberedLine}
 use Rattle.alp_session.specs.Crowd.{Crowd}
-use Rattle.alp_session.specs.Crowds.{new_crowd, client_at, hears}
+use Rattle.alp_session.specs.Crowds.{new_crowd, client_at, hears, times_out}
 use Rattle.alp_session.specs.declared.waiting.Next.{Next}
 use Rattle.alp_session.specs.declared.waiting.Next.TheVariants as next
 use Rattle.alp_course.specs.Happens.{Happening, sent_it, timed_out, ticked, forced, stop_set, restarted, lifts, finds}

@@ -1,3 +1,4 @@
+use Rattle.core.specs.Result.{result_from_control_flow}
 use Rattle.std.proofs.Common.{inl, inr, ◌≡◌, ℕ, List, [], ◌∷◌, ◌++◌, refl, sym, ◌∙◌, ap, subst}
 use Rattle.alp_fields.specs.Forms.{whole}
 use Rattle.alp_journal.specs.declared.log.Item.{Item}
@@ -102,7 +103,7 @@ returns-clause-sent g c =
     let handed : AreHanded g.V.Vault c.args.frame.server c.args.client c.args.frame.bytes h s c.hand.new.self =
     subst (λ (bytes : List ℕ). AreHanded g.V.Vault c.args.frame.server c.args.client bytes h s c.hand.new.self) c.as_slice.ensures c.in_ok-handed.ensures.handed in
     let told = told_here g.V.Vault c.args.self.now.clients s c.hand.new.self c.args.client c.args.line.now c.args.next c.args.frame h c.requires.step c.requires.client.1 c.requires.form c.requires.asked c.requires.fits c.requires.own handed c.in_ok-bytes.bytes
-    (sym c.into_item-item.ensures.bytes ∙ c.in_ok-bytes.is) in (
+    (sym c.into_item-item.ensures.bytes ∙ c.branch-bytes.ensures ∙ ap result_from_control_flow c.in_ok-bytes.is) in (
       c.into_item-item.result.0,
       c.push_reserved.ensures.items ∙ ap (λ (xs : List Item). xs ++ c.into_item-item.result.0 ∷ []) c.reserve.ensures.items,
       subst (λ (x : Item). Exchanged g.V.Vault c.args.self.now.clients c.hears.new.self s c.hand.new.self c.args.client c.args.line.now c.args.next c.args.frame c.in_ok-behind.behind x) (sym c.into_item-item.ensures.item)
