@@ -97,7 +97,9 @@ impl<V: Vault> Parties<V> {
             .hand(self.alloc, server, client, frame.bytes.as_slice())?;
         let (item, bytes) = handed.into_item(line.number, server, mark_of(&line.line));
         items.push_reserved(item);
-        let bytes = bytes?;
+        let Ok(bytes) = bytes else {
+            return Err(RunFault::OutOfMemory);
+        };
         let behind = self
             .clients
             .hears(self.alloc, client, &line.line, next, frame, &bytes)?;

@@ -1,4 +1,3 @@
-use Rattle.core.specs.Result.{result_from_control_flow}
 use Rattle.std.proofs.Common.{inl, inr, ◌≡◌, ℕ, List, [], ◌∷◌, ◌++◌, refl, sym, ◌∙◌, ap, subst}
 use Rattle.alp_fields.specs.Forms.{whole}
 use Rattle.alp_journal.specs.declared.log.Item.{Item}
@@ -47,18 +46,15 @@ returns-in_err-handed-clause-ended g c =
     end_on c.in_err-handed.field-0.0 c.from_residual-in_err-handed.result _ _ (handed_on c.in_err-handed.field-0.0 c.from_residual-in_err-handed.result c.from_residual-in_err-handed.ensures.0 c.from_residual-in_err-handed.ensures.1)
     (λ f at. inl (c.reserve.ensures.items, exchanges_none g.V.Vault c.args.client c.args.frame c.args.self.now.stations c.hand.new.self f (whole request c.as_slice.result.now) (sym (ap (whole request) c.as_slice.ensures)) at)) c.in_err-handed.ensures.ended
 
-pub returns-in_err-bytes-clause-gone : goal.returns-in_err-bytes-clause-gone
-returns-in_err-bytes-clause-gone g c =
-    rw (handed_on fault.OutOfMemory c.from_residual-in_err-bytes.result c.from_residual-in_err-bytes.ensures.0 c.from_residual-in_err-bytes.ensures.1)
-    (all_memory g.V.Vault (Unit {0}) c.args.self.now.stations c.hand.new.self c.in_ok-handed.handed c.in_ok-handed.ensures.gone)
+pub returns-in_default-clause-gone : goal.returns-in_default-clause-gone
+returns-in_default-clause-gone g c = all_memory g.V.Vault (Unit {0}) c.args.self.now.stations c.hand.new.self c.in_ok-handed.handed c.in_ok-handed.ensures.gone
 
-pub returns-in_err-bytes-clause-ended : goal.returns-in_err-bytes-clause-ended
-returns-in_err-bytes-clause-ended g c =
+pub returns-in_default-clause-ended : goal.returns-in_default-clause-ended
+returns-in_default-clause-ended g c =
     let s = c.args.self.now.stations in
     let h = c.in_ok-handed.handed in
     let heard = hears c.args.self.now.clients c.args.client c.args.line.now.line c.args.next c.args.frame h.reply in
-    end_any fault.OutOfMemory c.from_residual-in_err-bytes.result _ (handed_on fault.OutOfMemory c.from_residual-in_err-bytes.result c.from_residual-in_err-bytes.ensures.0 c.from_residual-in_err-bytes.ensures.1)
-    (inr (
+    inr (
       refl,
       heard.0,
       heard.1,
@@ -68,7 +64,7 @@ returns-in_err-bytes-clause-ended g c =
           (exchanged g.V.Vault c.args.self.now.clients s c.hand.new.self c.args.client c.args.line.now c.args.next c.args.frame h c.requires.step c.requires.client.1 c.requires.form c.requires.asked c.requires.fits c.requires.own
           (subst (λ (bytes : List ℕ). AreHanded g.V.Vault c.args.frame.server c.args.client bytes h s c.hand.new.self) c.as_slice.ensures c.in_ok-handed.ensures.handed)
           heard.0 heard.1 c.mark_of.result refl c.mark_of.ensures),
-    ))
+    )
 
 pub returns-in_err-behind-clause-gone : goal.returns-in_err-behind-clause-gone
 returns-in_err-behind-clause-gone g c =
@@ -102,8 +98,8 @@ returns-clause-sent g c =
     let h = c.in_ok-handed.handed in
     let handed : AreHanded g.V.Vault c.args.frame.server c.args.client c.args.frame.bytes h s c.hand.new.self =
     subst (λ (bytes : List ℕ). AreHanded g.V.Vault c.args.frame.server c.args.client bytes h s c.hand.new.self) c.as_slice.ensures c.in_ok-handed.ensures.handed in
-    let told = told_here g.V.Vault c.args.self.now.clients s c.hand.new.self c.args.client c.args.line.now c.args.next c.args.frame h c.requires.step c.requires.client.1 c.requires.form c.requires.asked c.requires.fits c.requires.own handed c.in_ok-bytes.bytes
-    (sym c.into_item-item.ensures.bytes ∙ c.branch-bytes.ensures ∙ ap result_from_control_flow c.in_ok-bytes.is) in (
+    let told = told_here g.V.Vault c.args.self.now.clients s c.hand.new.self c.args.client c.args.line.now c.args.next c.args.frame h c.requires.step c.requires.client.1 c.requires.form c.requires.asked c.requires.fits c.requires.own handed c.in-Ok.bytes
+    (sym c.into_item-item.ensures.bytes ∙ c.in-Ok.is) in (
       c.into_item-item.result.0,
       c.push_reserved.ensures.items ∙ ap (λ (xs : List Item). xs ++ c.into_item-item.result.0 ∷ []) c.reserve.ensures.items,
       subst (λ (x : Item). Exchanged g.V.Vault c.args.self.now.clients c.hears.new.self s c.hand.new.self c.args.client c.args.line.now c.args.next c.args.frame c.in_ok-behind.behind x) (sym c.into_item-item.ensures.item)
