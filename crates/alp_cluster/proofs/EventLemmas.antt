@@ -9,10 +9,10 @@ use Rattle.alp_vault.specs.declared.vault.Vault.{Ghosts}
 use Rattle.alp_course.specs.Courses.{Seat, at}
 use Rattle.alp_course.specs.Happens.{Happening, sent_it, timed_out, ticked, forced, stop_set, restarted, lifts, finds, Stand, ComesTo, Happens}
 use Rattle.alp_course.specs.Languages.{Just}
-use Rattle.alp_cluster.specs.Fills.{MakesEntry}
+use Rattle.alp_cluster.specs.Fills.{MakesEntry, IsOfEvent}
 use Rattle.alp_cluster.specs.Servers.{HasStopSet, StartsAgain}
 use Rattle.alp_cluster.specs.Station.{standing, WentBy}
-use Rattle.alp_cluster.specs.Stations.{AreOn, IsOneOf, AreLater, StartsAgainAt, Crashes, Go, Did, IsOfEvent}
+use Rattle.alp_cluster.specs.Stations.{AreOn, IsOneOf, AreLater, StartsAgainAt, Crashes, Go, Did}
 use Rattle.alp_cluster.specs.declared.station.Station.{Station}
 use Rattle.alp_cluster.specs.declared.stations.Stations.{Stations}
 use Rattle.alp_cluster.proofs.DidLemmas.{go_one, did_just}

@@ -29,12 +29,13 @@ use Rattle.alp_course.proofs.PlayLemmas.{Plays-push, sent_append, sent_in-append
 use Rattle.alp_course.proofs.TakenLemmas.{taken_all}
 use Rattle.alp_course.proofs.UpLemmas.{lifting_up, many_on}
 use Rattle.alp_cluster.specs.Clients.{States, come_in, session_of, HasSaid}
-use Rattle.alp_cluster.specs.Runs.{Ran, HasPlayed, HasPlayedOut, HasEndedEarly}
+use Rattle.alp_cluster.specs.Runs.{Ran, HasPlayed, HasPlayedOut, HasEndedEarly, IsSettledDown}
 use Rattle.alp_cluster.specs.Station.{seat_of}
 use Rattle.alp_cluster.specs.Stations.{Go, Did, DidSome, course_of, state_at}
 use Rattle.alp_cluster.specs.Steps.{Adds, AddsSome}
 use Rattle.alp_cluster.specs.declared.fault.RunFault.{RunFault}
 use Rattle.alp_cluster.specs.declared.stations.Stations.{Stations}
+use Rattle.alp_cluster.proofs.CarryLemmas.{count_later}
 use Rattle.alp_cluster.proofs.DidLemmas.{passes_course}
 use Rattle.alp_cluster.proofs.LineLemmas.{said_goes}
 use Rattle.alp_cluster.proofs.RestAllLemmas.{rested_all}
@@ -92,8 +93,8 @@ module _ {V : Type 0} (G : Ghosts V) (servers : ℕ) (ls : List NumberedLine) (c
   -- ---- a run that ends before its script does
 
   -- in a line
-  pub line_ended : (lines : List NumberedLine) (l : NumberedLine) (later : List NumberedLine) (known : Crowd) (f : RunFault) → lines ≡ ls ++ l ∷ later → length ls < 2 ^ 29 → AddsSome G f servers c known s t l → HasEndedEarly G servers lines f t
-  line_ended lines l later known f are low e = record {
+  pub line_ended : (lines : List NumberedLine) (l : NumberedLine) (later : List NumberedLine) (known : Crowd) (f : RunFault) (now : List (Vec Item Global)) → lines ≡ ls ++ l ∷ later → length ls < 2 ^ 29 → AddsSome G f servers c known s t l lists now → HasEndedEarly G servers lines f t now
+  line_ended lines l later known f now are low e = record {
     last = e.at_end;
     on = e.goes.later.on;
     count = count_more e.at_end e.hs e.goes;
@@ -124,10 +125,11 @@ module _ {V : Type 0} (G : Ghosts V) (servers : ℕ) (ls : List NumberedLine) (c
     });
     ends = e.ends;
     ended = e.left;
+    lists = λ k. e.lists k ∙ ap (λ (xs : List Item). xs ++ own_in k e.turns) (h.lists k) ∙ sym (own_append k h.turns e.turns);
   }
 
   -- or behind all lines
-  pub end_ended : (f : RunFault) → length ls < 2 ^ 29 → DidSome G (IsSettling servers) f s t → HasEndedEarly G servers ls f t
+  pub end_ended : (f : RunFault) → length ls < 2 ^ 29 → DidSome G (IsSettling servers) f s t → HasEndedEarly G servers ls f t lists
   end_ended f low e = record {
     last = e.at_end;
     on = e.goes.later.on;
@@ -142,6 +144,7 @@ module _ {V : Type 0} (G : Ghosts V) (servers : ℕ) (ls : List NumberedLine) (c
     next_was = inr (record { clients = c; happened_before = h.happened; happened_now = e.hs; happened_are = refl; plays = h.plays; settles = e.cut });
     ends = e.ends;
     ended = e.left;
+    lists = h.lists;
   }
 
   -- ---- all of it
@@ -178,6 +181,18 @@ module _ {V : Type 0} (G : Ghosts V) (servers : ℕ) (ls : List NumberedLine) (c
     text = h.text;
     ran = ran_more t e.hs e.goes;
   }
+
+-- a settling by itself
+pub settled_down : {V : Type 0} (G : Ghosts V) (s t : Stations V) → Did G (IsSettling (length s.all.items)) s t → IsSettledDown G s t
+settled_down G s t e =
+    let many : length (list_map (seat_of G) s.all.items) ≡ length s.all.items = length-map s.all.items (seat_of G) in
+    let word : IsSettling (length (course_of G s).seats) e.hs = subst (λ (n : ℕ). IsSettling n e.hs) (sym many) e.word in
+    let course : AreCourse (course_of G s) e.hs (course_of G t) = passes_course G e.hs s t e.goes.passes in
+    record {
+      up = lifting_up (course_of G s) (course_of G t) e.hs word course;
+      taken = taken_all (course_of G s) (course_of G t) e.hs word course;
+      rested = λ hs ran. rested_all G t e.goes.later.on (length s.all.items) ran.first (hs ++ e.hs) hs e.hs ran.is_first (course_append ran.first (course_of G s) (course_of G t) hs e.hs ran.course course) refl (count_later G s t e.goes.later) e.word;
+    }
 
 -- ---- the line at a place
 

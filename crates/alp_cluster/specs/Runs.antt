@@ -78,6 +78,13 @@ AreRested G last =
     (handed : Handed) → TellAll (course_of G last) → AreSoundOpenings (log_of (course_of G last) handed) → ((n : ℕ) → IsSeat (course_of G last) n → AreSpelled (seat_at (course_of G last) n).opening)
     → (n : ℕ) → IsSeat (course_of G last) n → IsSettled (seat_at (course_of G last) n).stand.state
 
+-- Behind a settling each server is up, nobody stops its disk, and no message to another one is left. In a run that is known from its first moment on
+-- all are at rest.
+pub record IsSettledDown {V : Type 0} (G : Ghosts V) (before after : Stations V) : Type 0 where
+  pub up : AreUp (course_of G after)
+  pub taken : AreTaken (course_of G after)
+  pub rested : (hs : List Occurrence) → Ran G hs before → AreRested G after
+
 -- All lines were played on servers that did nothing before, and then the run was settled: each server is up, nobody stops its disk, no message
 -- to another one is left, and all are at rest. Where it is the only one, no transaction is live there, whatever it opened on.
 pub record HasPlayedOut {V : Type 0} (G : Ghosts V) (servers : ℕ) (lines : List NumberedLine) (last : Stations V) (vs : List (Vec Item Global)) (printed : List ℕ) : Type 0 where
@@ -122,9 +129,9 @@ pub record StopsBehindLines (servers : ℕ) (lines : List NumberedLine) (turns :
   pub plays : Plays servers new_crowd lines turns happened_before clients
   pub settles : IsCut (IsSettling servers) happened_now due
 
--- The run ended before, for that fault, and this is what was played by then: the servers stood so, and there was more to come, for which
--- that is no way. These are left.
-pub record HasEndedEarly {V : Type 0} (G : Ghosts V) (servers : ℕ) (lines : List NumberedLine) (f : RunFault) (left : Stations V) : Type 0 where
+-- The run ended before, for that fault, and this is what was played by then: the servers stood so, each item stands in its client's list, and
+-- there was more to come, for which that is no way. These are left.
+pub record HasEndedEarly {V : Type 0} (G : Ghosts V) (servers : ℕ) (lines : List NumberedLine) (f : RunFault) (left : Stations V) (vs : List (Vec Item Global)) : Type 0 where
   pub last : Stations V
   pub on : AreOn G last
   pub count : length last.all.items ≡ servers
@@ -137,4 +144,5 @@ pub record HasEndedEarly {V : Type 0} (G : Ghosts V) (servers : ℕ) (lines : Li
   pub ran : Ran G hs last
   pub next_was : StopsInLine servers lines turns hs due ⊎ StopsBehindLines servers lines turns hs due
   pub ends : IsEndFor f (course_of G last) due
-  pub ended : EndsFor G f last left
+  pub ended : EndsFor G f due last left
+  pub lists : (k : ℕ) → lists_in vs k ≡ own_in k turns

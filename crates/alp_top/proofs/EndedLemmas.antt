@@ -22,8 +22,8 @@ use Rattle.alp_top.specs.declared.fault.NoReport.TheVariants as fault
 use Rattle.alp_top.proofs.SeatedLemmas.{many}
 
 -- a run that ended before its script did
-pub ended_for : {V : Type 0} (G : VaultGhosts V) (lines : List NumberedLine) (f : RunFault) (left : Stations V) → HasEndedEarly G (servers_said lines) lines f left → IsEndedFor lines f
-ended_for G lines f left h = record {
+pub ended_for : {V : Type 0} (G : VaultGhosts V) (lines : List NumberedLine) (f : RunFault) (left : Stations V) (vs : List (Vec Item Global)) → HasEndedEarly G (servers_said lines) lines f left vs → IsEndedFor lines f
+ended_for G lines f left vs h = record {
   first = h.ran.first;
   begins = h.ran.is_first;
   last = course_of G h.last;
