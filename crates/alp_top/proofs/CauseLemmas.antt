@@ -15,9 +15,9 @@ use Rattle.alp_script.specs.Accepted.{servers_said}
 use Rattle.alp_script.specs.declared.numbered.NumberedLine.{NumberedLine}
 use Rattle.alp_vault.specs.declared.vault.Vault.{Ghosts as VaultGhosts}
 use Rattle.alp_cluster.specs.Runs.{StopNone, HasEndedEarly, HasPlayedOut}
-use Rattle.alp_cluster.specs.Servers.{AreCalm, AreCountedIn}
+use Rattle.alp_cluster.specs.Servers.{AreCalm, AreCountedIn, IsFailure}
 use Rattle.alp_cluster.specs.Station.{standing, seat_for, seat_of}
-use Rattle.alp_cluster.specs.Stations.{AreCalmSince, AreCalmBut, IsManned, course_of, openings_of}
+use Rattle.alp_cluster.specs.Stations.{AreCalmSince, AreCalmBut, IsManned, IsOfRun, course_of, openings_of}
 use Rattle.alp_cluster.specs.declared.fault.RunFault.{RunFault}
 use Rattle.alp_cluster.specs.declared.fault.RunFault.TheVariants as run_fault
 use Rattle.alp_cluster.specs.declared.station.Station.{Station}
@@ -25,7 +25,7 @@ use Rattle.alp_cluster.specs.declared.stations.Stations.{Stations}
 use Rattle.alp_top.specs.Disks.{AreOthersSame}
 use Rattle.alp_top.specs.Faults.{played}
 use Rattle.alp_top.specs.Looks.{IsLookFault}
-use Rattle.alp_top.specs.Volumes.{IsUnstopped, IsBare, IsLeftWith, IsLeftBy, HasFailedOn, HasFilled, HasUsedUp, HasFailedAgain, IsPlayedToEnd, AreReturned, HasRunCause}
+use Rattle.alp_top.specs.Volumes.{IsUnstopped, IsLeftWith, IsLeftBy, AreLeftBut, HasFailedOn, HasFilled, HasUsedUp, HasFailedAgain, IsPlayedToEnd, HasRunCause}
 use Rattle.alp_top.specs.declared.fault.NoReport.TheVariants as fault
 use Rattle.alp_top.proofs.CalmAtLemmas.{calm_at}
 use Rattle.alp_top.proofs.CutDisks.{IsOfFault, short, place, others_left, failed_left, fell_left, fell_count, none_of, full_at, full_among, full_left, vault_tells, seat_here, one_seat, one_here, bare_here, with_journal, says_with}
@@ -40,6 +40,29 @@ use Rattle.alp_top.proofs.SeveralLemmas.{one_node}
 
 module _ {V D : Type 0} (G : VaultGhosts V) (g : Ghosts D) (tells : Bool) (told : IsTrue tells) (lines : List NumberedLine) (before after : ℕ → Option D) (first left : Stations V) (T : Type 0) (vs : List (Vec Item Global)) (some : 1 ≤ servers_said lines) (others : AreOthersSame (servers_said lines) before after)
     (bay_before bay_after : ℕ) (opens : openings_of left ≡ openings_of first) where
+  abbrev gone_in : (f : RunFault) → ((n : ℕ) → IsOneOf (servers_said lines) n → IsLeftSo {T = T} G g tells lines before after first left (Err f) n) → (n : ℕ) → IsOneOf (servers_said lines) n → IsGoneAt {T = T} G g tells lines before after first left (Err f) n
+  gone_in f at n here = (at n here).at
+
+  -- the server that a fault names is one of them
+  among : (f : RunFault) (at : (n : ℕ) → IsOneOf (servers_said lines) n → IsLeftSo {T = T} G g tells lines before after first left (Err f) n) (s : ℕ) → IsOfRun (servers_said lines) s → IsOneOf (servers_said lines) s
+  among f at s h = one_of G g tells lines before after first left T f some (gone_in f at) s h
+
+  -- what its device did there
+  failed_at : (f : RunFault) (at : (n : ℕ) → IsOneOf (servers_said lines) n → IsLeftSo {T = T} G g tells lines before after first left (Err f) n) (n : ℕ) (here : IsOneOf (servers_said lines) n) → IsFailure {T = T} (IsOfRun (servers_said lines)) n (Err f) (G.faults (at n here).at.node.kept.vault) (G.faults (at n here).at.vault)
+  failed_at f at n here = failed G g tells lines before after first left T f some (gone_in f at) n here
+
+  first_one : IsOneOf (servers_said lines) 1
+  first_one = record { first = omega arith; last = some }
+
+  -- each disk is given back, and of that server this holds
+  left_but : (f : RunFault) (at : (n : ℕ) → IsOneOf (servers_said lines) n → IsLeftSo {T = T} G g tells lines before after first left (Err f) n) (c : Course) (s : ℕ) (P : D → D → Type 0) → IsOneOf (servers_said lines) s
+      → ((n : ℕ) (here : IsOneOf (servers_said lines) n) → (n ≡ s → ⊥) → IsLeftBy g lines c n (at n here).at.taken (at n here).at.given) → ((n : ℕ) (here : IsOneOf (servers_said lines) n) → n ≡ s → P (at n here).at.taken (at n here).at.given)
+      → AreLeftBut g lines c s before after P
+  left_but f at c s P named away own = (
+    named,
+    returned G g tells lines before after first left T f some (gone_in f at) told others (λ n d e. ((n ≡ s → ⊥) → IsLeftBy g lines c n d e) × (n ≡ s → P d e)) (λ n here. ((λ other. away n here other), (λ is. own n here is))),
+  )
+
   pub fell_cause : (f : RunFault) → HasEndedEarly G (servers_said lines) lines f left vs → ((n : ℕ) → IsOneOf (servers_said lines) n → IsLeftSo {T = T} G g tells lines before after first left (Err f) n) → AreCalmBut G f first left → HasRunCause g lines before after bay_before bay_after (played f)
   fell_cause run_fault.JournalFull early at calm =
       let f : RunFault = run_fault.JournalFull in
@@ -49,7 +72,7 @@ module _ {V D : Type 0} (G : VaultGhosts V) (g : Ghosts D) (tells : Bool) (told 
         short G g tells told lines before after first left f vs early at opens calm,
         k,
         full_among G g tells told lines before after first left f vs early at opens calm refl,
-        returned G g tells lines before after first left T f some (λ n here. (at n here).at) told others (λ n d e. IsLeftBy g lines c n d e × (n ≡ k → HasFilled g lines c n d e)) (λ n here. (
+        returned G g tells lines before after first left T f some (gone_in f at) told others (λ n d e. IsLeftBy g lines c n d e × (n ≡ k → HasFilled g lines c n d e)) (λ n here. (
           others_left G g tells told lines before after first left f vs early at opens calm n here (λ h. h),
           (λ is. subst (λ (m : ℕ). (h : IsOneOf (servers_said lines) m) → HasFilled g lines c m (at m h).at.taken (at m h).at.given) (sym is) (full_left G g tells told lines before after first left f vs early at opens calm refl) here),
         )),
@@ -60,100 +83,76 @@ module _ {V D : Type 0} (G : VaultGhosts V) (g : Ghosts D) (tells : Bool) (told 
       inr (inr (inl (
         c,
         short G g tells told lines before after first left f vs early at opens calm,
-        returned G g tells lines before after first left T f some (λ n here. (at n here).at) told others (λ n d e. IsLeftBy g lines c n d e) (λ n here. others_left G g tells told lines before after first left f vs early at opens calm n here (λ h. h)),
+        returned G g tells lines before after first left T f some (gone_in f at) told others (λ n d e. IsLeftBy g lines c n d e) (λ n here. others_left G g tells told lines before after first left f vs early at opens calm n here (λ h. h)),
       )))
   fell_cause (run_fault.DiskFault s) early at calm =
       let f : RunFault = run_fault.DiskFault s in
       let c = course_of G early.last in
-      let gone = λ n here. (at n here).at in
       inr (inl (
         c,
         short G g tells told lines before after first left f vs early at opens calm,
-        one_of G g tells lines before after first left T f some gone s (failed G g tells lines before after first left T f some gone 1 (record { first = omega arith; last = some })).0,
-        returned G g tells lines before after first left T f some gone told others (λ n d e. ((n ≡ s → ⊥) → IsLeftBy g lines c n d e) × (n ≡ s → HasFailedOn g lines c early.due s d e)) (λ n here. (
-          (λ other. others_left G g tells told lines before after first left f vs early at opens calm n here other),
-          (λ is. subst (λ (m : ℕ). HasFailedOn g lines c early.due m (at n here).at.taken (at n here).at.given) is
-              (let p = place G g tells told lines before after first left f vs early at opens calm n here in
-              failed_left G g tells told lines before after first left f vs early at opens calm n here (rose_for G g tells lines before after first left T f some gone n here ((failed G g tells lines before after first left T f some gone n here).1 (sym is))) p (p.own is))),
-        )),
+        left_but f at c s (HasFailedOn g lines c early.due s) (among f at s (failed_at f at 1 first_one).0) (λ n here other. others_left G g tells told lines before after first left f vs early at opens calm n here other) (λ n here is.
+        subst (λ (m : ℕ). HasFailedOn g lines c early.due m (at n here).at.taken (at n here).at.given) is
+        (let p = place G g tells told lines before after first left f vs early at opens calm n here in
+        failed_left G g tells told lines before after first left f vs early at opens calm n here (rose_for G g tells lines before after first left T f some (gone_in f at) n here ((failed_at f at n here).1 (sym is))) p (p.own is))),
       ))
   fell_cause (run_fault.Start s (start_fault.Vault vault_fault.Failed)) early at calm =
       let f : RunFault = run_fault.Start s (start_fault.Vault vault_fault.Failed) in
       let c = course_of G early.last in
-      let gone = λ n here. (at n here).at in
       inr (inr (inl (
         c,
         short G g tells told lines before after first left f vs early at opens calm,
-        one_of G g tells lines before after first left T f some gone s (failed G g tells lines before after first left T f some gone 1 (record { first = omega arith; last = some })).0,
-        returned G g tells lines before after first left T f some gone told others (λ n d e. ((n ≡ s → ⊥) → IsLeftBy g lines c n d e) × (n ≡ s → HasFailedAgain g lines c s d e)) (λ n here. (
-          (λ other. others_left G g tells told lines before after first left f vs early at opens calm n here other),
-          (λ is. subst (λ (m : ℕ). HasFailedAgain g lines c m (at n here).at.taken (at n here).at.given) is
-              (let p = place G g tells told lines before after first left f vs early at opens calm n here in
-              record {
-                fallen = fell_left G g tells told lines before after first left f vs early at opens calm n here p (start_fault.Vault vault_fault.Failed) (p.own is);
-                rose = rose_for G g tells lines before after first left T f some gone n here ((failed G g tells lines before after first left T f some gone n here).1 (sym is));
-              })),
-        )),
+        left_but f at c s (HasFailedAgain g lines c s) (among f at s (failed_at f at 1 first_one).0) (λ n here other. others_left G g tells told lines before after first left f vs early at opens calm n here other) (λ n here is.
+        subst (λ (m : ℕ). HasFailedAgain g lines c m (at n here).at.taken (at n here).at.given) is
+        (let p = place G g tells told lines before after first left f vs early at opens calm n here in
+        record {
+          fallen = fell_left G g tells told lines before after first left f vs early at opens calm n here p (start_fault.Vault vault_fault.Failed) (p.own is);
+          rose = rose_for G g tells lines before after first left T f some (gone_in f at) n here ((failed_at f at n here).1 (sym is));
+        })),
       )))
   fell_cause (run_fault.Start s (start_fault.Vault vault_fault.OutOfMemory)) early at calm =
       let f : RunFault = run_fault.Start s (start_fault.Vault vault_fault.OutOfMemory) in
       let c = course_of G early.last in
-      let gone = λ n here. (at n here).at in
       inr (inr (inr (inl (
         c,
         s,
         short G g tells told lines before after first left f vs early at opens calm,
-        one_of G g tells lines before after first left T f some gone s (failed G g tells lines before after first left T f some gone 1 (record { first = omega arith; last = some })).0,
-        returned G g tells lines before after first left T f some gone told others (λ n d e. ((n ≡ s → ⊥) → IsLeftBy g lines c n d e) × (n ≡ s → HasUsedUp g lines c s d e)) (λ n here. (
-          (λ other. others_left G g tells told lines before after first left f vs early at opens calm n here other),
-          (λ is. subst (λ (m : ℕ). HasUsedUp g lines c m (at n here).at.taken (at n here).at.given) is
-              (let p = place G g tells told lines before after first left f vs early at opens calm n here in
-              record {
-                fallen = fell_left G g tells told lines before after first left f vs early at opens calm n here p (start_fault.Vault vault_fault.OutOfMemory) (p.own is);
-                unfailed = fell_count G g tells told lines before after first left f vs early at opens calm n here p (start_fault.Vault vault_fault.OutOfMemory) (p.own is) (λ h. h)
-                    (λ none. (counted G g tells lines before after first left T f some gone none n here).0 (sym is));
-              })),
-        )),
+        left_but f at c s (HasUsedUp g lines c s) (among f at s (failed_at f at 1 first_one).0) (λ n here other. others_left G g tells told lines before after first left f vs early at opens calm n here other) (λ n here is.
+        subst (λ (m : ℕ). HasUsedUp g lines c m (at n here).at.taken (at n here).at.given) is
+        (let p = place G g tells told lines before after first left f vs early at opens calm n here in
+        record {
+          fallen = fell_left G g tells told lines before after first left f vs early at opens calm n here p (start_fault.Vault vault_fault.OutOfMemory) (p.own is);
+          unfailed = fell_count G g tells told lines before after first left f vs early at opens calm n here p (start_fault.Vault vault_fault.OutOfMemory) (p.own is) (λ h. h)
+              (λ none. (counted G g tells lines before after first left T f some (gone_in f at) none n here).0 (sym is));
+        })),
       ))))
   fell_cause (run_fault.Start s start_fault.EpochEnd) early at calm =
       let f : RunFault = run_fault.Start s start_fault.EpochEnd in
       let c = course_of G early.last in
-      let gone = λ n here. (at n here).at in
       inr (
         c,
         short G g tells told lines before after first left f vs early at opens calm,
-        one_of G g tells lines before after first left T f some gone s (failed G g tells lines before after first left T f some gone 1 (record { first = omega arith; last = some })).0,
-        returned G g tells lines before after first left T f some gone told others (λ n d e. ((n ≡ s → ⊥) → IsLeftBy g lines c n d e) × (n ≡ s → HasUsedUp g lines c s d e)) (λ n here. (
-          (λ other. others_left G g tells told lines before after first left f vs early at opens calm n here other),
-          (λ is. subst (λ (m : ℕ). HasUsedUp g lines c m (at n here).at.taken (at n here).at.given) is
-              (let p = place G g tells told lines before after first left f vs early at opens calm n here in
-              record {
-                fallen = fell_left G g tells told lines before after first left f vs early at opens calm n here p start_fault.EpochEnd (p.own is);
-                unfailed = fell_count G g tells told lines before after first left f vs early at opens calm n here p start_fault.EpochEnd (p.own is) (λ h. h)
-                    (λ none. (counted G g tells lines before after first left T f some gone none n here).0 (sym is));
-              })),
-        )),
+        left_but f at c s (HasUsedUp g lines c s) (among f at s (failed_at f at 1 first_one).0) (λ n here other. others_left G g tells told lines before after first left f vs early at opens calm n here other) (λ n here is.
+        subst (λ (m : ℕ). HasUsedUp g lines c m (at n here).at.taken (at n here).at.given) is
+        (let p = place G g tells told lines before after first left f vs early at opens calm n here in
+        record {
+          fallen = fell_left G g tells told lines before after first left f vs early at opens calm n here p start_fault.EpochEnd (p.own is);
+          unfailed = fell_count G g tells told lines before after first left f vs early at opens calm n here p start_fault.EpochEnd (p.own is) (λ h. h)
+              (λ none. (counted G g tells lines before after first left T f some (gone_in f at) none n here).0 (sym is));
+        })),
       )
   fell_cause (run_fault.Start s (start_fault.Vault vault_fault.Stopped)) early at calm =
       let f : RunFault = run_fault.Start s (start_fault.Vault vault_fault.Stopped) in
-      let gone = λ n here. (at n here).at in
-      let among = (failed G g tells lines before after first left T f some gone 1 (record { first = omega arith; last = some })).0 in
-      absurd ((failed G g tells lines before after first left T f some gone s (one_of G g tells lines before after first left T f some gone s among)).1 refl)
+      absurd ((failed_at f at s (among f at s (failed_at f at 1 first_one).0)).1 refl)
   fell_cause (run_fault.Start s (start_fault.Vault (vault_fault.NotAVolume found))) early at calm =
       let f : RunFault = run_fault.Start s (start_fault.Vault (vault_fault.NotAVolume found)) in
-      let gone = λ n here. (at n here).at in
-      let among = (failed G g tells lines before after first left T f some gone 1 (record { first = omega arith; last = some })).0 in
-      absurd (fault_told G g tells lines before after first left T f some gone told others s (one_of G g tells lines before after first left T f some gone s among) refl)
+      absurd (fault_told G g tells lines before after first left T f some (gone_in f at) told others s (among f at s (failed_at f at 1 first_one).0) refl)
   fell_cause (run_fault.Start s (start_fault.Vault (vault_fault.Damaged place_at))) early at calm =
       let f : RunFault = run_fault.Start s (start_fault.Vault (vault_fault.Damaged place_at)) in
-      let gone = λ n here. (at n here).at in
-      let among = (failed G g tells lines before after first left T f some gone 1 (record { first = omega arith; last = some })).0 in
-      absurd (fault_told G g tells lines before after first left T f some gone told others s (one_of G g tells lines before after first left T f some gone s among) refl)
+      absurd (fault_told G g tells lines before after first left T f some (gone_in f at) told others s (among f at s (failed_at f at 1 first_one).0) refl)
   fell_cause (run_fault.Start s start_fault.BadNote) early at calm =
       let f : RunFault = run_fault.Start s start_fault.BadNote in
-      let gone = λ n here. (at n here).at in
-      let among = (failed G g tells lines before after first left T f some gone 1 (record { first = omega arith; last = some })).0 in
-      absurd (fault_told G g tells lines before after first left T f some gone told others s (one_of G g tells lines before after first left T f some gone s among) refl)
+      absurd (fault_told G g tells lines before after first left T f some (gone_in f at) told others s (among f at s (failed_at f at 1 first_one).0) refl)
 
 -- ---- for the report, when all was played
 
@@ -162,7 +161,7 @@ module _ {V D T : Type 0} (G : VaultGhosts V) (g : Ghosts D) (tells : Bool) (tol
   abbrev c : Course
   c = course_of G last
 
-  gone : (n : ℕ) → IsOneOf (servers_said lines) n → IsGoneAt {T = T} G g tells lines before after first last r n
+  abbrev gone : (n : ℕ) → IsOneOf (servers_said lines) n → IsGoneAt {T = T} G g tells lines before after first last r n
   gone n here = (at n here).at
 
   -- one of them, at rest
@@ -273,18 +272,21 @@ module _ {V D U : Type 0} (G : VaultGhosts V) (g : Ghosts D) (tells : Bool) (tol
   close_cause (run_fault.DiskFault s) only at =
       let f : RunFault = run_fault.DiskFault s in
       let c = course_of G last in
-      let gone_at = λ n here. (at n here).at in
+      let gone_at : (n : ℕ) → IsOneOf (servers_said lines) n → IsGoneAt {T = U} G g tells lines before after first last (Err f) n = λ n here. (at n here).at in
+      let named : IsOneOf (servers_said lines) s = one_of G g tells lines before after first last U f some gone_at s (failed G g tells lines before after first last U f some gone_at 1 (record { first = omega arith; last = some })).0 in
       inr (inr (inr (
         c,
         to_end G g tells told lines before after first last (Err f) vs text some others out opens calm at,
-        one_of G g tells lines before after first last U f some gone_at s (failed G g tells lines before after first last U f some gone_at 1 (record { first = omega arith; last = some })).0,
-        returned G g tells lines before after first last U f some gone_at told others
-            (λ n d e. ((n ≡ s → ⊥) → IsLeftBy g lines c n d e) × (n ≡ s → IsLeftWith g lines s (seat_at c s).opening (seat_at c s).journal d e × Rose (g.faults d) (g.faults e))) (λ n here. (
-              (λ other. rest_left G g tells told lines before after first last (Err f) vs text some others out opens calm at n here (λ none. (counted_in G g tells told lines before after first last (Err f) vs text some others out opens calm at n here none).1 (λ is. other (sym is)))
-                  ((looked_at G g tells told lines before after first last (Err f) vs text some others out opens calm at n here).1 (λ is. other (sym is)))),
-              (λ is. subst (λ (m : ℕ). IsLeftWith g lines m (seat_at c m).opening (seat_at c m).journal (at n here).at.taken (at n here).at.given × Rose (g.faults (at n here).at.taken) (g.faults (at n here).at.given)) is (
-                rest_with G g tells told lines before after first last (Err f) vs text some others out opens calm at n here (rests G g tells told lines before after first last (Err f) vs text some others out opens calm at n here),
-                rose_for G g tells lines before after first last U f some gone_at n here ((failed G g tells lines before after first last U f some gone_at n here).1 (sym is)),
+        (
+          named,
+          returned G g tells lines before after first last U f some gone_at told others
+              (λ n d e. ((n ≡ s → ⊥) → IsLeftBy g lines c n d e) × (n ≡ s → IsLeftWith g lines s (seat_at c s).opening (seat_at c s).journal d e × Rose (g.faults d) (g.faults e))) (λ n here. (
+                (λ other. rest_left G g tells told lines before after first last (Err f) vs text some others out opens calm at n here (λ none. (counted_in G g tells told lines before after first last (Err f) vs text some others out opens calm at n here none).1 (λ is. other (sym is)))
+                    ((looked_at G g tells told lines before after first last (Err f) vs text some others out opens calm at n here).1 (λ is. other (sym is)))),
+                (λ is. subst (λ (m : ℕ). IsLeftWith g lines m (seat_at c m).opening (seat_at c m).journal (at n here).at.taken (at n here).at.given × Rose (g.faults (at n here).at.taken) (g.faults (at n here).at.given)) is (
+                  rest_with G g tells told lines before after first last (Err f) vs text some others out opens calm at n here (rests G g tells told lines before after first last (Err f) vs text some others out opens calm at n here),
+                  rose_for G g tells lines before after first last U f some gone_at n here ((failed G g tells lines before after first last U f some gone_at n here).1 (sym is)),
+                )),
               )),
-            )),
+        ),
       )))

@@ -47,6 +47,7 @@ use Rattle.alp_cluster.specs.declared.server.Server.TheVariants.{Up, Fallen}
 use Rattle.alp_cluster.specs.declared.station.Station.{Station}
 use Rattle.alp_cluster.specs.declared.stations.Stations.{Stations}
 use Rattle.alp_cluster.proofs.LeftLemmas.{end_opened}
+use Rattle.alp_cluster.proofs.StationsLemmas.{set_there, set_elsewhere}
 use Rattle.alp_top.specs.Disks.{IsServerRight, notes_in}
 use Rattle.alp_top.specs.Volumes.{IsUnstopped, IsBare, IsLeftWith, IsLeftBy, IsLeftFallen, IsOpenedNew, IsOpenedOn, IsStored, IsCutShort, HasFailedOn, HasFilled, HasUsedUp, HasFailedAgain}
 use Rattle.alp_top.proofs.BeginLemmas.{holds_by}
@@ -70,18 +71,6 @@ low_or : (i n : ℕ) → (i < n) ⊎ (n ≤ i)
 low_or i zero = inr (omega arith)
 low_or zero (suc n) = inl (omega arith)
 low_or (suc i) (suc n) = elim (low_or i n) [ inl a ↦ inl (omega (arith, a)) | inr b ↦ inr (omega (arith, b)) ]
-
-set_there : {X : Type 0} (xs : List X) (i : ℕ) (y : X) → i < length xs → slice_get (slice_set xs i y) i ≡ Some y
-set_there [] i y less = absurd (omega (arith, less))
-set_there (x ∷ xs) zero y less = refl
-set_there (x ∷ xs) (suc i) y less = set_there xs i y (omega (arith, less))
-
-set_elsewhere : {X : Type 0} (xs : List X) (i j : ℕ) (y : X) → j ≢ i → slice_get (slice_set xs i y) j ≡ slice_get xs j
-set_elsewhere [] i j y away = refl
-set_elsewhere (x ∷ xs) zero zero y away = absurd (away refl)
-set_elsewhere (x ∷ xs) zero (suc j) y away = refl
-set_elsewhere (x ∷ xs) (suc i) zero y away = refl
-set_elsewhere (x ∷ xs) (suc i) (suc j) y away = set_elsewhere xs i j y (λ e. away (ap suc e))
 
 -- ---- the servers, where a run came so far
 
@@ -291,7 +280,7 @@ module _ {V D T : Type 0} (G : VaultGhosts V) (g : Ghosts D) (tells : Bool) (tol
   abbrev r : Course
   r = course_of G last
 
-  gone : (n : ℕ) → IsOneOf (servers_said lines) n → IsGoneAt {T = T} G g tells lines before after first left (Err f) n
+  abbrev gone : (n : ℕ) → IsOneOf (servers_said lines) n → IsGoneAt {T = T} G g tells lines before after first left (Err f) n
   gone n here = (at n here).at
 
   opens_last : openings_of last ≡ openings_of first

@@ -53,10 +53,10 @@ pub record HasCome {V : Type 0} (G : Ghosts V) (lines : List NumberedLine) (last
   pub said : (k : ℕ) → HasSaid (state_at last) k (client_at clients k) (list_map item_of (own_in k turns))
   pub ran : Ran G hs last
 
-pub come_early : {V : Type 0} (G : Ghosts V) (lines : List NumberedLine) (f : RunFault) (left : Stations V) (vs : List (Vec Item Global)) (h : HasEndedEarly G (servers_said lines) lines f left vs) → HasCome G lines h.last
+abbrev pub come_early : {V : Type 0} (G : Ghosts V) (lines : List NumberedLine) (f : RunFault) (left : Stations V) (vs : List (Vec Item Global)) (h : HasEndedEarly G (servers_said lines) lines f left vs) → HasCome G lines h.last
 come_early G lines f left vs h = record { on = h.on; count = h.count; clients = h.clients; turns = h.turns; hs = h.hs; sent = h.sent; said = h.said; ran = h.ran }
 
-pub come_out : {V : Type 0} (G : Ghosts V) (lines : List NumberedLine) (last : Stations V) (vs : List (Vec Item Global)) (text : List ℕ) → HasPlayedOut G (servers_said lines) lines last vs text → HasCome G lines last
+abbrev pub come_out : {V : Type 0} (G : Ghosts V) (lines : List NumberedLine) (last : Stations V) (vs : List (Vec Item Global)) (text : List ℕ) → HasPlayedOut G (servers_said lines) lines last vs text → HasCome G lines last
 come_out G lines last vs text h = record { on = h.on; count = h.count; clients = h.played.clients; turns = h.turns; hs = h.hs; sent = played_sent (servers_said lines) lines h.turns h.hs h.played; said = h.said; ran = h.ran }
 
 module _ {V : Type 0} (G : Ghosts V) (lines : List NumberedLine) (last : Stations V) (h : HasCome G lines last) (told : TellAll (course_of G last)) (bare : (n : ℕ) → IsSeat (course_of G last) n → servers_said lines ≡ 1 → IsBare (seat_at (course_of G last) n).opening) where

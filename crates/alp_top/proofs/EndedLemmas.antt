@@ -1,4 +1,6 @@
 -- how a run came to a limit, whatever its bay tells
+use Rattle.std.specs.Prelude.{Vec}
+use Rattle.std.specs.Global.{Global}
 use Rattle.std.proofs.Common.{◌≡◌, ℕ, ◌+◌, ◌<◌, List, refl, ◌∙◌, arith}
 use Rattle.alp_base.specs.declared.faults.VaultFault.TheVariants as vault_fault
 use Rattle.alp_bay.specs.declared.bay.BayFault.{BayFault}
@@ -10,6 +12,7 @@ use Rattle.alp_cluster.specs.declared.fault.RunFault.TheVariants as run_fault
 use Rattle.alp_cluster.specs.declared.stations.Stations.{Stations}
 use Rattle.alp_course.specs.Courses.{IsOneOf}
 use Rattle.alp_disk.specs.declared.disk.Disk.{Ghosts}
+use Rattle.alp_journal.specs.declared.log.Item.{Item}
 use Rattle.alp_node.specs.declared.start.StartFault.TheVariants as start_fault
 use Rattle.alp_script.specs.Accepted.{servers_said}
 use Rattle.alp_script.specs.declared.numbered.NumberedLine.{NumberedLine}
