@@ -92,9 +92,9 @@ module _ {V D : Type 0} (G : VaultGhosts V) (g : Ghosts D) (tells : Bool) (told 
         c,
         short G g tells told lines before after first left f vs early at opens calm,
         left_but f at c s (HasFailedOn g lines c early.due s) (among f at s (failed_at f at 1 first_one).0) (λ n here other. others_left G g tells told lines before after first left f vs early at opens calm n here other) (λ n here is.
-        subst (λ (m : ℕ). HasFailedOn g lines c early.due m (at n here).at.taken (at n here).at.given) is
-        (let p = place G g tells told lines before after first left f vs early at opens calm n here in
-        failed_left G g tells told lines before after first left f vs early at opens calm n here (rose_for G g tells lines before after first left T f some (gone_in f at) n here ((failed_at f at n here).1 (sym is))) p (p.own is))),
+            subst (λ (m : ℕ). HasFailedOn g lines c early.due m (at n here).at.taken (at n here).at.given) is
+            (let p = place G g tells told lines before after first left f vs early at opens calm n here in
+            failed_left G g tells told lines before after first left f vs early at opens calm n here (rose_for G g tells lines before after first left T f some (gone_in f at) n here ((failed_at f at n here).1 (sym is))) p (p.own is))),
       ))
   fell_cause (run_fault.Start s (start_fault.Vault vault_fault.Failed)) early at calm =
       let f : RunFault = run_fault.Start s (start_fault.Vault vault_fault.Failed) in
@@ -103,12 +103,12 @@ module _ {V D : Type 0} (G : VaultGhosts V) (g : Ghosts D) (tells : Bool) (told 
         c,
         short G g tells told lines before after first left f vs early at opens calm,
         left_but f at c s (HasFailedAgain g lines c s) (among f at s (failed_at f at 1 first_one).0) (λ n here other. others_left G g tells told lines before after first left f vs early at opens calm n here other) (λ n here is.
-        subst (λ (m : ℕ). HasFailedAgain g lines c m (at n here).at.taken (at n here).at.given) is
-        (let p = place G g tells told lines before after first left f vs early at opens calm n here in
-        record {
-          fallen = fell_left G g tells told lines before after first left f vs early at opens calm n here p (start_fault.Vault vault_fault.Failed) (p.own is);
-          rose = rose_for G g tells lines before after first left T f some (gone_in f at) n here ((failed_at f at n here).1 (sym is));
-        })),
+            subst (λ (m : ℕ). HasFailedAgain g lines c m (at n here).at.taken (at n here).at.given) is
+            (let p = place G g tells told lines before after first left f vs early at opens calm n here in
+            record {
+              fallen = fell_left G g tells told lines before after first left f vs early at opens calm n here p (start_fault.Vault vault_fault.Failed) (p.own is);
+              rose = rose_for G g tells lines before after first left T f some (gone_in f at) n here ((failed_at f at n here).1 (sym is));
+            })),
       )))
   fell_cause (run_fault.Start s (start_fault.Vault vault_fault.OutOfMemory)) early at calm =
       let f : RunFault = run_fault.Start s (start_fault.Vault vault_fault.OutOfMemory) in
@@ -118,13 +118,13 @@ module _ {V D : Type 0} (G : VaultGhosts V) (g : Ghosts D) (tells : Bool) (told 
         s,
         short G g tells told lines before after first left f vs early at opens calm,
         left_but f at c s (HasUsedUp g lines c s) (among f at s (failed_at f at 1 first_one).0) (λ n here other. others_left G g tells told lines before after first left f vs early at opens calm n here other) (λ n here is.
-        subst (λ (m : ℕ). HasUsedUp g lines c m (at n here).at.taken (at n here).at.given) is
-        (let p = place G g tells told lines before after first left f vs early at opens calm n here in
-        record {
-          fallen = fell_left G g tells told lines before after first left f vs early at opens calm n here p (start_fault.Vault vault_fault.OutOfMemory) (p.own is);
-          unfailed = fell_count G g tells told lines before after first left f vs early at opens calm n here p (start_fault.Vault vault_fault.OutOfMemory) (p.own is) (λ h. h)
-              (λ none. (counted G g tells lines before after first left T f some (gone_in f at) none n here).0 (sym is));
-        })),
+            subst (λ (m : ℕ). HasUsedUp g lines c m (at n here).at.taken (at n here).at.given) is
+            (let p = place G g tells told lines before after first left f vs early at opens calm n here in
+            record {
+              fallen = fell_left G g tells told lines before after first left f vs early at opens calm n here p (start_fault.Vault vault_fault.OutOfMemory) (p.own is);
+              unfailed = fell_count G g tells told lines before after first left f vs early at opens calm n here p (start_fault.Vault vault_fault.OutOfMemory) (p.own is) (λ h. h)
+                  (λ none. (counted G g tells lines before after first left T f some (gone_in f at) none n here).0 (sym is));
+            })),
       ))))
   fell_cause (run_fault.Start s start_fault.EpochEnd) early at calm =
       let f : RunFault = run_fault.Start s start_fault.EpochEnd in
@@ -133,13 +133,13 @@ module _ {V D : Type 0} (G : VaultGhosts V) (g : Ghosts D) (tells : Bool) (told 
         c,
         short G g tells told lines before after first left f vs early at opens calm,
         left_but f at c s (HasUsedUp g lines c s) (among f at s (failed_at f at 1 first_one).0) (λ n here other. others_left G g tells told lines before after first left f vs early at opens calm n here other) (λ n here is.
-        subst (λ (m : ℕ). HasUsedUp g lines c m (at n here).at.taken (at n here).at.given) is
-        (let p = place G g tells told lines before after first left f vs early at opens calm n here in
-        record {
-          fallen = fell_left G g tells told lines before after first left f vs early at opens calm n here p start_fault.EpochEnd (p.own is);
-          unfailed = fell_count G g tells told lines before after first left f vs early at opens calm n here p start_fault.EpochEnd (p.own is) (λ h. h)
-              (λ none. (counted G g tells lines before after first left T f some (gone_in f at) none n here).0 (sym is));
-        })),
+            subst (λ (m : ℕ). HasUsedUp g lines c m (at n here).at.taken (at n here).at.given) is
+            (let p = place G g tells told lines before after first left f vs early at opens calm n here in
+            record {
+              fallen = fell_left G g tells told lines before after first left f vs early at opens calm n here p start_fault.EpochEnd (p.own is);
+              unfailed = fell_count G g tells told lines before after first left f vs early at opens calm n here p start_fault.EpochEnd (p.own is) (λ h. h)
+                  (λ none. (counted G g tells lines before after first left T f some (gone_in f at) none n here).0 (sym is));
+            })),
       )
   fell_cause (run_fault.Start s (start_fault.Vault vault_fault.Stopped)) early at calm =
       let f : RunFault = run_fault.Start s (start_fault.Vault vault_fault.Stopped) in
