@@ -220,7 +220,7 @@ module _ {V D : Type 0} (G : VaultGhosts V) (g : Ghosts D) (tells : Bool) (lines
       pub close_ended : IsTrue tells → (bay_before bay_after : ℕ) (vs : List (Vec Item Global)) (text : List ℕ) → HasPlayedOut G (servers_said lines) lines now vs text → openings_of now ≡ openings_of first → AreCalmSince G first now → IsLookFault f
           → HasRunCause g lines before after bay_before bay_after (played f)
       close_ended told bay_before bay_after vs text out opens calm only =
-          close_cause G g tells told lines before after first now vs text some (others_then closed.others told) out opens calm bay_before bay_after f only
+          close_cause {U = U} G g tells told lines before after first now vs text some (others_then closed.others told) out opens calm bay_before bay_after f only
           (λ n here. done_at G g tells lines before mid after h.nodes h.disks first now h.gathered.stations h.many h.begun h.others tt (Err f) gone closed n here)
 
     -- there was no memory for the report
