@@ -250,6 +250,7 @@ module _ {V D U : Type 0} (G : VaultGhosts V) (g : Ghosts D) (tells : Bool) (tol
           serial = h.serial;
           charged = h.charged;
           whole = h.whole;
+          order = h.order;
           shared = sharing (log_of G log) (proper_log G lines last vs text printed log rests rises out kept shows is all_told sound);
           kept = promises (log_of G log) (proper_log G lines last vs text printed log rests rises out kept shows is all_told sound) (told_clients G lines last vs text printed log rests rises out kept shows is all_told);
           counted = counted_for G lines log (faithful G lines last vs text printed log rests rises out kept shows is all_told) sound (shown_as shows);

@@ -23,6 +23,8 @@ use Rattle.alp_history.proofs.Merged.{history}
 use Rattle.alp_history.proofs.Agreed.{agreement}
 use Rattle.alp_history.proofs.AtRest.{settling}
 use Rattle.alp_history.proofs.EffectiveActs.{listing}
+use Rattle.alp_history.proofs.Latest.{latest-of-all}
+use Rattle.alp_history.proofs.LockEnds.{stamps_go_by_locks}
 use Rattle.alp_history.proofs.Wholes.{wholeness}
 use Rattle.alp_course.proofs.SeatLemmas.{of_seat}
 use Rattle.alp_course.specs.Resting.{AreSpelled}
@@ -57,7 +59,7 @@ use Rattle.alp_cluster.specs.declared.stations.Stations.{Stations}
 use Rattle.alp_top.specs.Anywhere.{IsPrintedOf, IsPlayedThrough}
 use Rattle.alp_top.specs.Commands.{shown_as}
 use Rattle.alp_top.specs.Endings.{AreCellsOf, IsHeldAt, IsLogAt, AreRestsOf, IsReportOf, shown_text}
-use Rattle.alp_top.specs.Headline.{IsOfScript, IsFaithful, IsSerial, IsCharged, AreDecidedWhole, AreAtRest}
+use Rattle.alp_top.specs.Headline.{IsOfScript, IsFaithful, IsSerial, IsCharged, AreDecidedWhole, AreInOrder, AreAtRest}
 use Rattle.alp_top.specs.Logs.{Log, ServerOfLog, openings, start_of, log_of, lists_of}
 use Rattle.alp_top.specs.Pairs.{AreMatched}
 use Rattle.alp_top.specs.Reports.{end_of, holding_in, files_text_of, owners_text_of, tallied_text, shown_lines, tallied_for}
@@ -91,6 +93,7 @@ pub record AreDecidedSo (log : logs.Log) : Type 0 where
   pub serial : IsSerial log
   pub charged : IsCharged log
   pub whole : AreDecidedWhole log
+  pub order : AreInOrder log
 
 module _ {V : Type 0} (G : Ghosts V) (servers : ℕ) where
   -- the log of a server that stands there, as the theorems read it
@@ -294,6 +297,7 @@ module _ {V : Type 0} (G : Ghosts V) (lines : List NumberedLine) (last : Station
           serial = record { replies = h.replies; files = h.files };
           charged = record { each = h.charged; last = h.charged_last };
           whole = record { whole = wholeness (log_of G log) p; listed = listing (log_of G log) p; agree = agreement (log_of G log) p };
+          order = (let (locks, turns, begins) = stamps_go_by_locks (log_of G log) p in record { locks = locks; turns = turns; begins = begins; latest = latest-of-all (log_of G log) p });
         }
 
     -- what clients sent and were handed is as their machines and the servers leave it
