@@ -25,17 +25,17 @@ use Rattle.alp_course.specs.Plays.{Due, sent_of, Plays, IsCut}
 use Rattle.alp_course.specs.Settles.{IsSettling, AreUp, AreTaken}
 use Rattle.alp_course.specs.Turns.{Turn, lists_in, own_in, sent_in, turns_text}
 use Rattle.alp_course.proofs.LanguageLemmas.{course_append}
+use Rattle.alp_course.proofs.MidwayLemmas.{first_midway, midway_on}
 use Rattle.alp_course.proofs.PlayLemmas.{Plays-push, sent_append, sent_in-append, plays_sent, begins_sent, settling_cut_sent, own_append}
 use Rattle.alp_course.proofs.TakenLemmas.{taken_all}
 use Rattle.alp_course.proofs.UpLemmas.{lifting_up, many_on}
 use Rattle.alp_cluster.specs.Clients.{States, come_in, session_of, HasSaid}
-use Rattle.alp_cluster.specs.Runs.{Ran, HasPlayed, HasPlayedOut, HasEndedEarly, IsSettledDown}
+use Rattle.alp_cluster.specs.Runs.{Ran, AreRested, HasPlayed, HasPlayedOut, HasEndedEarly, IsSettledDown}
 use Rattle.alp_cluster.specs.Station.{seat_of}
 use Rattle.alp_cluster.specs.Stations.{Go, Did, DidSome, course_of, state_at}
 use Rattle.alp_cluster.specs.Steps.{Adds, AddsSome}
 use Rattle.alp_cluster.specs.declared.fault.RunFault.{RunFault}
 use Rattle.alp_cluster.specs.declared.stations.Stations.{Stations}
-use Rattle.alp_cluster.proofs.CarryLemmas.{count_later}
 use Rattle.alp_cluster.proofs.DidLemmas.{passes_course}
 use Rattle.alp_cluster.proofs.LineLemmas.{said_goes}
 use Rattle.alp_cluster.proofs.RestAllLemmas.{rested_all}
@@ -161,6 +161,12 @@ module _ {V : Type 0} (G : Ghosts V) (servers : ℕ) (ls : List NumberedLine) (c
       let many : length (list_map (seat_of G) s.all.items) ≡ servers = length-map s.all.items (seat_of G) ∙ h.count in
       taken_all (course_of G s) (course_of G t) e.hs (subst (λ (n : ℕ). IsSettling n e.hs) (sym many) e.word) (passes_course G e.hs s t e.goes.passes)
 
+  -- and all are at rest
+  rested_then : (e : Did G (IsSettling servers) s t) → AreRested G t
+  rested_then e =
+      let many : length (list_map (seat_of G) s.all.items) ≡ servers = length-map s.all.items (seat_of G) ∙ h.count in
+      rested_all G t e.goes.later.on (course_of G s) e.hs (midway_on h.ran.first (course_of G s) h.happened (first_midway h.ran.first h.ran.is_first) h.ran.course) (subst (λ (n : ℕ). IsSettling n e.hs) (sym many) e.word) (passes_course G e.hs s t e.goes.passes)
+
   did_alone : Did G (IsSettling servers) s t → servers ≡ 1 → Did G (IsSettling 1) s t
   did_alone e one = subst (λ (n : ℕ). Did G (IsSettling n) s t) one e
 
@@ -170,7 +176,7 @@ module _ {V : Type 0} (G : Ghosts V) (servers : ℕ) (ls : List NumberedLine) (c
     count = count_more t e.hs e.goes;
     up = up_then e;
     taken = taken_then e;
-    rested = (let r = ran_more t e.hs e.goes in rested_all G t e.goes.later.on servers r.first (h.happened ++ e.hs) h.happened e.hs r.is_first r.course refl (count_more t e.hs e.goes) e.word);
+    rested = rested_then e;
     rests = λ one told. rested_alone G s t h.step.on (did_alone e one) (h.count ∙ one) told;
     turns = h.turns;
     hs = h.happened ++ e.hs;
@@ -191,7 +197,7 @@ settled_down G s t e =
     record {
       up = lifting_up (course_of G s) (course_of G t) e.hs word course;
       taken = taken_all (course_of G s) (course_of G t) e.hs word course;
-      rested = λ hs ran. rested_all G t e.goes.later.on (length s.all.items) ran.first (hs ++ e.hs) hs e.hs ran.is_first (course_append ran.first (course_of G s) (course_of G t) hs e.hs ran.course course) refl (count_later G s t e.goes.later) e.word;
+      rested = λ mid. rested_all G t e.goes.later.on (course_of G s) e.hs mid word course;
     }
 
 -- ---- the line at a place

@@ -16,6 +16,7 @@ use Rattle.alp_history.specs.Theorems.{IsSettled}
 use Rattle.alp_vault.specs.declared.vault.Vault.{Ghosts}
 use Rattle.alp_course.specs.Courses.{Course, Occurrence, seat_at, IsSeat, AreCourse, TellAll}
 use Rattle.alp_course.specs.Links.{log_of, IsFirst}
+use Rattle.alp_course.specs.Midway.{IsMidway}
 use Rattle.alp_course.specs.Plays.{Due, sent_of, IsCut, Plays, BeginsLine, ArePlayed}
 use Rattle.alp_course.specs.Resting.{AreSpelled}
 use Rattle.alp_course.specs.Settles.{IsSettling, AreUp, AreTaken}
@@ -78,12 +79,12 @@ AreRested G last =
     (handed : Handed) → TellAll (course_of G last) → AreSoundOpenings (log_of (course_of G last) handed) → ((n : ℕ) → IsSeat (course_of G last) n → AreSpelled (seat_at (course_of G last) n).opening)
     → (n : ℕ) → IsSeat (course_of G last) n → IsSettled (seat_at (course_of G last) n).stand.state
 
--- Behind a settling each server is up, nobody stops its disk, and no message to another one is left. In a run that is known from its first moment on
--- all are at rest.
+-- Behind a settling each server is up, nobody stops its disk, and no message to another one is left. Where it began with servers on their way, as those
+-- of a run are from its first moment on, all are at rest.
 pub record IsSettledDown {V : Type 0} (G : Ghosts V) (before after : Stations V) : Type 0 where
   pub up : AreUp (course_of G after)
   pub taken : AreTaken (course_of G after)
-  pub rested : (hs : List Occurrence) → Ran G hs before → AreRested G after
+  pub rested : IsMidway (course_of G before) → AreRested G after
 
 -- All lines were played on servers that did nothing before, and then the run was settled: each server is up, nobody stops its disk, no message
 -- to another one is left, and all are at rest. Where it is the only one, no transaction is live there, whatever it opened on.

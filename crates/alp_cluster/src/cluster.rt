@@ -148,7 +148,7 @@ impl<V: Vault> Cluster<V> {
 
     /// All comes to rest: nobody stops a disk any more, each server that is down starts again with pick 0, each transaction times out where
     /// it has an open part, and there are rounds of ticks and messages, one at least and eight at most. A fault ends it as it ends a line.
-    /// Else each server is up then, nobody stops its disk, no message is left, and in a run from its first moment on all are at rest.
+    /// Else each server is up then, nobody stops its disk, no message is left, and all are at rest where they were those of a run (`IsMidway`).
     pub fn settle(&mut self) -> Result<(), RunFault>
         requires on { AreOn V.Vault self.old.parties.stations }
         ensures gone { HaveGone V.Vault (Unit {0}) self.old.parties.stations self.new.parties.stations result }
