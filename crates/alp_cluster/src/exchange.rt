@@ -10,12 +10,13 @@ ghost use Rattle.alp_cluster.specs.Fills.{OnEnd};
 ghost use Rattle.alp_cluster.specs.Servers.{IsOn, HasGone, EndsStep};
 
 use crate::fault::RunFault;
+use crate::fits::reply_fits;
 use crate::step::step;
 use alp_base::{Bytes, OutOfMemory};
 use alp_files::{Call, Refusal, Reply};
 use alp_journal::{Event, Item, Mark, Sent};
 use alp_node::Node;
-use alp_rpc::{ReplyFrame, Request, decode_request, encode_reply, reply_fits};
+use alp_rpc::{ReplyFrame, Request, decode_request, encode_reply};
 use alp_vault::Vault;
 use std::alloc::Global;
 

@@ -4,7 +4,6 @@
 //! that value. The forms stand in `specs/`, a line for each tag.
 #![tactic(auto)]
 
-mod fits;
 mod frame;
 mod head;
 mod laws;
@@ -17,7 +16,6 @@ mod write_call;
 mod write_change;
 mod write_reply;
 
-pub use fits::reply_fits;
 pub use frame::{REPLY_MARK, REQUEST_MARK, ReplyFrame, Request};
 pub use laws::frames_are_forms;
 pub use reply::{decode_reply, encode_reply};

@@ -12,9 +12,9 @@ ghost use Rattle.alp_rpc.specs.Endings.{ended};
 ghost use Rattle.alp_rpc.specs.Frames.{head, reply_frame, IsHead, IsSendableReply};
 ghost use Rattle.alp_rpc.specs.Replies.{owner_field, reply as reply_form, IsSendable, IsSendableEnding};
 
-use crate::ReplyFrame;
 use alp_base::{AccessList, FileId, Name, OwnerRecord, PageList, PageRef, Props, Stamp, TransId};
 use alp_files::{Cause, Ended, ListName, Refusal, Reply, What, Why};
+use alp_rpc::ReplyFrame;
 
 // ---- numbers
 
@@ -139,7 +139,7 @@ fn props_fit(of: &Props)
     list_fits(&of.modify);
 }
 
-#[tactic(auto, unfolding(crate::specs::Replies::owner_field))]
+#[tactic(auto, unfolding(alp_rpc::specs::Replies::owner_field))]
 fn owner_fits(owner: &OwnerRecord)
     ensures { owner_field.Fits owner.now }
 {
@@ -247,7 +247,7 @@ fn refusal_fits(given: Refusal)
 
 // ---- replies
 
-#[tactic(auto, unfolding(crate::specs::Endings::ended))]
+#[tactic(auto, unfolding(alp_rpc::specs::Endings::ended))]
 fn ending_fits(how: Ended)
     requires { IsSendableEnding how }
     ensures { ended.Fits how }
@@ -260,7 +260,7 @@ fn ending_fits(how: Ended)
     }
 }
 
-#[tactic(auto, unfolding(crate::specs::Replies::reply))]
+#[tactic(auto, unfolding(alp_rpc::specs::Replies::reply))]
 fn answer_fits(given: &Reply)
     requires { IsSendable given.now }
     ensures { reply_form.Fits given.now }
@@ -284,7 +284,7 @@ fn answer_fits(given: &Reply)
     }
 }
 
-#[tactic(auto, unfolding(crate::specs::Frames::head, alp_fields::specs::Forms::u8))]
+#[tactic(auto, unfolding(alp_rpc::specs::Frames::head, alp_fields::specs::Forms::u8))]
 fn head_fits(client: u8, epoch: u32, number: u32)
     requires { IsHead client number }
     ensures { head.Fits (client, (epoch, number)) }
@@ -294,8 +294,8 @@ fn head_fits(client: u8, epoch: u32, number: u32)
 }
 
 /// A reply that may be sent has a frame.
-#[tactic(auto, unfolding(crate::specs::Frames::reply_frame))]
-pub fn reply_fits(reply: &ReplyFrame)
+#[tactic(auto, unfolding(alp_rpc::specs::Frames::reply_frame))]
+pub(crate) fn reply_fits(reply: &ReplyFrame)
     requires { IsSendableReply reply.now }
     ensures { reply_frame.Fits reply.now }
 {
