@@ -10,9 +10,9 @@ mod run;
 mod start;
 mod status;
 mod tally;
-mod tell;
+mod telling;
 mod write_all;
 
 pub use run::run_alpine;
 pub use status::{Kept, Status, status_text};
-pub use tell::tell;
+pub use telling::tell;
