@@ -422,7 +422,7 @@ module _ {V D T : Type 0} (G : VaultGhosts V) (g : Ghosts D) (tells : Bool) (tol
     | inr other ↦ was_tells n here p [] (p.other other)
   ]
 
-  all_told : TellAll r
+  pub all_told : TellAll r
   all_told = tell_all G last (λ i s there.
       let here = one_here G g tells told lines before after first last left (Err f) early.on early.count opens_last gone i s there in
       let p = place (i + 1) here in
@@ -430,7 +430,7 @@ module _ {V D T : Type 0} (G : VaultGhosts V) (g : Ghosts D) (tells : Bool) (tol
       let one : p.station ≡ s = same_there (slice_get last.all.items i) p.station s (ap (slice_get last.all.items) (sym minus) ∙ p.there) there in
       subst (λ (z : Station V). IsTrue (seat_of G z).tells) one (subst (λ o. IsTrue (seat_for G p.station.is_fused p.station.ranks.items o).tells) (sym p.manned.keeps.stands) (place_tells (i + 1) here p)))
 
-  all_bare : (n : ℕ) → IsSeat r n → servers_said lines ≡ 1 → IsBare (seat_at r n).opening
+  pub all_bare : (n : ℕ) → IsSeat r n → servers_said lines ≡ 1 → IsBare (seat_at r n).opening
   all_bare n seat alone =
       let here = one_of_seat n seat in
       let p = place n here in
