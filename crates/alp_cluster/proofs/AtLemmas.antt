@@ -1,6 +1,6 @@
 -- The server at a place of a run.
 use Rattle.std.specs.Prelude.{slice_get, Some, Result, Ok, Err, OnOk}
-use Rattle.std.proofs.Common.{◌≡◌, ℕ, ◌-◌, ◌<◌, ◌≤◌, List, length, get_or, sym, ◌∙◌, ap, arith}
+use Rattle.std.proofs.Common.{◌≡◌, ℕ, ◌-◌, ◌<◌, ◌≤◌, length, get_or, sym, ◌∙◌, ap, arith}
 use Rattle.alp_node.specs.NodeStates.{NodeState}
 use Rattle.alp_vault.specs.declared.vault.Vault.{Ghosts}
 use Rattle.alp_cluster.specs.Station.{standing, Keeps}

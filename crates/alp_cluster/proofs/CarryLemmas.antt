@@ -1,8 +1,8 @@
 -- A message comes from one server of a run to another.
-use Rattle.std.specs.Prelude.{◌≢◌, ◌&&◌, ◌||◌, not, Bool, true, false, map as list_map, slice_get, slice_set, Option, None, Some, is_some, IsSome, Vec}
+use Rattle.std.specs.Prelude.{◌≢◌, ◌&&◌, ◌||◌, Bool, true, false, map as list_map, slice_get, slice_set, Option, None, Some, IsSome, Vec}
 use Rattle.std.specs.Global.{Global}
-use Rattle.std.proofs.Common.{◌≡◌, ℕ, ◌+◌, ◌-◌, ◌<◌, ◌≤◌, List, [], ◌∷◌, ◌++◌, length, zero, suc, get_or, refl, sym, ◌∙◌, ap, subst, arith}
-use Rattle.std.proofs.lemmas.List.{append_assoc, append-nil, length-map}
+use Rattle.std.proofs.Common.{◌≡◌, ℕ, ◌+◌, ◌-◌, ◌<◌, ◌≤◌, List, [], ◌∷◌, ◌++◌, length, refl, sym, ◌∙◌, ap, subst, arith}
+use Rattle.std.proofs.lemmas.List.{append_assoc, length-map}
 use Rattle.alp_journal.specs.Answered.{entries_limit}
 use Rattle.alp_journal.specs.declared.event.Event.TheVariants as event
 use Rattle.alp_journal.specs.declared.message.Message.{Message}
@@ -10,19 +10,17 @@ use Rattle.alp_posts.specs.Messages.{messages_to}
 use Rattle.alp_posts.specs.Post.{Post, took}
 use Rattle.alp_posts.specs.Posts.{post_at, with_post}
 use Rattle.alp_vault.specs.declared.vault.Vault.{Ghosts}
-use Rattle.alp_course.specs.Courses.{Course, Seat, Occurrence, looks, brings, loses, repeats, last_rank, seat_at, next_message, is_waiting, AreTwo, Arrives, IsBrought, IsLost, IsRepeated, Occurs}
+use Rattle.alp_course.specs.Courses.{Course, Occurrence, looks, brings, loses, repeats, last_rank, seat_at, next_message, is_waiting, AreTwo, Arrives, IsBrought, IsLost, IsRepeated}
 use Rattle.alp_course.specs.Languages.{Just}
 use Rattle.alp_course.specs.Carries.{ArePairCarried, none_waits, one_waits, brings_some}
-use Rattle.alp_course.specs.Plays.{Due, IsCut, to_come}
+use Rattle.alp_course.specs.Plays.{to_come}
 use Rattle.alp_course.proofs.LanguageLemmas.{cut_just}
-use Rattle.alp_course.proofs.RankLemmas.{get_below}
 use Rattle.alp_course.proofs.WordLemmas.{brings_append}
-use Rattle.alp_cluster.specs.Come.{Come}
 use Rattle.alp_cluster.specs.Fills.{IsEndFor, seen_in}
 use Rattle.alp_cluster.specs.Goes.{opening_in}
 use Rattle.alp_cluster.specs.Messages.{IfOr, taking_at, AreApart, HasArrived, FailsFor, EndsEventAt, DidSay}
 use Rattle.alp_cluster.specs.Station.{seat_of, IsLeftFailed}
-use Rattle.alp_cluster.specs.Stations.{AreOn, IsOneOf, AreLater, IsReachedBy, IsNoFurther, EndsFor, Go, Did, DidSome, IsCalmSince, unshown, course_of, openings_of, server_in, state_for}
+use Rattle.alp_cluster.specs.Stations.{AreOn, IsOneOf, AreLater, IsReachedBy, IsNoFurther, EndsFor, Go, Did, DidSome, IsCalmSince, unshown, course_of, server_in, state_for}
 use Rattle.alp_cluster.specs.declared.fault.RunFault.{RunFault}
 use Rattle.alp_cluster.specs.declared.fault.RunFault.TheVariants as fault
 use Rattle.alp_cluster.specs.declared.station.Station.{Station}

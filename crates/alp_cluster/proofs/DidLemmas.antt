@@ -1,18 +1,16 @@
 -- What occurs at the servers of a run, one thing behind the other.
-use Rattle.std.specs.Prelude.{slice_get, Option, None, Some, Result, Ok, Err}
+use Rattle.std.specs.Prelude.{slice_get, Option, Some, Result, Ok, Err}
 use Rattle.std.proofs.Common.{◌≡◌, ℕ, ◌+◌, ◌≤◌, List, [], ◌∷◌, ◌++◌, length, refl, sym, ◌∙◌, ap, subst, arith}
-use Rattle.std.proofs.lemmas.List.{append-nil, append_assoc}
 use Rattle.alp_node.specs.NodeStates.{NodeState}
 use Rattle.alp_vault.specs.declared.vault.Vault.{Ghosts}
-use Rattle.alp_course.specs.Courses.{Course, Occurrence, at, Occurs, AreCourse}
+use Rattle.alp_course.specs.Courses.{Occurrence, Occurs, AreCourse}
 use Rattle.alp_course.specs.Languages.{Language, Nothing, Just, Then, Each}
-use Rattle.alp_course.specs.Plays.{Due, to_come, IsCut}
+use Rattle.alp_course.specs.Plays.{to_come}
 use Rattle.alp_course.proofs.LanguageLemmas.{Has, then_word, cut_first, cut_second, cut_map, cut_just, each_cut, each_next}
-use Rattle.alp_cluster.specs.Come.{Come}
 use Rattle.alp_cluster.specs.Messages.{DidSay}
 use Rattle.alp_cluster.specs.Servers.{HasGoneBy}
 use Rattle.alp_cluster.specs.Station.{standing, HasVault}
-use Rattle.alp_cluster.specs.Stations.{AreOn, AreLater, Passes, Crashes, Go, Did, DidSome, EndsFor, IsManned, IsOfRun, LeavesOf, HaveGone, IsNoFurther, AreCalmSince, course_of, openings_of, state_at, IsReachedBy}
+use Rattle.alp_cluster.specs.Stations.{AreOn, AreLater, Passes, Crashes, Go, Did, DidSome, IsManned, IsOfRun, LeavesOf, HaveGone, IsNoFurther, AreCalmSince, course_of}
 use Rattle.alp_cluster.specs.declared.fault.RunFault.{RunFault}
 use Rattle.alp_cluster.specs.declared.fault.RunFault.TheVariants as fault
 use Rattle.alp_cluster.specs.declared.server.Server.{Server}

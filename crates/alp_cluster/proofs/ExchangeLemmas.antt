@@ -35,12 +35,11 @@ use Rattle.alp_session.specs.Crowd.{Crowd}
 use Rattle.alp_session.specs.Crowds.{client_at, with_client, request_next, asks, hears}
 use Rattle.alp_session.proofs.CrowdLemmas.{at_same, at_other, as_many}
 use Rattle.alp_node.specs.NodeStates.{NodeState}
-use Rattle.alp_node.specs.declared.server_state.ServerState.{ServerState}
 use Rattle.alp_vault.specs.declared.vault.Vault.{Ghosts}
 use Rattle.alp_cluster.specs.Exchanges.{event_of, place_for, IsAsked, IsTurnedAway, IsHanded, TellsReply}
 use Rattle.alp_cluster.specs.Goes.{IsLater, GoesBy}
 use Rattle.alp_cluster.specs.Handings.{item_made, AreHanded}
-use Rattle.alp_cluster.specs.Stations.{AreLater, IsReachedBy, state_at}
+use Rattle.alp_cluster.specs.Stations.{AreLater, state_at}
 use Rattle.alp_cluster.specs.declared.stations.Stations.{Stations}
 use Rattle.alp_course.specs.Happens.{sent_it, Takes, Happens, handed_for}
 use Rattle.alp_cluster.specs.Servers.{IsOn, IsFree, stand_of}

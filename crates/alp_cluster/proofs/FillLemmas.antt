@@ -11,10 +11,10 @@ use Rattle.alp_node.specs.declared.opened.Opened.{Opened}
 use Rattle.alp_node.specs.declared.start.StartFault.{StartFault}
 use Rattle.alp_node.specs.declared.start.StartFault.TheVariants as start_fault
 use Rattle.alp_vault.specs.declared.vault.Vault.{Ghosts}
-use Rattle.alp_course.specs.Courses.{Course, Seat, Occurrence, at, seat_at}
-use Rattle.alp_course.specs.Happens.{Happening, Stand, restarted}
+use Rattle.alp_course.specs.Courses.{Seat, at, seat_at}
+use Rattle.alp_course.specs.Happens.{Happening, restarted}
 use Rattle.alp_course.specs.Languages.{Just}
-use Rattle.alp_course.specs.Plays.{Due, to_come}
+use Rattle.alp_course.specs.Plays.{to_come}
 use Rattle.alp_course.proofs.LanguageLemmas.{cut_just}
 use Rattle.alp_course.proofs.RankLemmas.{get_below}
 use Rattle.alp_cluster.specs.Fills.{IsOfEvent, IsRestartAt, IsEndFor}
@@ -22,7 +22,7 @@ use Rattle.alp_cluster.specs.Goes.{opening_in}
 use Rattle.alp_cluster.specs.Messages.{HasNoRoomFor, FailsFor, EndsEventAt}
 use Rattle.alp_cluster.specs.Servers.{AreCalm, HasNoRoom, IsUntouched}
 use Rattle.alp_cluster.specs.Station.{standing, seat_for, seat_of, IsStill, IsLeftUntouched, IsLeftFailed, EndsEvent, EndsHere, EndsRestart}
-use Rattle.alp_cluster.specs.Stations.{AreOn, IsOneOf, IsUnchanged, IsStillThere, IsNoFurther, IsCalmSince, AreCalmSince, FailsAt, EndsAt, EndsFor, DidSome, unshown, course_of, openings_of, servers_of, server_in, server_at}
+use Rattle.alp_cluster.specs.Stations.{AreOn, IsOneOf, IsUnchanged, IsStillThere, IsNoFurther, IsCalmSince, AreCalmSince, EndsFor, DidSome, unshown, course_of, server_in, server_at}
 use Rattle.alp_cluster.specs.declared.fault.RunFault.{RunFault}
 use Rattle.alp_cluster.specs.declared.fault.RunFault.TheVariants as fault
 use Rattle.alp_cluster.specs.declared.server.Server.{Server}

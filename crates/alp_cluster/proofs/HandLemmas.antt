@@ -1,5 +1,5 @@
 -- A server of a run is handed a frame, or a message comes to it.
-use Rattle.std.specs.Prelude.{◌≢◌, Bool, map as list_map, slice_get, slice_set, Option, None, Some, IsSome}
+use Rattle.std.specs.Prelude.{◌≢◌, map as list_map, slice_get, slice_set, Option, None, Some, IsSome}
 use Rattle.std.proofs.Common.{◌≡◌, ℕ, ◌-◌, ◌≤◌, List, [], ◌∷◌, length, refl, sym, ◌∙◌, ap, subst, arith}
 use Rattle.alp_fields.specs.Forms.{whole}
 use Rattle.alp_journal.specs.declared.entry.Entry.{Entry}
@@ -20,7 +20,7 @@ use Rattle.alp_cluster.specs.Handings.{item_made, AreHanded}
 use Rattle.alp_cluster.specs.Messages.{HasArrived, FailsFor, EndsEventAt, EndsFrameAt}
 use Rattle.alp_cluster.specs.Servers.{IsUntouched, stand_of}
 use Rattle.alp_cluster.specs.Station.{standing, Keeps, WentBy, WasHanded, EndsEvent, EndsFrame}
-use Rattle.alp_cluster.specs.Stations.{AreOn, IsManned, IsOneOf, IsNoFurther, Go, state_in, state_for, state_at, unshown}
+use Rattle.alp_cluster.specs.Stations.{AreOn, IsManned, IsOneOf, IsNoFurther, Go, state_in, state_for, unshown}
 use Rattle.alp_cluster.specs.Steps.{ExchangesNone}
 use Rattle.alp_cluster.specs.declared.exchange.Handed.{Handed}
 use Rattle.alp_cluster.specs.declared.fault.RunFault.{RunFault}
@@ -31,7 +31,7 @@ use Rattle.alp_cluster.proofs.DidLemmas.{go_one}
 use Rattle.alp_cluster.proofs.ExchangeLemmas.{IsServed, handed_served}
 use Rattle.alp_cluster.proofs.FillLemmas.{no_further, ends_here}
 use Rattle.alp_cluster.proofs.StationLemmas.{few_taken, went, fused_goes}
-use Rattle.alp_cluster.proofs.StationsLemmas.{its, state_is, place_number, now_there, others_there, later_then, at_then}
+use Rattle.alp_cluster.proofs.StationsLemmas.{its, state_is, now_there, others_there, later_then, at_then}
 
 module _ {V : Type 0} (G : Ghosts V) (s after : Stations V) (on : AreOn G s) (server : ℕ) (here : IsOneOf s server) (x y : Station V) (there : slice_get s.all.items (server - 1) ≡ Some x) (items : after.all.items ≡ slice_set s.all.items (server - 1) y) (posts : after.posts ≡ s.posts) (n : NodeState V) (stood : x.server ≡ standing n) where
   mine : IsManned G (length s.all.items) server x

@@ -1,5 +1,5 @@
 -- whole lines, and what they leave of clients, lists and servers
-use Rattle.std.specs.Prelude.{◌==◌, nat_le, true, false, Bool, cond, Option, None, Some, IsSome, map as list_map, slice_set, slice_index_or, Vec}
+use Rattle.std.specs.Prelude.{◌==◌, true, false, Bool, cond, Option, None, Some, map as list_map, slice_set, slice_index_or, Vec}
 use Rattle.std.specs.Global.{Global}
 use Rattle.std.proofs.Common.{inl, inr, ◌⊎◌, ◌<◌, ◌≡◌, ◌≢◌, ℕ, zero, suc, ◌≤◌, ◌+◌, ◌-◌, ◌^◌, List, [], ◌∷◌, ◌++◌, length, take, drop, refl, sym, ◌∙◌, ap, subst, arith, append_assoc, append-nil, length-append}
 use Rattle.std.proofs.lemmas.Bool.Decides.{eqb_tells, leb_tells}
@@ -32,9 +32,9 @@ use Rattle.alp_session.proofs.CrowdLemmas.{at_same, at_other, as_many}
 use Rattle.alp_vault.specs.declared.vault.Vault.{Ghosts}
 use Rattle.alp_course.specs.Courses.{Occurrence, at}
 use Rattle.alp_course.specs.Happens.{sent_it, timed_out}
-use Rattle.alp_course.specs.Languages.{Just, Then}
+use Rattle.alp_course.specs.Languages.{Just}
 use Rattle.alp_course.specs.Carries.{CarriesIf}
-use Rattle.alp_course.specs.Plays.{Due, to_send, to_come, untold, IsCut, CarriesAt, Sends, SendsMore, timeouts_due, PlaysOwn, PlaysLine, BeginsOwn}
+use Rattle.alp_course.specs.Plays.{Due, to_send, to_come, untold, IsCut, CarriesAt, Sends, SendsMore, timeouts_due, PlaysOwn, BeginsOwn}
 use Rattle.alp_course.specs.Turns.{Turn, lists_in, own_in, turns_text}
 use Rattle.alp_course.proofs.LanguageLemmas.{then_word}
 use Rattle.alp_cluster.specs.Clients.{States, IsInStep, InStep, HasSaid}

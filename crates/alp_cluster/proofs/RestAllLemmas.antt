@@ -1,7 +1,6 @@
 -- Behind a run that was settled all servers are at rest.
-use Rattle.std.specs.Prelude.{IsTrue, map as list_map, slice_get}
-use Rattle.std.specs.List.{AllByRecursion}
-use Rattle.std.proofs.Common.{inl, inr, ◌≡◌, ℕ, suc, ◌+◌, ◌-◌, ◌<◌, ◌≤◌, List, [], ◌∷◌, ◌++◌, length, get_or, refl, sym, ◌∙◌, ap, subst, arith}
+use Rattle.std.specs.Prelude.{IsTrue, map as list_map}
+use Rattle.std.proofs.Common.{inl, inr, ◌≡◌, ℕ, suc, ◌+◌, ◌-◌, ◌<◌, ◌≤◌, List, [], ◌∷◌, ◌++◌, length, get_or, sym, ◌∙◌, ap, subst, arith}
 use Rattle.std.proofs.lemmas.List.{length-map}
 use Rattle.alp_journal.specs.Account.{Account, state_of as account_state, Stands}
 use Rattle.alp_journal.specs.Answered.{IsAnswered}
@@ -9,14 +8,13 @@ use Rattle.alp_journal.specs.Laws.{IsLawful}
 use Rattle.alp_history.specs.Items.{Handed}
 use Rattle.alp_history.specs.Log as logs
 use Rattle.alp_history.specs.Log.{IsIn}
-use Rattle.alp_history.specs.Theorems.{IsProper, IsSettled}
 use Rattle.alp_node.specs.NodeStates.{NodeState}
 use Rattle.alp_node.specs.Nodes.{IsRight, start_in}
 use Rattle.alp_vault.specs.declared.vault.Vault.{Ghosts}
-use Rattle.alp_course.specs.Courses.{Course, Seat, seat_at, no_seat, IsSeat, Occurrence, AreCourse, TellAll}
+use Rattle.alp_course.specs.Courses.{Course, Seat, seat_at, no_seat, IsSeat, Occurrence, AreCourse}
 use Rattle.alp_course.specs.Links.{server_log, log_of, AreNumbered}
 use Rattle.alp_course.specs.Midway.{IsMidway}
-use Rattle.alp_course.specs.Resting.{AreSpelled, IsWellRun}
+use Rattle.alp_course.specs.Resting.{IsWellRun}
 use Rattle.alp_course.specs.Settles.{IsSettling}
 use Rattle.alp_course.proofs.CalmRest.{each_tells}
 use Rattle.alp_course.proofs.LinkLemmas.{linked}
@@ -26,7 +24,6 @@ use Rattle.alp_course.proofs.SeatLemmas.{IsOf, its as its_log, nobodys, of_cours
 use Rattle.alp_cluster.specs.Runs.{AreRested}
 use Rattle.alp_cluster.specs.Station.{standing, seat_for, seat_of}
 use Rattle.alp_cluster.specs.Stations.{AreOn, IsManned, IsOneOf, course_of}
-use Rattle.alp_cluster.specs.declared.station.Station.{Station}
 use Rattle.alp_cluster.specs.declared.stations.Stations.{Stations}
 use Rattle.alp_cluster.proofs.StationsLemmas.{its, seat_stands}
 use Rattle.alp_cluster.proofs.SweepLemmas.{is_there}

@@ -1,14 +1,13 @@
 -- A run that goes on by one line, and what it is in the end.
-use Rattle.std.specs.Prelude.{false, map as list_map, Option, None, Some, IfSome, Vec, replicate}
+use Rattle.std.specs.Prelude.{map as list_map, None, IfSome, Vec, replicate}
 use Rattle.std.specs.Global.{Global}
 use Rattle.std.specs.List.{AllByRecursion}
 use Rattle.std.specs.FinMap.{get-empty}
 use Rattle.std.specs.Ordering.{nat_cmp}
 use Rattle.std.specs.Option.{option_map}
 use Rattle.std.proofs.Common.{inl, inr, ◌≡◌, ℕ, zero, suc, ◌+◌, ◌*◌, ◌<◌, ◌≤◌, ◌^◌, List, [], ◌∷◌, ◌++◌, length, take, get_or, refl, sym, ◌∙◌, ap, subst, arith, append-nil, length-append}
-use Rattle.std.proofs.lemmas.List.{take_more, map-append, length-replicate, length-map}
+use Rattle.std.proofs.lemmas.List.{take_more, map-append, length-map}
 use Rattle.std.proofs.lemmas.Grind.{flat_map-append}
-use Rattle.alp_base.specs.declared.ids.TransId.{TransId}
 use Rattle.alp_journal.specs.declared.log.Item.{Item}
 use Rattle.alp_report.specs.Reports.{line_text}
 use Rattle.alp_history.specs.RunLogs.{item_of}
@@ -20,8 +19,7 @@ use Rattle.alp_session.specs.declared.client.Client.{Client}
 use Rattle.alp_session.specs.declared.frames.Addressed.{Addressed}
 use Rattle.alp_session.specs.declared.frames.Frames.{Frames}
 use Rattle.alp_vault.specs.declared.vault.Vault.{Ghosts}
-use Rattle.alp_course.specs.Courses.{Course, Occurrence, AreCourse}
-use Rattle.alp_course.specs.Plays.{Due, sent_of, Plays, IsCut}
+use Rattle.alp_course.specs.Courses.{Occurrence, AreCourse}
 use Rattle.alp_course.specs.Settles.{IsSettling, AreUp, AreTaken}
 use Rattle.alp_course.specs.Turns.{Turn, lists_in, own_in, sent_in, turns_text}
 use Rattle.alp_course.proofs.LanguageLemmas.{course_append}

@@ -1,6 +1,6 @@
 -- What a client still sends for its line, behind messages that are carried before.
 use Rattle.std.specs.Prelude.{◌≢◌, Option, None, Some}
-use Rattle.std.proofs.Common.{inl, inr, ◌≡◌, ℕ, ◌+◌, ◌<◌, ◌≤◌, List, [], ◌∷◌, ◌++◌, length, append-nil, refl, sym, ◌∙◌, ap, subst, arith}
+use Rattle.std.proofs.Common.{inl, inr, ◌≡◌, ℕ, ◌+◌, ◌<◌, ◌≤◌, List, [], ◌∷◌, ◌++◌, length, append-nil, sym, ◌∙◌, subst, arith}
 use Rattle.alp_base.specs.declared.ids.TransId.{TransId}
 use Rattle.alp_journal.specs.declared.log.Item.{Item}
 use Rattle.alp_script.specs.declared.numbered.NumberedLine.{NumberedLine}
@@ -8,7 +8,6 @@ use Rattle.alp_session.specs.Ahead.{ahead, IsOnItsWay}
 use Rattle.alp_session.specs.Frames.{IsReady}
 use Rattle.alp_session.specs.Crowd.{Crowd}
 use Rattle.alp_session.specs.Crowds.{client_at, asks, times_out}
-use Rattle.alp_session.specs.declared.client.Client.{Client}
 use Rattle.alp_session.specs.declared.frames.Addressed.{Addressed}
 use Rattle.alp_session.specs.declared.waiting.Next.{Next}
 use Rattle.alp_vault.specs.declared.vault.Vault.{Ghosts}
@@ -16,7 +15,7 @@ use Rattle.alp_course.specs.Courses.{Occurrence}
 use Rattle.alp_course.specs.Languages.{Just}
 use Rattle.alp_course.specs.Plays.{Due, IsCut, CarriesAt, timeouts_due}
 use Rattle.alp_cluster.specs.Clients.{InStep}
-use Rattle.alp_cluster.specs.Stations.{AreLater, Did, DidSome}
+use Rattle.alp_cluster.specs.Stations.{Did, DidSome}
 use Rattle.alp_cluster.specs.Steps.{IsOwnNext, Exchanged, ExchangesNone, SendsNot, DidLine, DidOfLine}
 use Rattle.alp_cluster.specs.declared.fault.RunFault.{RunFault}
 use Rattle.alp_cluster.specs.declared.fault.RunFault.TheVariants as fault

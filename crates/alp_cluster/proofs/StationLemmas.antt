@@ -10,21 +10,20 @@ use Rattle.alp_node.specs.NodeStates.{NodeState}
 use Rattle.alp_node.specs.Served.{IsServed}
 use Rattle.alp_vault.specs.declared.vault.Vault.{Ghosts}
 use Rattle.alp_course.specs.Courses.{last_rank, ranks_from, ranks_with}
-use Rattle.alp_course.specs.Happens.{Stand, Happening, ComesTo, Takes, Happens, stop_set, restarted, lifts}
+use Rattle.alp_course.specs.Happens.{Stand, ComesTo, Takes, Happens, stop_set, restarted, lifts}
 use Rattle.alp_course.proofs.RankLemmas.{none_with}
 use Rattle.alp_rpc.specs.declared.frame.Request.{Request}
 use Rattle.alp_cluster.specs.Exchanges.{EndsHanding, event_of}
 use Rattle.alp_cluster.specs.Goes.{GoesBy}
-use Rattle.alp_cluster.specs.Servers.{IsOn, IsFree, HasGone, HasNoRoom, IsUntouched, HasFailedIn, EndsStep, HasComeTo, HasStopSet, IsLifted, StartsAgain, StaysDown, stand_of}
-use Rattle.alp_cluster.specs.Station.{standing, HasVault, Keeps, WentBy, WasHanded, LeavesVault, IsStill, IsLeftUntouched, IsLeftFailed, EndsEvent, EndsFrame}
+use Rattle.alp_cluster.specs.Servers.{IsFree, HasGone, HasNoRoom, IsUntouched, HasFailedIn, EndsStep, HasComeTo, HasStopSet, IsLifted, StartsAgain, stand_of}
+use Rattle.alp_cluster.specs.Station.{standing, HasVault, Keeps, WentBy, LeavesVault, IsStill, IsLeftUntouched, IsLeftFailed, EndsEvent, EndsFrame}
 use Rattle.alp_cluster.specs.declared.fault.RunFault.{RunFault}
 use Rattle.alp_cluster.specs.declared.fault.RunFault.TheVariants as fault
 use Rattle.alp_cluster.specs.declared.server.Server.{Server}
-use Rattle.alp_cluster.specs.declared.server.Server.TheVariants.{Fallen}
 use Rattle.alp_cluster.specs.declared.station.Station.{Station}
 use Rattle.alp_cluster.proofs.GoLemmas.{event_goes}
 use Rattle.alp_cluster.proofs.GoneLemmas.{one_nothing}
-use Rattle.alp_cluster.proofs.RestartLemmas.{again_goes, again_gone, stays_gone, lifted_goes, lifted_gone, stop_goes, stop_gone}
+use Rattle.alp_cluster.proofs.RestartLemmas.{again_goes, again_gone, lifted_goes, stop_goes}
 use Rattle.alp_cluster.proofs.TakenLemmas.{untouched}
 
 pub last_index : (xs : List ℕ) → slice_index_or xs (length xs - 1) 0 ≡ last_rank xs

@@ -1,27 +1,25 @@
 -- One of the servers of a run goes on.
-use Rattle.std.specs.Prelude.{◌≢◌, ◌⊎◌, Bool, map as list_map, slice_get, slice_set, Option, None, Some, IfSome, Result, Ok, Err}
+use Rattle.std.specs.Prelude.{◌≢◌, ◌⊎◌, map as list_map, slice_get, slice_set, Option, None, Some, IfSome, Result, Ok, Err}
 use Rattle.std.proofs.Common.{inl, inr, ◌≡◌, ℕ, zero, suc, ◌+◌, ◌-◌, ◌<◌, ◌≤◌, List, [], ◌∷◌, ◌++◌, length, get_or, refl, sym, ◌∙◌, ap, subst, arith}
 use Rattle.std.proofs.lemmas.List.{append-nil, length-append, length-set, length-map, map-set, set-get_or, get_or-map, get_or-set_same, get_or-set_other}
 use Rattle.std.proofs.lemmas.Bool.{cases_eq}
 use Rattle.alp_journal.specs.declared.entry.Entry.{Entry}
 use Rattle.alp_journal.specs.Timely.{IsTimelyMessage}
 use Rattle.alp_node.specs.NodeStates.{NodeState}
-use Rattle.alp_node.specs.Nodes.{start_in}
 use Rattle.alp_node.specs.declared.opened.Opened.{Opened}
 use Rattle.alp_node.specs.declared.server_state.ServerState.{ServerState}
-use Rattle.alp_node.specs.declared.start.StartFault.TheVariants as start_fault
 use Rattle.alp_posts.specs.Messages.{HasGrown}
 use Rattle.alp_posts.specs.Post.{Post}
-use Rattle.alp_posts.specs.Posts.{AreServers, Fits, post_at}
-use Rattle.alp_posts.proofs.TableLemmas.{longer_fits, still_grown}
+use Rattle.alp_posts.specs.Posts.{Fits, post_at}
+use Rattle.alp_posts.proofs.TableLemmas.{longer_fits}
 use Rattle.alp_vault.specs.declared.vault.Vault.{Ghosts}
-use Rattle.alp_course.specs.Courses.{Course, Seat, no_seat, seat_at, seat_after, ranks_with, IsSeat, IsAt}
+use Rattle.alp_course.specs.Courses.{Seat, no_seat, seat_at, seat_after, IsSeat, IsAt}
 use Rattle.alp_course.specs.Happens.{Stand}
 use Rattle.alp_course.proofs.RankLemmas.{many_from, get_below}
 use Rattle.alp_cluster.specs.Come.{Come}
-use Rattle.alp_cluster.specs.Goes.{IsLater, GoesBy, opening_in}
-use Rattle.alp_cluster.specs.Servers.{IsOn, IsFree, HasGone, HasGoneBy, IsFailure, IsToldFault, AreCountedIn, stand_of}
-use Rattle.alp_cluster.specs.Station.{standing, HasVault, seat_for, seat_of, Keeps, WentBy, LeavesVault}
+use Rattle.alp_cluster.specs.Goes.{opening_in}
+use Rattle.alp_cluster.specs.Servers.{HasGone, IsFailure, IsToldFault, AreCountedIn, stand_of}
+use Rattle.alp_cluster.specs.Station.{standing, HasVault, seat_for, seat_of, WentBy, LeavesVault}
 use Rattle.alp_cluster.specs.Stations.{AreOn, AreLater, IsManned, IsOneOf, IsOfRun, LeavesOf, HaveGone, IsCalmSince, AreCalmSince, course_of, journals_in, openings_of, server_in, server_at, state_in, state_for, state_at, IsReachedBy}
 use Rattle.alp_cluster.specs.declared.fault.RunFault.{RunFault}
 use Rattle.alp_cluster.specs.declared.fault.RunFault.TheVariants as fault

@@ -10,8 +10,8 @@ use Rattle.alp_node.specs.declared.start.StartFault.TheVariants as start_fault
 use Rattle.alp_posts.specs.Posts.{post_at}
 use Rattle.alp_rpc.specs.Frames.{request}
 use Rattle.alp_rpc.specs.declared.frame.Request.{Request}
-use Rattle.alp_course.specs.Courses.{Course, Occurrence, at, looks, brings, loses, repeats, rests, seat_at, next_message, last_rank}
-use Rattle.alp_course.specs.Happens.{Happening, sent_it, timed_out, ticked, forced, stop_set, restarted, lifts, finds, Stand}
+use Rattle.alp_course.specs.Courses.{Course, at, brings, repeats, seat_at, next_message, last_rank}
+use Rattle.alp_course.specs.Happens.{Happening, timed_out, ticked, forced, restarted}
 use Rattle.alp_course.specs.Plays.{Due, to_send, to_come}
 use Rattle.alp_cluster.specs.declared.fault.RunFault.{RunFault}
 use Rattle.alp_cluster.specs.declared.fault.RunFault.TheVariants as fault

@@ -1,5 +1,5 @@
 -- A run that has played some lines of a script, and its servers at the end.
-use Rattle.std.specs.Prelude.{◌≡◌, ◌⊎◌, ℕ, ◌*◌, ◌<◌, ◌≤◌, ◌^◌, Bool, false, true, IsTrue, List, [], ◌∷◌, ◌++◌, length, map as list_map, Option, None, Vec}
+use Rattle.std.specs.Prelude.{◌≡◌, ◌⊎◌, ℕ, ◌*◌, ◌<◌, ◌≤◌, ◌^◌, Bool, false, true, IsTrue, List, [], ◌∷◌, ◌++◌, length, map as list_map, None, Vec}
 use Rattle.std.specs.Global.{Global}
 use Rattle.std.specs.List.{AllByRecursion}
 use Rattle.alp_base.specs.declared.ids.TransId.{TransId}
@@ -23,7 +23,7 @@ use Rattle.alp_course.specs.Settles.{IsSettling, AreUp, AreTaken}
 use Rattle.alp_course.specs.Turns.{Turn, lists_in, own_in, sent_in, turns_text}
 use Rattle.alp_cluster.specs.Clients.{InStep, HasSaid}
 use Rattle.alp_cluster.specs.Fills.{IsEndFor}
-use Rattle.alp_cluster.specs.Stations.{AreOn, EndsFor, course_of, openings_of, state_at}
+use Rattle.alp_cluster.specs.Stations.{AreOn, EndsFor, course_of, state_at}
 use Rattle.alp_cluster.specs.declared.fault.RunFault.{RunFault}
 use Rattle.alp_cluster.specs.declared.stations.Stations.{Stations}
 

@@ -1,11 +1,11 @@
 -- why a run was not played to its end, or not reported, and how its disks are left
-use Rattle.std.specs.Prelude.{Vec, Bool, IsTrue, slice_get, Option, None, Some, Result, Ok, Err}
+use Rattle.std.specs.Prelude.{Vec, Bool, IsTrue, slice_get, Option, Some, Result, Ok, Err}
 use Rattle.std.specs.Global.{Global}
 use Rattle.std.proofs.Common.{inl, inr, ◌⊎◌, ◌≡◌, ℕ, ◌+◌, ◌-◌, ◌≤◌, List, [], ◌∷◌, ◌++◌, length, append-nil, refl, sym, ◌∙◌, ap, subst, arith}
 use Rattle.alp_base.specs.Causes.{Rose}
 use Rattle.alp_base.specs.declared.allowance.Allowance.TheVariants.{Free}
 use Rattle.alp_base.specs.declared.faults.VaultFault.TheVariants as vault_fault
-use Rattle.alp_course.specs.Courses.{Course, Seat, IsOneOf, IsSeat, seat_at, TellAll}
+use Rattle.alp_course.specs.Courses.{Course, Seat, IsOneOf, seat_at, TellAll}
 use Rattle.alp_disk.specs.declared.disk.Disk.{Ghosts}
 use Rattle.alp_journal.specs.declared.entry.Entry.{Entry}
 use Rattle.alp_journal.specs.declared.log.Item.{Item}
@@ -28,7 +28,7 @@ use Rattle.alp_top.specs.Looks.{IsLookFault}
 use Rattle.alp_top.specs.Volumes.{IsUnstopped, IsLeftWith, IsLeftBy, AreLeftBut, HasFailedOn, HasFilled, HasUsedUp, HasFailedAgain, IsPlayedToEnd, HasRunCause}
 use Rattle.alp_top.specs.declared.fault.NoReport.TheVariants as fault
 use Rattle.alp_top.proofs.CalmAtLemmas.{calm_at}
-use Rattle.alp_top.proofs.CutDisks.{IsOfFault, short, place, others_left, failed_left, fell_left, fell_count, none_of, full_at, full_among, full_left, vault_tells, seat_here, one_seat, one_here, bare_here, with_journal, says_with}
+use Rattle.alp_top.proofs.CutDisks.{short, place, others_left, failed_left, fell_left, fell_count, full_at, full_among, full_left, seat_here, one_seat, one_here, bare_here, with_journal, says_with}
 use Rattle.alp_top.proofs.CutLemmas.{played_end}
 use Rattle.alp_top.proofs.GoneAtLemmas.{IsGoneAt, IsLeftSo, IsDoneAt, failed, counted, rose_for, one_of, returned, returned_ok, fault_told}
 use Rattle.alp_top.proofs.PairLemmas.{same_there}

@@ -1,11 +1,9 @@
 -- a run that ended before its report: what its disks hold
-use Rattle.std.specs.Prelude.{Vec, Bool, false, IsTrue, map as list_map, slice_get, slice_set, get_or, Option, None, Some, Result, Err}
+use Rattle.std.specs.Prelude.{Vec, Bool, false, IsTrue, slice_get, slice_set, get_or, Option, Some, Result, Err}
 use Rattle.std.specs.Global.{Global}
 use Rattle.std.proofs.Common.{inl, inr, ◌⊎◌, ◌≡◌, ◌≢◌, ℕ, zero, suc, ◌+◌, ◌-◌, ◌<◌, ◌≤◌, List, [], ◌∷◌, ◌++◌, length, append-nil, refl, sym, ◌∙◌, ap, subst, arith}
 use Rattle.std.proofs.lemmas.Bool.{cases_eq}
-use Rattle.std.proofs.lemmas.List.{length-map}
 use Rattle.alp_base.specs.Causes.{Rose}
-use Rattle.alp_base.specs.declared.faults.VaultFault.{VaultFault}
 use Rattle.alp_base.specs.declared.faults.VaultFault.TheVariants as vault_fault
 use Rattle.alp_course.specs.Courses.{Course, Seat, IsOneOf, IsSeat, no_seat, seat_at, TellAll}
 use Rattle.alp_course.specs.Plays.{Due}
@@ -18,7 +16,6 @@ use Rattle.alp_journal.specs.Moves.{next}
 use Rattle.alp_journal.specs.State.{State, opened}
 use Rattle.alp_journal.specs.Opening.{Start, start_at}
 use Rattle.alp_journal.specs.declared.entry.Entry.{Entry}
-use Rattle.alp_journal.specs.declared.event.Event.{Event}
 use Rattle.alp_journal.specs.declared.log.Item.{Item}
 use Rattle.alp_node.specs.Durable.{IsSaid, IsSaidThen}
 use Rattle.alp_node.specs.DownStates.{DownState}
@@ -37,19 +34,19 @@ use Rattle.alp_vault.specs.Vault.{IsSameVault}
 use Rattle.alp_vault.specs.declared.vault.Vault.{Ghosts as VaultGhosts}
 use Rattle.alp_cluster.specs.Fills.{IsEndFor, IsEventDue, IsFailing, IsFullFor, server_due}
 use Rattle.alp_cluster.specs.Runs.{StopNone, HasEndedEarly}
-use Rattle.alp_cluster.specs.Servers.{AreCalm, IsOn, StaysDown, AreCountedIn, HasFailedIn, ShowsFault, state_of}
+use Rattle.alp_cluster.specs.Servers.{AreCalm, StaysDown, AreCountedIn, HasFailedIn, ShowsFault}
 use Rattle.alp_cluster.specs.Station.{standing, HasVault, seat_for, seat_of}
-use Rattle.alp_cluster.specs.Stations.{AreOn, IsCalmSince, AreCalmBut, IsManned, IsStillThere, IsUnchanged, IsNoFurther, FailsAt, EndsFor, EndsAt, server_in, server_at, course_of, openings_of, servers_of}
+use Rattle.alp_cluster.specs.Stations.{AreOn, IsCalmSince, AreCalmBut, IsManned, IsStillThere, IsUnchanged, IsNoFurther, EndsFor, server_in, server_at, course_of, openings_of}
 use Rattle.alp_cluster.specs.declared.fault.RunFault.{RunFault}
 use Rattle.alp_cluster.specs.declared.fault.RunFault.TheVariants as run_fault
 use Rattle.alp_cluster.specs.declared.server.Server.{Server}
-use Rattle.alp_cluster.specs.declared.server.Server.TheVariants.{Up, Fallen}
+use Rattle.alp_cluster.specs.declared.server.Server.TheVariants.{Fallen}
 use Rattle.alp_cluster.specs.declared.station.Station.{Station}
 use Rattle.alp_cluster.specs.declared.stations.Stations.{Stations}
 use Rattle.alp_cluster.proofs.LeftLemmas.{end_opened}
 use Rattle.alp_cluster.proofs.StationsLemmas.{set_there, set_elsewhere}
 use Rattle.alp_top.specs.Disks.{IsServerRight, notes_in}
-use Rattle.alp_top.specs.Volumes.{IsUnstopped, IsBare, IsLeftWith, IsLeftBy, IsLeftFallen, IsOpenedNew, IsOpenedOn, IsStored, IsCutShort, HasFailedOn, HasFilled, HasUsedUp, HasFailedAgain}
+use Rattle.alp_top.specs.Volumes.{IsUnstopped, IsBare, IsLeftWith, IsLeftBy, IsLeftFallen, IsOpenedNew, IsOpenedOn, IsStored, IsCutShort, HasFailedOn, HasFilled}
 use Rattle.alp_top.proofs.BeginLemmas.{holds_by}
 use Rattle.alp_top.proofs.CutLemmas.{cut_short}
 use Rattle.alp_top.proofs.GivenLemmas.{up_vault}

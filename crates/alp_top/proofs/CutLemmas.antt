@@ -1,8 +1,8 @@
 -- a run that came so far: what holds of its journals
-use Rattle.std.specs.Prelude.{Vec, Bool, true, IsTrue, map as list_map, Option, None, Some}
+use Rattle.std.specs.Prelude.{Vec, IsTrue, map as list_map}
 use Rattle.std.specs.Global.{Global}
 use Rattle.std.specs.List.{AllByRecursion}
-use Rattle.std.proofs.Common.{inl, inr, ◌⊎◌, ◌≡◌, ℕ, ◌+◌, ◌-◌, ◌<◌, ◌≤◌, List, [], ◌∷◌, length, refl, sym, ◌∙◌, ap, subst, arith}
+use Rattle.std.proofs.Common.{◌⊎◌, ◌≡◌, ℕ, ◌+◌, ◌-◌, ◌<◌, ◌≤◌, List, [], ◌∷◌, length, refl, sym, ◌∙◌, ap, subst, arith}
 use Rattle.alp_journal.specs.Along.{Along}
 use Rattle.alp_journal.specs.Laws.{IsLawful}
 use Rattle.alp_journal.specs.Moves.{next}
@@ -30,7 +30,7 @@ use Rattle.alp_script.specs.declared.numbered.NumberedLine.{NumberedLine}
 use Rattle.alp_vault.specs.declared.vault.Vault.{Ghosts}
 use Rattle.alp_cluster.specs.Clients.{HasSaid}
 use Rattle.alp_cluster.specs.Runs.{Ran, HasEndedEarly, HasPlayedOut}
-use Rattle.alp_cluster.specs.Servers.{IsOn, IsDone}
+use Rattle.alp_cluster.specs.Servers.{IsDone}
 use Rattle.alp_cluster.specs.Station.{standing, seat_for}
 use Rattle.alp_cluster.specs.Stations.{AreOn, course_of, state_at}
 use Rattle.alp_cluster.specs.declared.fault.RunFault.{RunFault}

@@ -1,42 +1,32 @@
 -- what a run leaves of the disk of each server
-use Rattle.std.specs.Prelude.{Bool, IsTrue, map as list_map, slice_get, Option, None, Some, Result, Ok, Err, OnOk}
-use Rattle.std.proofs.Common.{inl, inr, ◌⊎◌, ◌≡◌, ◌≢◌, ℕ, zero, suc, ◌+◌, ◌-◌, ◌<◌, ◌≤◌, List, [], ◌∷◌, length, refl, sym, ◌∙◌, ap, subst, arith}
-use Rattle.std.proofs.lemmas.Bool.{cases_eq}
+use Rattle.std.specs.Prelude.{Bool, IsTrue, slice_get, Option, Some, Result, Ok, Err, OnOk}
+use Rattle.std.proofs.Common.{◌⊎◌, ◌≡◌, ◌≢◌, ℕ, ◌+◌, ◌-◌, ◌<◌, ◌≤◌, List, [], ◌∷◌, length, refl, sym, ◌∙◌, ap, subst, arith}
 use Rattle.alp_base.specs.Causes.{Rose}
 use Rattle.alp_base.specs.Crashes.{NoMore}
 use Rattle.alp_base.specs.declared.allowance.Allowance.TheVariants.{Free}
-use Rattle.alp_base.specs.declared.faults.Sizes.{Sizes}
-use Rattle.alp_base.specs.declared.faults.VaultFault.{VaultFault}
 use Rattle.alp_base.specs.declared.faults.VaultFault.TheVariants as vault_fault
-use Rattle.alp_course.specs.Courses.{Course, IsOneOf}
+use Rattle.alp_course.specs.Courses.{IsOneOf}
 use Rattle.alp_disk.specs.declared.disk.Disk.{Ghosts}
 use Rattle.alp_node.specs.NodeStates.{NodeState}
 use Rattle.alp_node.specs.Nodes.{IsConsistent}
-use Rattle.alp_node.specs.declared.opened.Opened.{Opened}
-use Rattle.alp_node.specs.declared.start.StartFault.{StartFault}
 use Rattle.alp_node.specs.declared.start.StartFault.TheVariants as start_fault
 use Rattle.alp_script.specs.Accepted.{servers_said}
-use Rattle.alp_script.specs.Volumes.{sizes_said}
 use Rattle.alp_script.specs.declared.numbered.NumberedLine.{NumberedLine}
-use Rattle.alp_vault.specs.Vault.{IsSameVault}
 use Rattle.alp_vault.specs.declared.vault.Vault.{Ghosts as VaultGhosts}
 use Rattle.alp_cluster.specs.Gathered.{AreStationsOf}
 use Rattle.alp_cluster.specs.Runs.{StopNone}
-use Rattle.alp_cluster.specs.Servers.{HasGoneBy, IsFailure, IsToldFault, IsOfVolumeAt, IsFailureAt, AreCounted, AreCountedAt, AreCountedIn}
+use Rattle.alp_cluster.specs.Servers.{HasGoneBy, IsFailure, IsToldFault, AreCounted, AreCountedIn}
 use Rattle.alp_cluster.specs.Station.{standing, HasVault}
-use Rattle.alp_cluster.specs.Stations.{IsOfRun, HaveGone, openings_of}
+use Rattle.alp_cluster.specs.Stations.{IsOfRun, HaveGone}
 use Rattle.alp_cluster.specs.declared.fault.RunFault.{RunFault}
 use Rattle.alp_cluster.specs.declared.fault.RunFault.TheVariants as run_fault
-use Rattle.alp_cluster.specs.declared.server.Server.{Server}
 use Rattle.alp_cluster.specs.declared.station.Station.{Station}
 use Rattle.alp_cluster.specs.declared.stations.Stations.{Stations}
 use Rattle.alp_cluster.proofs.GoneLemmas.{gone_then}
 use Rattle.alp_top.specs.Disks.{IsBegunAt, AreBegun, AreOthersSame, IsGiven, IsServerRight, IsLeftAt, AreLeftBy, IsClosedAt, AreClosed}
-use Rattle.alp_top.specs.Faults.{of_vault, of_start, played}
-use Rattle.alp_top.specs.Volumes.{pages_of, IsReturned, AreReturned, IsOfServers}
-use Rattle.alp_top.specs.declared.fault.NoReport.{NoReport}
+use Rattle.alp_top.specs.Faults.{played}
+use Rattle.alp_top.specs.Volumes.{pages_of, AreReturned, IsOfServers}
 use Rattle.alp_top.specs.declared.fault.NoReport.TheVariants as fault
-use Rattle.alp_top.proofs.BeginLemmas.{holds_by}
 use Rattle.alp_top.proofs.GivenLemmas.{one_vault, up_vault, station_at, stations_many}
 use Rattle.alp_top.proofs.PairLemmas.{HasPair, paired_at, same_there}
 

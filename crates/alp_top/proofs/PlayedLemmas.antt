@@ -1,5 +1,5 @@
 -- the end of a run, as its status tells it
-use Rattle.std.specs.Prelude.{Bool, length, Option, None, Some, Result, Ok, replicate, take}
+use Rattle.std.specs.Prelude.{Bool, Option, None, Some, replicate, take}
 use Rattle.std.specs.Option.{option_map}
 use Rattle.std.specs.Io.KnownBytes.{Appends}
 use Rattle.std.proofs.Common.{inl, inr, ◌⊎◌, ◌≡◌, ◌<◌, ◌≤◌, ℕ, zero, suc, List, [], ◌∷◌, refl, sym, ◌∙◌, ap, subst, arith}

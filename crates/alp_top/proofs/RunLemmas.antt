@@ -1,10 +1,10 @@
 -- a run on the disks of a bay, and how it ended
-use Rattle.std.specs.Prelude.{Vec, Bool, IsTrue, slice_get, Option, Some, Result, Ok, Err, OnOk}
+use Rattle.std.specs.Prelude.{Vec, Bool, IsTrue, slice_get, Option, Some, Result, Ok, Err}
 use Rattle.std.specs.Global.{Global}
-use Rattle.std.proofs.Common.{◌≡◌, ℕ, zero, suc, ◌+◌, ◌-◌, ◌<◌, ◌≤◌, List, [], ◌∷◌, length, refl, sym, ◌∙◌, ap, subst, arith}
+use Rattle.std.proofs.Common.{◌≡◌, ℕ, suc, ◌+◌, ◌-◌, ◌<◌, ◌≤◌, List, [], ◌∷◌, length, refl, sym, ◌∙◌, ap, subst, arith}
 use Rattle.alp_bay.specs.declared.bay.BayFault.{BayFault}
 use Rattle.alp_bay.specs.declared.bay.BayFault.TheVariants as bay_fault
-use Rattle.alp_course.specs.Courses.{Seat, IsOneOf, IsSeat, seat_at}
+use Rattle.alp_course.specs.Courses.{Seat, IsOneOf, IsSeat}
 use Rattle.alp_disk.specs.declared.disk.Disk.{Ghosts}
 use Rattle.alp_journal.specs.declared.log.Item.{Item}
 use Rattle.alp_node.specs.NodeStates.{NodeState}
@@ -14,10 +14,10 @@ use Rattle.alp_script.specs.Accepted.{RisesFrom, servers_said}
 use Rattle.alp_script.specs.declared.numbered.NumberedLine.{NumberedLine}
 use Rattle.alp_vault.specs.declared.vault.Vault.{Ghosts as VaultGhosts}
 use Rattle.alp_cluster.specs.Fills.{OnEndBy}
-use Rattle.alp_cluster.specs.Gathered.{AreStationsOf, AreGathered}
+use Rattle.alp_cluster.specs.Gathered.{AreStationsOf}
 use Rattle.alp_cluster.specs.Runs.{StopNone, HasPlayed, HasPlayedOut, HasEndedEarly}
 use Rattle.alp_cluster.specs.Servers.{HasGoneBy}
-use Rattle.alp_cluster.specs.Station.{standing, HasVault, seat_for}
+use Rattle.alp_cluster.specs.Station.{standing, HasVault}
 use Rattle.alp_cluster.specs.Stations.{AreCalmSince, AreCalmBut, IsOfRun, HaveGone, course_of, openings_of}
 use Rattle.alp_cluster.specs.declared.cluster.Cluster.{Cluster}
 use Rattle.alp_cluster.specs.declared.fault.RunFault.{RunFault}
@@ -33,14 +33,14 @@ use Rattle.alp_top.specs.Endings.{AreRestsOf, IsReportOf, shown_text}
 use Rattle.alp_top.specs.Faults.{of_bay, played}
 use Rattle.alp_top.specs.Headline.{IsRunOf}
 use Rattle.alp_top.specs.Logs.{Log}
-use Rattle.alp_top.specs.Volumes.{HasRunCause, IsBayFault, IsBayTold, IsOfServers}
+use Rattle.alp_top.specs.Volumes.{HasRunCause, IsBayFault, IsOfServers}
 use Rattle.alp_top.specs.declared.fault.NoReport.{NoReport}
 use Rattle.alp_top.specs.declared.fault.NoReport.TheVariants as fault
 use Rattle.alp_top.specs.declared.finish.Rests.{Rests}
 use Rattle.alp_top.proofs.EndedLemmas.{ended_for, ended_told}
 use Rattle.alp_top.proofs.CauseLemmas.{fell_cause, report_cause, close_cause}
 use Rattle.alp_top.proofs.GivenLemmas.{station_at, stations_many}
-use Rattle.alp_top.proofs.GoneAtLemmas.{IsGoneAt, IsLeftSo, IsDoneAt, others_same, left_at, done_at, play_counted, play_epoch}
+use Rattle.alp_top.proofs.GoneAtLemmas.{IsGoneAt, IsLeftSo, others_same, left_at, done_at, play_counted, play_epoch}
 use Rattle.alp_top.proofs.PairLemmas.{HasPair, paired_at, same_there}
 use Rattle.alp_top.proofs.PlayedOutLemmas.{run_over}
 use Rattle.alp_top.proofs.SeatedLemmas.{there_less, seat_on, many}

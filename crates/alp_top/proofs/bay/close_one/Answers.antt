@@ -5,7 +5,7 @@ use Rattle.alp_disk.specs.contracts.fuse.FuseDisk.TheImpl as fuse_disk
 use Rattle.alp_store.specs.contracts.store.StoreVault.TheImpl as store_vault
 use Rattle.alp_base.specs.declared.allowance.Allowance.TheVariants.{Free}
 use Rattle.alp_cluster.specs.Servers.{IsOn}
-use Rattle.alp_cluster.specs.Station.{HasVault, standing}
+use Rattle.alp_cluster.specs.Station.{HasVault}
 use Rattle.alp_cluster.specs.declared.server.Server.TheVariants.{Up}
 use Rattle.alp_top.specs.Disks.{IsElsewhere, GoesOn}
 use Rattle.alp_top.proofs.CloseOneLemmas.{closed_over, closed_now, goes_now, station_put}

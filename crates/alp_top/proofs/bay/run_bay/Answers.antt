@@ -1,11 +1,11 @@
-use Rattle.std.specs.Prelude.{Bool, IsTrue, Option, Err, Ok}
+use Rattle.std.specs.Prelude.{Bool, IsTrue, Option, Err}
 use Rattle.std.specs.Option.{option_map}
-use Rattle.std.proofs.Common.{inl, inr, ◌≡◌, ◌≤◌, ℕ, length, refl, sym, ◌∙◌, ap, subst, arith}
+use Rattle.std.proofs.Common.{inl, inr, ◌≡◌, ◌≤◌, ℕ, length, sym, ◌∙◌, ap, subst, arith}
 use Rattle.alp_disk.specs.contracts.fuse.Fuse.{the_row}
 use Rattle.alp_disk.specs.contracts.fuse.FuseDisk.TheImpl as fuse_disk
 use Rattle.alp_store.specs.contracts.store.StoreVault.TheImpl as store_vault
 use Rattle.alp_script.specs.Accepted.{servers_said}
-use Rattle.alp_top.specs.Disks.{HaveBegun, HaveBegunSome, AreClosed}
+use Rattle.alp_top.specs.Disks.{HaveBegun}
 use Rattle.alp_top.specs.Faults.{played}
 use Rattle.alp_top.specs.Limits.{IsEndTold}
 use Rattle.alp_top.specs.Endings.{shown_text}
@@ -13,7 +13,7 @@ use Rattle.alp_top.specs.Headline.{IsRunOf}
 use Rattle.alp_top.specs.Volumes.{HasRunCause, IsOfServers, IsBayFault}
 use Rattle.alp_top.specs.declared.fault.NoReport.TheVariants as fault
 use Rattle.alp_top.proofs.EndedLemmas.{bay_unended, start_unended}
-use Rattle.alp_top.proofs.GivenLemmas.{none_returned, bay_ended, start_ended}
+use Rattle.alp_top.proofs.GivenLemmas.{bay_ended, start_ended}
 use Rattle.alp_top.proofs.RefusedLemmas.{err_of, told_of, untaken, bay_counted, bay_folder, folder_taken}
 use Rattle.alp_top.proofs.RunLemmas.{bay_uncounted, play_still, start_counted, begins_new, close_unended, fell_few, fell_held, fell_counted, fell_told, fell_ended, rest_few, rest_all, close_counted, close_ended, wanting_ended, went_well, went_through, some_held, some_few, cause_moved, left_moved, closed_moved, held_moved, rest_moved, rests_moved, report_moved}
 use Rattle.alp_top.proofs.bay.run_bay.Goals as goal

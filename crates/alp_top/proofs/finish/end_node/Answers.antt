@@ -4,7 +4,7 @@ use Rattle.alp_base.specs.declared.allowance.Allowance.TheVariants.{Free}
 use Rattle.alp_cluster.specs.Servers.{HasGoneBy}
 use Rattle.alp_cluster.specs.declared.fault.RunFault.TheVariants as fault
 use Rattle.alp_cluster.proofs.GoneLemmas.{gone_ok, gone_err, gone_memory}
-use Rattle.alp_top.specs.Endings.{IsHeldOf, AreCellsOf, ArePutFirst}
+use Rattle.alp_top.specs.Endings.{AreCellsOf, ArePutFirst}
 use Rattle.alp_top.specs.Tallies.{tally_in}
 use Rattle.alp_top.specs.Logs.{ServerOfLog}
 use Rattle.alp_top.specs.Looks.{HasLooked}

@@ -1,4 +1,3 @@
-use Rattle.std.specs.Prelude.{Err}
 use Rattle.std.proofs.Common.{ℕ, List, ◌++◌, ◌≤◌, length, append-nil, sym, ◌∙◌, ap}
 use Rattle.alp_journal.specs.declared.log.Item.{Item}
 use Rattle.alp_report.specs.Reports.{line_text}

@@ -1,5 +1,5 @@
 use Rattle.std.specs.Prelude.{Some, Ok}
-use Rattle.std.proofs.Common.{◌≡◌, refl, sym, subst, ◌∙◌, ap}
+use Rattle.std.proofs.Common.{◌≡◌, refl, subst, ◌∙◌, ap}
 use Rattle.alp_node.specs.NodeStates.{NodeState}
 use Rattle.alp_cluster.specs.Servers.{Steps, EndsStep}
 use Rattle.alp_cluster.specs.Station.{standing}
