@@ -1,26 +1,26 @@
 -- A message comes from one server of a run to another.
-use Rattle.std.specs.Prelude.{◌≢◌, ◌&&◌, ◌||◌, not, Bool, true, false, map as list_map, slice_get, Option, None, Some, is_some, IsSome, Vec}
+use Rattle.std.specs.Prelude.{◌≢◌, ◌&&◌, ◌||◌, Bool, true, false, map as list_map, slice_get, slice_set, Option, None, Some, IsSome, Vec}
 use Rattle.std.specs.Global.{Global}
-use Rattle.std.proofs.Common.{◌≡◌, ℕ, ◌+◌, ◌-◌, ◌<◌, ◌≤◌, List, [], ◌∷◌, ◌++◌, length, zero, suc, get_or, refl, sym, ◌∙◌, ap, subst, arith}
-use Rattle.std.proofs.lemmas.List.{append_assoc, append-nil, length-map}
+use Rattle.std.proofs.Common.{◌≡◌, ℕ, ◌+◌, ◌-◌, ◌<◌, ◌≤◌, List, [], ◌∷◌, ◌++◌, length, refl, sym, ◌∙◌, ap, subst, arith}
+use Rattle.std.proofs.lemmas.List.{append_assoc, length-map}
 use Rattle.alp_journal.specs.Answered.{entries_limit}
+use Rattle.alp_journal.specs.declared.event.Event.TheVariants as event
 use Rattle.alp_journal.specs.declared.message.Message.{Message}
 use Rattle.alp_posts.specs.Messages.{messages_to}
 use Rattle.alp_posts.specs.Post.{Post, took}
 use Rattle.alp_posts.specs.Posts.{post_at, with_post}
 use Rattle.alp_vault.specs.declared.vault.Vault.{Ghosts}
-use Rattle.alp_course.specs.Courses.{Course, Seat, Occurrence, looks, brings, loses, repeats, last_rank, seat_at, next_message, is_waiting, AreTwo, Arrives, IsBrought, IsLost, IsRepeated, Occurs}
+use Rattle.alp_course.specs.Courses.{Course, Occurrence, looks, brings, loses, repeats, last_rank, seat_at, next_message, is_waiting, AreTwo, Arrives, IsBrought, IsLost, IsRepeated}
 use Rattle.alp_course.specs.Languages.{Just}
 use Rattle.alp_course.specs.Carries.{ArePairCarried, none_waits, one_waits, brings_some}
-use Rattle.alp_course.specs.Plays.{Due, IsCut, to_come}
+use Rattle.alp_course.specs.Plays.{to_come}
 use Rattle.alp_course.proofs.LanguageLemmas.{cut_just}
-use Rattle.alp_course.proofs.RankLemmas.{get_below}
 use Rattle.alp_course.proofs.WordLemmas.{brings_append}
-use Rattle.alp_cluster.specs.Come.{Come}
+use Rattle.alp_cluster.specs.Fills.{IsEndFor, seen_in}
 use Rattle.alp_cluster.specs.Goes.{opening_in}
-use Rattle.alp_cluster.specs.Messages.{IfOr, taking_at, AreApart, HasArrived, HasNoRoomFor, DidSay}
-use Rattle.alp_cluster.specs.Station.{seat_of}
-use Rattle.alp_cluster.specs.Stations.{AreOn, IsOneOf, AreLater, IsReachedBy, IsUnchanged, Go, Did, DidSome, IsCalmSince, course_of, openings_of, server_in, state_for, servers_of}
+use Rattle.alp_cluster.specs.Messages.{IfOr, taking_at, AreApart, HasArrived, FailsFor, EndsEventAt, DidSay}
+use Rattle.alp_cluster.specs.Station.{seat_of, IsLeftFailed}
+use Rattle.alp_cluster.specs.Stations.{AreOn, IsOneOf, AreLater, IsReachedBy, IsNoFurther, EndsFor, Go, Did, DidSome, IsCalmSince, unshown, course_of, server_in, state_for}
 use Rattle.alp_cluster.specs.declared.fault.RunFault.{RunFault}
 use Rattle.alp_cluster.specs.declared.fault.RunFault.TheVariants as fault
 use Rattle.alp_cluster.specs.declared.station.Station.{Station}
@@ -124,33 +124,82 @@ module _ {V : Type 0} (G : Ghosts V) where
         did_just G (repeats from to) s s
         (go_one G (repeats from to) s s (same_later s s on refl) (two_of s from to two, subst (λ (o : Option (Message × ℕ)). IsRepeated (course_of G s) from to o (course_of G s)) (sym none) refl) tt)
 
-    -- ---- there is no room for it
+    -- ---- its step was not taken as it is to be
 
-    pub no_room_brought : (shown after : Stations V) → AreOn G s → shown.all ≡ s.all → course_of G shown ≡ course_of G s → (m : Message) → next_message (course_of G s) from to ≡ Some m → HasNoRoomFor G to shown after → DidSome G (Just (brings from to ∷ [])) fault.JournalFull s after
-    no_room_brought shown after on all course m next room = record {
-      at_end = s;
-      hs = [];
-      due = to_come (brings from to);
-      cut = cut_just (brings from to);
-      goes = go_none G s on;
-      ends = record {
-        step = subst (λ (o : Option Message). IsSome o) (sym next) refl;
-        up = ap (λ (r : Course). (seat_at r to).stand.is_down) (sym course) ∙ room.up;
-        full = subst (λ (r : Course). entries_limit ≤ (seat_at r to).stand.place) course room.full;
-      };
-      left = record { servers = room.still.servers ∙ ap (λ (v : Vec (Station V) Global). list_map (λ (x : Station V). x.server) v.items) all; course = room.still.course ∙ course };
-    }
+    -- that of the next one, which is still there to be taken
+    module _ (shown after : Stations V) (on : AreOn G s) (all : shown.all ≡ s.all) (course : course_of G shown ≡ course_of G s) (m : Message) (next : next_message (course_of G s) from to ≡ Some m) where
+      brought_done : (f : RunFault) → IsEndFor f (course_of G s) (to_come (brings from to)) → EndsFor G f (to_come (brings from to)) s after → DidSome G (Just (brings from to ∷ [])) f s after
+      brought_done f ends left = record { at_end = s; hs = []; due = to_come (brings from to); cut = cut_just (brings from to); goes = go_none G s on; ends = ends; left = left }
 
-    pub no_room_repeated : (after : Stations V) → AreOn G s → (x : Message × ℕ) → (post_at (course_of G s).posts from to).last ≡ Some x → HasNoRoomFor G to s after → DidSome G (Just (repeats from to ∷ [])) fault.JournalFull s after
-    no_room_repeated after on x last room = record {
-      at_end = s;
-      hs = [];
-      due = to_come (repeats from to);
-      cut = cut_just (repeats from to);
-      goes = go_none G s on;
-      ends = record { step = subst (λ (o : Option (Message × ℕ)). IsSome o) (sym last) refl; up = room.up; full = room.full };
-      left = room.still;
-    }
+      brings_one : IsSome (next_message (course_of G s) from to)
+      brings_one = subst (λ (o : Option Message). IsSome o) (sym next) refl
+
+      up_so : (seat_at (course_of G shown) to).stand.is_down ≡ false → (seat_at (course_of G s) to).stand.is_down ≡ false
+      up_so up = ap (λ (r : Course). (seat_at r to).stand.is_down) (sym course) ∙ up
+
+      brought_failed : (k : ℕ) → k ≡ to → (seen : ℕ) → seen ≡ last_rank (seat_at (course_of G s) from).ranks → FailsFor G to seen (event.Arrive from m) shown after → DidSome G (Just (brings from to ∷ [])) (fault.DiskFault k) s after
+      brought_failed k same seen is h = subst (λ (i : ℕ). DidSome G (Just (brings from to ∷ [])) (fault.DiskFault i) s after) (sym same) (brought_done (fault.DiskFault to)
+          (record { step = brings_one; there = refl; up = up_so h.up; room = subst (λ (r : Course). (seat_at r to).stand.place < entries_limit) course h.room })
+          (record {
+            here = two.receiver;
+            station = h.station;
+            left = h.left;
+            was = h.was;
+            there = ap (λ (v : Vec (Station V) Global). slice_get v.items (to - 1)) (sym all) ∙ h.there;
+            stood = h.stood;
+            others = h.others ∙ ap (λ (v : Vec (Station V) Global). slice_set v.items (to - 1) h.left) all;
+            posts = ap (list_map unshown) h.posts ∙ ap (λ (r : Course). r.posts) course;
+            event = event.Arrive from m;
+            its = (m, next, refl);
+            fails = subst (λ (n : ℕ). IsLeftFailed G n (event.Arrive from m) h.station h.left h.was) is h.fails;
+          }))
+
+      further : IsNoFurther G shown after → IsNoFurther G s after
+      further h = record {
+        course = h.course ∙ course;
+        each = λ i x n there stood. h.each i x n (ap (λ (v : Vec (Station V) Global). slice_get v.items i) all ∙ there) stood;
+        openings = h.openings ∙ ap (λ (v : Vec (Station V) Global). list_map (λ (x : Station V). opening_in x.server) v.items) all;
+        calm = λ n. subst (λ (v : Vec (Station V) Global). IsCalmSince G (server_in (slice_get v.items (n - 1))) (server_in (slice_get after.all.items (n - 1)))) all (h.calm n);
+      }
+
+      pub ends_brought : (seen : ℕ) → seen ≡ last_rank (seat_at (course_of G s) from).ranks → (f : RunFault) → EndsEventAt G f to seen (event.Arrive from m) shown after → DidSome G (Just (brings from to ∷ [])) f s after
+      ends_brought seen is fault.JournalFull room =
+          brought_done fault.JournalFull (record { step = brings_one; up = up_so room.up; full = subst (λ (r : Course). entries_limit ≤ (seat_at r to).stand.place) course room.full })
+          (record { servers = room.still.servers ∙ ap (λ (v : Vec (Station V) Global). list_map (λ (x : Station V). x.server) v.items) all; course = room.still.course ∙ course })
+      ends_brought seen is fault.OutOfMemory h = brought_done fault.OutOfMemory tt (further h)
+      ends_brought seen is (fault.DiskFault k) h = brought_failed k h.0 seen is h.1
+      ends_brought seen is (fault.Start k f) h = absurd h
+
+    -- that of the last one once more
+    module _ (after : Stations V) (on : AreOn G s) (x : Message × ℕ) (last : (post_at (course_of G s).posts from to).last ≡ Some x) where
+      repeated_done : (f : RunFault) → IsEndFor f (course_of G s) (to_come (repeats from to)) → EndsFor G f (to_come (repeats from to)) s after → DidSome G (Just (repeats from to ∷ [])) f s after
+      repeated_done f ends left = record { at_end = s; hs = []; due = to_come (repeats from to); cut = cut_just (repeats from to); goes = go_none G s on; ends = ends; left = left }
+
+      repeats_one : IsSome (post_at (course_of G s).posts from to).last
+      repeats_one = subst (λ (o : Option (Message × ℕ)). IsSome o) (sym last) refl
+
+      repeated_failed : (k : ℕ) → k ≡ to → FailsFor G to x.1 (event.Arrive from x.0) s after → DidSome G (Just (repeats from to ∷ [])) (fault.DiskFault k) s after
+      repeated_failed k same h = subst (λ (i : ℕ). DidSome G (Just (repeats from to ∷ [])) (fault.DiskFault i) s after) (sym same) (repeated_done (fault.DiskFault to)
+          (record { step = repeats_one; there = refl; up = h.up; room = h.room })
+          (record {
+            here = two.receiver;
+            station = h.station;
+            left = h.left;
+            was = h.was;
+            there = h.there;
+            stood = h.stood;
+            others = h.others;
+            posts = ap (list_map unshown) h.posts;
+            event = event.Arrive from x.0;
+            its = (x, last, refl);
+            fails = subst (λ (n : ℕ). IsLeftFailed G n (event.Arrive from x.0) h.station h.left h.was) (sym (ap seen_in last)) h.fails;
+          }))
+
+      pub ends_repeated : (f : RunFault) → EndsEventAt G f to x.1 (event.Arrive from x.0) s after → DidSome G (Just (repeats from to ∷ [])) f s after
+      ends_repeated fault.JournalFull room = repeated_done fault.JournalFull (record { step = repeats_one; up = room.up; full = room.full }) room.still
+      ends_repeated fault.OutOfMemory h = repeated_done fault.OutOfMemory tt h
+      ends_repeated (fault.DiskFault k) h = repeated_failed k h.0 h.1
+      ends_repeated (fault.Start k f) h = absurd h
 
   -- ---- all that wait
 

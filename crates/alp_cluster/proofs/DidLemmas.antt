@@ -1,24 +1,22 @@
 -- What occurs at the servers of a run, one thing behind the other.
-use Rattle.std.specs.Prelude.{slice_get, Option, None, Some, Result, Ok, Err}
+use Rattle.std.specs.Prelude.{slice_get, Option, Some, Result, Ok, Err}
 use Rattle.std.proofs.Common.{◌≡◌, ℕ, ◌+◌, ◌≤◌, List, [], ◌∷◌, ◌++◌, length, refl, sym, ◌∙◌, ap, subst, arith}
-use Rattle.std.proofs.lemmas.List.{append-nil, append_assoc}
 use Rattle.alp_node.specs.NodeStates.{NodeState}
 use Rattle.alp_vault.specs.declared.vault.Vault.{Ghosts}
-use Rattle.alp_course.specs.Courses.{Course, Occurrence, at, Occurs, AreCourse}
+use Rattle.alp_course.specs.Courses.{Occurrence, Occurs, AreCourse}
 use Rattle.alp_course.specs.Languages.{Language, Nothing, Just, Then, Each}
-use Rattle.alp_course.specs.Plays.{Due, IsCut}
-use Rattle.alp_course.proofs.LanguageLemmas.{Has, then_word, cut_first, cut_second, cut_map, each_cut, each_next}
-use Rattle.alp_cluster.specs.Come.{Come}
+use Rattle.alp_course.specs.Plays.{to_come}
+use Rattle.alp_course.proofs.LanguageLemmas.{Has, then_word, cut_first, cut_second, cut_map, cut_just, each_cut, each_next}
 use Rattle.alp_cluster.specs.Messages.{DidSay}
 use Rattle.alp_cluster.specs.Servers.{HasGoneBy}
 use Rattle.alp_cluster.specs.Station.{standing, HasVault}
-use Rattle.alp_cluster.specs.Stations.{AreOn, AreLater, Passes, Crashes, Go, Did, DidSome, EndsFor, IsManned, IsOfRun, LeavesOf, HaveGone, AreCalmSince, course_of, openings_of, state_at, IsReachedBy}
+use Rattle.alp_cluster.specs.Stations.{AreOn, AreLater, Passes, Crashes, Go, Did, DidSome, IsManned, IsOfRun, LeavesOf, HaveGone, IsNoFurther, AreCalmSince, course_of}
 use Rattle.alp_cluster.specs.declared.fault.RunFault.{RunFault}
 use Rattle.alp_cluster.specs.declared.fault.RunFault.TheVariants as fault
 use Rattle.alp_cluster.specs.declared.server.Server.{Server}
 use Rattle.alp_cluster.specs.declared.station.Station.{Station}
 use Rattle.alp_cluster.specs.declared.stations.Stations.{Stations}
-use Rattle.alp_cluster.proofs.AddsLemmas.{adds_at, adds_both}
+use Rattle.alp_cluster.proofs.TakenLemmas.{untouched}
 use Rattle.alp_cluster.proofs.GoneLemmas.{gone_nothing, gone_then, gone_ok, gone_memory, gone_err, gone_where}
 
 module _ {V : Type 0} (G : Ghosts V) where
@@ -54,6 +52,10 @@ module _ {V : Type 0} (G : Ghosts V) where
   pub go_one : (x : Occurrence) (a b : Stations V) → AreLater G a b → Occurs (course_of G a) x (course_of G b) → Crashes G x a b → Go G (x ∷ []) a b
   go_one x a b later occurs crashes = record { later = later; passes = (b, occurs, crashes, refl) }
 
+  -- memory was wanting, and nothing was done
+  pub none_further : (s : Stations V) → IsNoFurther G s s
+  none_further s = record { course = refl; each = λ i x n there stood. record { station = x; there = there; node = n; stands = stood; untouched = untouched G n }; openings = refl; calm = calm_none s }
+
   -- ---- what they did
 
   pub did_nothing : (s : Stations V) → AreOn G s → Did G Nothing s s
@@ -70,6 +72,10 @@ module _ {V : Type 0} (G : Ghosts V) where
 
   pub some_map : (A B : Language) (f : RunFault) (a b : Stations V) → ((xs : List Occurrence) → A xs → B xs) → DidSome G A f a b → DidSome G B f a b
   some_map A B f a b make d = record { at_end = d.at_end; hs = d.hs; due = d.due; cut = cut_map A B d.hs d.due make d.cut; goes = d.goes; ends = d.ends; left = d.left }
+
+  -- memory was wanting before the one thing
+  pub some_wanting : (x : Occurrence) (s : Stations V) → AreOn G s → DidSome G (Just (x ∷ [])) fault.OutOfMemory s s
+  some_wanting x s on = record { at_end = s; hs = []; due = to_come x; cut = cut_just x; goes = go_none s on; ends = tt; left = none_further s }
 
   pub some_first : (A B : Language) (f : RunFault) (a b : Stations V) → Has B → DidSome G A f a b → DidSome G (Then A B) f a b
   some_first A B f a b has d = record { at_end = d.at_end; hs = d.hs; due = d.due; cut = cut_first A B d.hs d.due d.cut has; goes = d.goes; ends = d.ends; left = d.left }
@@ -101,7 +107,7 @@ module _ {V : Type 0} (G : Ghosts V) where
   pub say_did : (A : Language) (some : _) (a b : Stations V) → DidSay G A some a b → Did G A a b
   say_did A some a b d = record { hs = d.hs; word = d.word; goes = d.goes }
 
-  -- ---- their vaults and journals
+  -- ---- their vaults
 
   -- the one that stands there
   pub manned : (s : Stations V) → AreOn G s → (i : ℕ) (x : Station V) → slice_get s.all.items i ≡ Some x → IsManned G (length s.all.items) (i + 1) x
@@ -112,7 +118,7 @@ module _ {V : Type 0} (G : Ghosts V) where
 
   leaves_same : {T : Type 0} (P : Type 0) (s : Stations V) (i : ℕ) (x : Station V) (n : NodeState V) (r : Result T RunFault) → slice_get s.all.items i ≡ Some x → x.server ≡ standing n → HasGoneBy G (IsOfRun (length s.all.items)) P n.kept.vault n.kept.vault r
       → LeavesOf G (length s.all.items) P n (slice_get s.all.items i) r
-  leaves_same P s i x n r there stood gone = record { station = x; there = there; vault = n.kept.vault; its = subst (λ (o : Option (Server V)). HasVault o n.kept.vault) (sym stood) refl; gone = gone; adds = adds_at x.server n stood }
+  leaves_same P s i x n r there stood gone = record { station = x; there = there; vault = n.kept.vault; its = subst (λ (o : Option (Server V)). HasVault o n.kept.vault) (sym stood) refl; gone = gone }
 
   -- nothing was done
   pub gone_none : {T : Type 0} (P : Type 0) (s : Stations V) (x : T) → HaveGone G P s s (Ok x)
@@ -139,7 +145,6 @@ module _ {V : Type 0} (G : Ghosts V) where
             vault = two.vault;
             its = two.its;
             gone = gone_then G (IsOfRun (length a.all.items)) P Q R n.kept.vault one.vault two.vault x r first second one.gone later;
-            adds = adds_both n mid.node one.station.server two.station.server mid.keeps.stands one.adds two.adds;
           }
 
   pub gone_both : {T U : Type 0} (P : Type 0) (a b c : Stations V) (x : T) (r : Result U RunFault) → AreOn G b → HaveGone {T = T} G P a b (Ok x) → HaveGone G P b c r → HaveGone G P a c r
@@ -147,7 +152,7 @@ module _ {V : Type 0} (G : Ghosts V) where
 
   leaves_map : {T U : Type 0} (P Q : Type 0) (count : ℕ) (n : NodeState V) (now : Option (Station V)) (r : Result T RunFault) (q : Result U RunFault) → ((v : V) → HasGoneBy G (IsOfRun count) P n.kept.vault v r → HasGoneBy G (IsOfRun count) Q n.kept.vault v q)
       → LeavesOf G count P n now r → LeavesOf G count Q n now q
-  leaves_map P Q count n now r q make l = record { station = l.station; there = l.there; vault = l.vault; its = l.its; gone = make l.vault l.gone; adds = l.adds }
+  leaves_map P Q count n now r q make l = record { station = l.station; there = l.there; vault = l.vault; its = l.its; gone = make l.vault l.gone }
 
   pub gone_map : {T U : Type 0} (P Q : Type 0) (a b : Stations V) (r : Result T RunFault) (q : Result U RunFault)
       → ((n : NodeState V) (v : V) → HasGoneBy G (IsOfRun (length a.all.items)) P n.kept.vault v r → HasGoneBy G (IsOfRun (length a.all.items)) Q n.kept.vault v q) → HaveGone G P a b r → HaveGone G Q a b q

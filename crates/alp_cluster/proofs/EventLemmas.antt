@@ -1,18 +1,17 @@
 -- What happens at one server of a run.
 use Rattle.std.specs.Prelude.{Bool, slice_get, slice_set, Some}
-use Rattle.std.proofs.Common.{◌≡◌, ℕ, ◌-◌, List, [], ◌∷◌, refl, sym, subst}
+use Rattle.std.proofs.Common.{◌≡◌, ℕ, ◌-◌, List, [], ◌∷◌, subst}
 use Rattle.alp_journal.specs.declared.entry.Entry.{Entry}
 use Rattle.alp_journal.specs.declared.event.Event.{Event}
-use Rattle.alp_journal.specs.declared.event.Event.TheVariants as event
 use Rattle.alp_node.specs.NodeStates.{NodeState}
 use Rattle.alp_vault.specs.declared.vault.Vault.{Ghosts}
-use Rattle.alp_course.specs.Courses.{Seat, at}
-use Rattle.alp_course.specs.Happens.{Happening, sent_it, timed_out, ticked, forced, stop_set, restarted, lifts, finds, Stand, ComesTo, Happens}
+use Rattle.alp_course.specs.Courses.{at}
+use Rattle.alp_course.specs.Happens.{Happening, timed_out, ticked, forced, stop_set, restarted, lifts, Stand, ComesTo, Happens}
 use Rattle.alp_course.specs.Languages.{Just}
-use Rattle.alp_cluster.specs.Fills.{MakesEntry}
+use Rattle.alp_cluster.specs.Fills.{MakesEntry, IsOfEvent}
 use Rattle.alp_cluster.specs.Servers.{HasStopSet, StartsAgain}
 use Rattle.alp_cluster.specs.Station.{standing, WentBy}
-use Rattle.alp_cluster.specs.Stations.{AreOn, IsOneOf, AreLater, StartsAgainAt, Crashes, Go, Did, IsOfEvent}
+use Rattle.alp_cluster.specs.Stations.{AreOn, IsOneOf, Crashes, Go, Did}
 use Rattle.alp_cluster.specs.declared.station.Station.{Station}
 use Rattle.alp_cluster.specs.declared.stations.Stations.{Stations}
 use Rattle.alp_cluster.proofs.DidLemmas.{go_one, did_just}

@@ -1,10 +1,12 @@
 -- a client sends, the server answers, and all stay in step
-use Rattle.std.specs.Prelude.{◌==◌, true, false, Bool, Option, None, Some, IfSome}
+use Rattle.std.specs.Prelude.{◌==◌, true, false, Bool, Option, None, Some, IfSome, Ok, IfOk}
 use Rattle.std.specs.FinMap as map
 use Rattle.std.specs.Option.{option_map}
 use Rattle.std.proofs.Common.{inl, inr, ◌⊎◌, ◌≡◌, ◌≢◌, ℕ, ◌≤◌, List, [], ◌∷◌, ◌++◌, length, append-nil, refl, sym, ◌∙◌, ap, subst, arith}
 use Rattle.std.proofs.lemmas.Bool.Decides.{eqb_tells}
+use Rattle.std.proofs.lemmas.Result.{IfOk-weaker}
 use Rattle.alp_fields.specs.Forms.{whole}
+use Rattle.alp_files.specs.declared.reply.Reply.{Reply}
 use Rattle.alp_lines.specs.declared.line.Line.{Line}
 use Rattle.alp_lines.specs.Forms.{IsForm}
 use Rattle.alp_script.specs.declared.numbered.NumberedLine.{NumberedLine}
@@ -33,12 +35,11 @@ use Rattle.alp_session.specs.Crowd.{Crowd}
 use Rattle.alp_session.specs.Crowds.{client_at, with_client, request_next, asks, hears}
 use Rattle.alp_session.proofs.CrowdLemmas.{at_same, at_other, as_many}
 use Rattle.alp_node.specs.NodeStates.{NodeState}
-use Rattle.alp_node.specs.declared.server_state.ServerState.{ServerState}
 use Rattle.alp_vault.specs.declared.vault.Vault.{Ghosts}
-use Rattle.alp_cluster.specs.Exchanges.{event_of, place_for, IsAsked, IsTurnedAway, IsHanded}
+use Rattle.alp_cluster.specs.Exchanges.{event_of, place_for, IsAsked, IsTurnedAway, IsHanded, TellsReply}
 use Rattle.alp_cluster.specs.Goes.{IsLater, GoesBy}
 use Rattle.alp_cluster.specs.Handings.{item_made, AreHanded}
-use Rattle.alp_cluster.specs.Stations.{AreLater, IsReachedBy, state_at}
+use Rattle.alp_cluster.specs.Stations.{AreLater, state_at}
 use Rattle.alp_cluster.specs.declared.stations.Stations.{Stations}
 use Rattle.alp_course.specs.Happens.{sent_it, Takes, Happens, handed_for}
 use Rattle.alp_cluster.specs.Servers.{IsOn, IsFree, stand_of}
@@ -81,19 +82,23 @@ in_step_later G c before after step later = record {
 -- what the server made of it
 pub record IsServed {V : Type 0} (G : Ghosts V) (n m : NodeState V) (k server : ℕ) (h : Handed) : Type 0 where
   pub later : IsLater G n m
-  pub told : told_by h.bytes ≡ h.reply
+  pub told : TellsReply h
   pub goes : (line : ℕ) (w : Mark) (f tells : Bool) → IsFree G f n → GoesBy G f f (λ v es x. Happens tells v (sent_it k (item_made line server w h)) es x) n m
 
 module _ {V : Type 0} (G : Ghosts V) (n m : NodeState V) (k server : ℕ) (h : Handed) (on : IsOn G n) (here : server ≡ n.kept.server) where
+  -- the bytes that are handed back tell the reply
+  tells_reply : (epoch client number : ℕ) → IfOk h.bytes (λ b. b ≡ handed_for epoch client number h.reply) → told_by (handed_for epoch client number h.reply) ≡ h.reply → TellsReply h
+  tells_reply epoch client number bytes told = IfOk-weaker h.bytes _ _ (λ b is. ap told_by is ∙ told) bytes
+
   -- it is a call
-  call_takes : (line : ℕ) (w : Mark) (f b : Bool) (q : Request) (es : List Entry) → n.kept.is_down ≡ b → h.bytes ≡ handed_for n.kept.epoch q.client q.number h.reply → told_by h.bytes ≡ h.reply → h.place ≡ place_for b (length n.journal)
+  call_takes : (line : ℕ) (w : Mark) (f b : Bool) (q : Request) (es : List Entry) → n.kept.is_down ≡ b → told_by (handed_for n.kept.epoch q.client q.number h.reply) ≡ h.reply → h.place ≡ place_for b (length n.journal)
       → Made G n m f b (event_of q) h.reply es → Takes (stand_of G f n) k (item_made line server w h) b (sent.Call q.client q.epoch q.number q.call) es (stand_of G f m)
-  call_takes line w f true q es down bytes told place made = record { none = made.0; place = place; reply = made.1; told = ap told_by (sym bytes) ∙ told }
-  call_takes line w f false q es up bytes told place made = record {
+  call_takes line w f true q es down told place made = record { none = made.0; place = place; reply = made.1; told = told }
+  call_takes line w f false q es up told place made = record {
     made = made.0;
     place = place;
     reply = made.1;
-    told = ap told_by (ap (handed_for n.kept.epoch q.client q.number) made.1 ∙ sym bytes) ∙ told;
+    told = ap (λ (r : Option Reply). told_by (handed_for n.kept.epoch q.client q.number r)) made.1 ∙ told;
   }
 
   asked_served : (q : Request) → IsAsked G n m q h → IsServed G n m k server h
@@ -101,7 +106,7 @@ module _ {V : Type 0} (G : Ghosts V) (n m : NodeState V) (k server : ℕ) (h : H
       let s : StepMade G n m (event_of q) h.reply = step_made G n m (event_of q) h.reply on a.served a.steps in
       record {
         later = s.later;
-        told = a.told;
+        told = tells_reply n.kept.epoch q.client q.number a.bytes a.told;
         goes = λ line w f tells free. record {
           later = s.later;
           free = s.free f free;
@@ -110,7 +115,7 @@ module _ {V : Type 0} (G : Ghosts V) (n m : NodeState V) (k server : ℕ) (h : H
           made = (
             here,
             subst (λ (x : Sent). Takes (stand_of G f n) k (item_made line server w h) n.kept.is_down x s.entries (stand_of G f m)) (sym a.sent)
-                (call_takes line w f n.kept.is_down q s.entries refl a.bytes a.told a.place (s.made f free)),
+                (call_takes line w f n.kept.is_down q s.entries refl a.told a.place (s.made f free)),
           );
         };
       }
@@ -118,7 +123,7 @@ module _ {V : Type 0} (G : Ghosts V) (n m : NodeState V) (k server : ℕ) (h : H
   away_served : (frame : List ℕ) → IsTurnedAway n m k frame h → IsServed G n m k server h
   away_served frame a = subst (λ (z : NodeState V). IsServed G n z k server h) (sym a.still) (record {
     later = later_same G n on;
-    told = a.told;
+    told = tells_reply n.kept.epoch k 1 a.bytes a.told;
     goes = λ line w f tells free. record {
       later = later_same G n on;
       free = free;
@@ -127,7 +132,7 @@ module _ {V : Type 0} (G : Ghosts V) (n m : NodeState V) (k server : ℕ) (h : H
       made = (
         here,
         subst (λ (x : Sent). Takes (stand_of G f n) k (item_made line server w h) n.kept.is_down x [] (stand_of G f n)) (sym a.sent)
-            (record { none = (refl, refl); place = a.place; reply = a.reply; told = ap told_by (sym a.bytes) ∙ a.told }),
+            (record { none = (refl, refl); place = a.place; reply = a.reply; told = a.told }),
       );
     };
   })
@@ -214,25 +219,27 @@ sent_is G n m k frame h (Some q) a = a.sent
 
 module _ {V : Type 0} (G : Ghosts V) (c : Crowd) (before after : Stations V) (k : ℕ) (l : NumberedLine) (now : Next) (frame : Addressed) (h : Handed) (step : InStep G c before) (small : k ≤ 16) (form : IsForm l.line) (asked : asks c k l.line now ≡ Some frame)
     (fits : IfSome (request_next c k l.line now) request.Fits) (owns : IsOwnNext l.line now) (a : AreHanded G frame.server k frame.bytes h before after) where
-  pub exchanged : (new : Crowd) (behind : Next) (w : Mark) → (new, behind) ≡ hears c k l.line now frame (told_by h.bytes) → w ≡ mark_of l.line → Exchanged G c new before after k l now frame behind (item_made l.number frame.server w h)
+  -- the bytes that the client is handed tell the reply
+  pub told_here : (b : Option (List ℕ)) → h.bytes ≡ Ok b → told_by b ≡ h.reply
+  told_here b is = subst (λ r. IfOk r (λ (x : Option (List ℕ)). told_by x ≡ h.reply)) is (handed_served G a.was a.is k frame.server h a.on (sym a.number) frame.bytes (whole request frame.bytes) a.handed).told
+
+  pub exchanged : (new : Crowd) (behind : Next) (w : Mark) → (new, behind) ≡ hears c k l.line now frame h.reply → w ≡ mark_of l.line → Exchanged G c new before after k l now frame behind (item_made l.number frame.server w h)
   exchanged new behind w knows marks =
       let d : Client = client_at c k in
       let goes = a.goes l.number w in
       let later : AreLater G before after = goes.later in
-      let served : IsServed G a.was a.is k frame.server h = handed_served G a.was a.is k frame.server h a.on (sym a.number) frame.bytes (whole request frame.bytes) a.handed in
       let kind : IsSent (state_at before) c.words c.settings k d l.line now frame = sent_here (state_at before) c k l.line now frame (step.each k).frames (step.each k).past asked fits owns in
       let mine : IsOfClient (state_at before) (state_at after) c.words c.settings k d l.line now frame w h =
       of_client G a.was a.is (state_at before) (state_at after) c.words c.settings k d l.line now frame w h a.stood a.stands (λ n x. later.reached n k x) a.on (step.each k) form marks a.handed kind in
-      let knows_reply : (new, behind) ≡ hears c k l.line now frame h.reply = knows ∙ ap (hears c k l.line now frame) served.told in
       let words : WordMap = words_heard c.words d l.line now frame.server h.reply in
       let e : Client = (heard c.words c.settings d l.line now frame h.reply).0 in
-      let left : new ≡ with_client c words k e = ap (λ (p : Crowd × Next). p.0) knows_reply in
+      let left : new ≡ with_client c words k e = ap (λ (p : Crowd × Next). p.0) knows in
       let client_is : client_at new k ≡ e = ap (λ (z : Crowd). client_at z k) left ∙ at_same c words k e (omega (arith, step.places, small)) in
       record {
         step = subst (λ (z : Crowd). InStep G z after) (sym left) (with_one G c before after words k e step small later mine.step);
         goes = goes;
         number = refl;
         sent = record { server = refl; mark = marks; sent = sent_is G a.was a.is k frame.bytes h (whole request frame.bytes) a.handed };
-        heard = sym knows_reply;
+        heard = sym knows;
         said = λ xs short said. subst (λ (z : Client). HasSaid (state_at after) k z (xs ++ item_of (item_made l.number frame.server w h) ∷ [])) (sym client_is) (mine.said xs l.number short said);
       }

@@ -12,7 +12,7 @@ use Rattle.alp_base.specs.declared.allowance.Allowance.TheVariants.{Free, Left, 
 use Rattle.alp_node.specs.declared.start.StartFault.TheVariants as start_fault
 use Rattle.alp_vault.specs.declared.vault.Vault.{Ghosts}
 use Rattle.alp_cluster.specs.Fills.{OnEnd, OnEndBy}
-use Rattle.alp_cluster.specs.Servers.{HasGoneBy, HasGone, IsFailure, IsToldFault, AreCountedIn, OnFull}
+use Rattle.alp_cluster.specs.Servers.{HasGoneBy, HasGone, IsFailure, IsToldFault, AreCountedIn}
 use Rattle.alp_cluster.specs.declared.fault.RunFault.{RunFault}
 use Rattle.alp_cluster.specs.declared.fault.RunFault.TheVariants as fault
 
@@ -134,15 +134,13 @@ module _ {V : Type 0} (G : Ghosts V) where
   pub one_handed : {T U : Type 0} (P : Type 0) (u v : V) (f : RunFault) (r : Result U RunFault) → HasGone {T = T} G P u v (Err f) → r ≡ Err f → HasGone {T = U} G P u v r
   one_handed {T} {U} P u v f r h is = gone_handed G (λ m. m ≡ G.server u) P u v f r h is
 
--- ---- where a script ended a call
+-- ---- the fault that ended a call
 
 end_by_map : (f : RunFault) (P Q : RunFault → Type 0) → ((g : RunFault) → P g → Q g) → OnEndBy f P → OnEndBy f Q
-end_by_map (fault.DiskFault server) P Q make h = tt
-end_by_map fault.OutOfMemory P Q make h = tt
+end_by_map (fault.DiskFault server) P Q make h = make (fault.DiskFault server) h
+end_by_map fault.OutOfMemory P Q make h = make fault.OutOfMemory h
 end_by_map fault.JournalFull P Q make h = make fault.JournalFull h
-end_by_map (fault.Start server (start_fault.Vault f)) P Q make h = tt
-end_by_map (fault.Start server start_fault.BadNote) P Q make h = tt
-end_by_map (fault.Start server start_fault.EpochEnd) P Q make h = make (fault.Start server start_fault.EpochEnd) h
+end_by_map (fault.Start server f) P Q make h = make (fault.Start server f) h
 
 pub end_map : {T : Type 0} (r : Result T RunFault) (P Q : RunFault → Type 0) → ((g : RunFault) → P g → Q g) → OnEnd r P → OnEnd r Q
 end_map (Ok x) P Q make h = tt
@@ -152,24 +150,12 @@ end_map (Err f) P Q make h = end_by_map f P Q make h
 pub end_on : {U : Type 0} (f : RunFault) (r : Result U RunFault) (P Q : RunFault → Type 0) → r ≡ Err f → ((g : RunFault) → P g → Q g) → OnEndBy f P → OnEnd {T = U} r Q
 end_on {U = U} f r P Q is make h = subst (λ (q : Result U RunFault). OnEnd {T = U} q Q) (sym is) (end_by_map f P Q make h)
 
-pub full_then : {U : Type 0} (P Q : Type 0) (f : RunFault) (r : Result U RunFault) → OnEndBy f (λ g. (g ≡ fault.JournalFull) × P) → r ≡ Err f → (P → Q) → OnFull {T = U} r Q
-full_then P Q f r h is make = end_on f r (λ g. (g ≡ fault.JournalFull) × P) (λ g. (g ≡ fault.JournalFull) × Q) is (λ g at. (at.0, make at.1)) h
-
-pub full_map : {T : Type 0} (P Q : Type 0) (r : Result T RunFault) → (P → Q) → OnFull r P → OnFull r Q
-full_map P Q r make h = end_map r (λ g. (g ≡ fault.JournalFull) × P) (λ g. (g ≡ fault.JournalFull) × Q) (λ g at. (at.0, make at.1)) h
-
--- memory was wanting, which no script brings about
-pub end_memory : {T : Type 0} (r : Result T RunFault) (P : RunFault → Type 0) → r ≡ Err fault.OutOfMemory → OnEnd r P
-end_memory {T = T} r P is = subst (λ (q : Result T RunFault). OnEnd q P) (sym is) tt
-
--- what holds of any fault holds of one of those
+-- what holds of a fault holds where it ended the call
 end_by_any : (e : RunFault) (P : RunFault → Type 0) → P e → OnEndBy e P
-end_by_any (fault.DiskFault server) P h = tt
-end_by_any fault.OutOfMemory P h = tt
+end_by_any (fault.DiskFault server) P h = h
+end_by_any fault.OutOfMemory P h = h
 end_by_any fault.JournalFull P h = h
-end_by_any (fault.Start server (start_fault.Vault f)) P h = tt
-end_by_any (fault.Start server start_fault.BadNote) P h = tt
-end_by_any (fault.Start server start_fault.EpochEnd) P h = h
+end_by_any (fault.Start server f) P h = h
 
 pub end_any : {T : Type 0} (e : RunFault) (r : Result T RunFault) (P : RunFault → Type 0) → r ≡ Err e → P e → OnEnd r P
 end_any {T = T} e r P is h = subst (λ (q : Result T RunFault). OnEnd q P) (sym is) (end_by_any e P h)

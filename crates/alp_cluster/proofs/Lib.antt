@@ -11,7 +11,6 @@ pub mod ComeLemmas
 pub mod HeardLemmas
 pub mod OwnLemmas
 pub mod GoneLemmas
-pub mod AddsLemmas
 pub mod CalmLemmas
 pub mod TakenLemmas
 pub mod GoLemmas

@@ -1,5 +1,5 @@
 -- whole lines, and what they leave of clients, lists and servers
-use Rattle.std.specs.Prelude.{◌==◌, nat_le, true, false, Bool, cond, Option, None, Some, IsSome, map as list_map, slice_set, slice_index_or, Vec}
+use Rattle.std.specs.Prelude.{◌==◌, true, false, Bool, cond, Option, None, Some, map as list_map, slice_set, slice_index_or, Vec}
 use Rattle.std.specs.Global.{Global}
 use Rattle.std.proofs.Common.{inl, inr, ◌⊎◌, ◌<◌, ◌≡◌, ◌≢◌, ℕ, zero, suc, ◌≤◌, ◌+◌, ◌-◌, ◌^◌, List, [], ◌∷◌, ◌++◌, length, take, drop, refl, sym, ◌∙◌, ap, subst, arith, append_assoc, append-nil, length-append}
 use Rattle.std.proofs.lemmas.Bool.Decides.{eqb_tells, leb_tells}
@@ -32,17 +32,18 @@ use Rattle.alp_session.proofs.CrowdLemmas.{at_same, at_other, as_many}
 use Rattle.alp_vault.specs.declared.vault.Vault.{Ghosts}
 use Rattle.alp_course.specs.Courses.{Occurrence, at}
 use Rattle.alp_course.specs.Happens.{sent_it, timed_out}
-use Rattle.alp_course.specs.Languages.{Just, Then}
+use Rattle.alp_course.specs.Languages.{Just}
 use Rattle.alp_course.specs.Carries.{CarriesIf}
-use Rattle.alp_course.specs.Plays.{Due, to_send, to_come, IsCut, CarriesAt, Sends, SendsMore, timeouts_due, PlaysOwn, PlaysLine, BeginsOwn}
+use Rattle.alp_course.specs.Plays.{Due, to_send, to_come, untold, IsCut, CarriesAt, Sends, SendsMore, timeouts_due, PlaysOwn, BeginsOwn}
 use Rattle.alp_course.specs.Turns.{Turn, lists_in, own_in, turns_text}
 use Rattle.alp_course.proofs.LanguageLemmas.{then_word}
 use Rattle.alp_cluster.specs.Clients.{States, IsInStep, InStep, HasSaid}
-use Rattle.alp_cluster.specs.Stations.{AreLater, Go, Did, DidSome, state_at}
+use Rattle.alp_cluster.specs.Stations.{AreOn, AreLater, Go, Did, DidSome, state_at}
 use Rattle.alp_cluster.specs.Steps.{IsOwnNext, Exchanged, SaysOn, SayOn, DidLine, DidOfLine, AddsEvents, AddsSomeEvents, PlaysOn, Adds, AddsSome, BeginsOn, ExchangesNone}
 use Rattle.alp_cluster.specs.declared.fault.RunFault.{RunFault}
+use Rattle.alp_cluster.specs.declared.fault.RunFault.TheVariants as fault
 use Rattle.alp_cluster.specs.declared.stations.Stations.{Stations}
-use Rattle.alp_cluster.proofs.DidLemmas.{later_none, go_then}
+use Rattle.alp_cluster.proofs.DidLemmas.{later_none, go_none, go_then, none_further}
 use Rattle.alp_cluster.proofs.ExchangeLemmas.{in_step_later}
 use Rattle.alp_cluster.proofs.KnowLemmas.{SameKnown, same_known}
 use Rattle.alp_cluster.proofs.OwnLemmas.{step_later}
@@ -170,6 +171,21 @@ module _ {V : Type 0} (G : Ghosts V) (servers : ℕ) (c : Crowd) (a b : Stations
   none_said : (y : Stations V) → AreLater G b y → SaysOn c c a y k []
   none_said y later = λ front short said. subst (HasSaid (state_at y) k (client_at c k)) (sym (append-nil front)) (said_goes G b y c later k front (said_carried front said))
 
+  -- there was no memory for its next frame
+  pub asks_wanting : AreOn G b → DidOfLine G fault.OutOfMemory servers c c a b k l now []
+  asks_wanting on = record {
+    at_end = b;
+    hs = carried.hs;
+    due = untold;
+    goes = carried.goes;
+    ends = tt;
+    left = none_further G b;
+    number = tt;
+    sends = (inr (inr (refl, inr (inl carried.word))), refl);
+    said = none_said b (later_none G b on);
+    others = λ j away. refl;
+  }
+
   -- a line behind its last frame
   pub ended_line : (z : Stations V) → InStep G c b → asks c k l.line now ≡ None → Did G (Just (timeouts_due (times_out c k now))) b z → DidLine G servers c c a z k l now [] (times_out c k now)
   ended_line z step none timed = record {
@@ -192,7 +208,7 @@ module _ {V : Type 0} (G : Ghosts V) (servers : ℕ) (c : Crowd) (a b : Stations
     ends = h.ends;
     left = h.left;
     number = tt;
-    sends = (inr (carried.word, inl (frame, asked, refl)), refl);
+    sends = (inr (inl (carried.word, inl (frame, asked, refl))), refl);
     said = none_said b (later_none G b step.on);
     others = λ j away. refl;
   }
@@ -209,10 +225,48 @@ module _ {V : Type 0} (G : Ghosts V) (servers : ℕ) (c : Crowd) (a b : Stations
         ends = h.ends;
         left = h.left;
         number = tt;
-        sends = (inr (carried.word, inr (t, due, is)), refl);
+        sends = (inr (inl (carried.word, inr (t, due, is))), refl);
         said = none_said h.at_end h.goes.later;
         others = λ j away. refl;
       }
+
+-- there was no memory for what comes next
+pub next_wanting : {V : Type 0} (G : Ghosts V) (servers : ℕ) (c : Crowd) (s : Stations V) (k : ℕ) (l : NumberedLine) (now : Next) → AreOn G s → DidOfLine G fault.OutOfMemory servers c c s s k l now []
+next_wanting G servers c s k l now on = record {
+  at_end = s;
+  hs = [];
+  due = untold;
+  goes = go_none G s on;
+  ends = tt;
+  left = none_further G s;
+  number = tt;
+  sends = (inr (inr (refl, inl refl)), refl);
+  said = λ front short said. subst (HasSaid (state_at s) k (client_at c k)) (sym (append-nil front)) said;
+  others = λ j away. refl;
+}
+
+-- all of the line was sent, and then memory was wanting
+sends_whole : (servers k : ℕ) (l : Line) (c d : Crowd) (n : Next) (xs : List Item) (t : Option (ℕ × TransId)) (hs : List Occurrence) → Sends servers c k l n xs t hs d → SendsMore servers c k l n xs hs untold d
+sends_whole servers k l c d n [] t hs h =
+    let (word, asked, is, known) = h in
+    (inr (inr (refl, inr (inr (subst (λ (o : Option (ℕ × TransId)). Sends servers c k l n [] o hs c) is (word, asked, is, refl))))), known)
+sends_whole servers k l c d n (x ∷ xs) t hs h =
+    let (frame, rest, asked, of_frame, now, more) = h in
+    (frame, rest, asked, of_frame, now, sends_whole servers k l (hears c k l n frame x.reply).0 d (hears c k l n frame x.reply).1 xs t rest more)
+
+pub line_wanting : {V : Type 0} (G : Ghosts V) (servers : ℕ) (c d : Crowd) (a b : Stations V) (k : ℕ) (l : NumberedLine) (now : Next) (xs : List Item) (t : Option (ℕ × TransId)) → DidLine G servers c d a b k l now xs t → DidOfLine G fault.OutOfMemory servers c d a b k l now xs
+line_wanting G servers c d a b k l now xs t h = record {
+  at_end = b;
+  hs = h.hs;
+  due = untold;
+  goes = h.goes;
+  ends = tt;
+  left = none_further G b;
+  number = h.number;
+  sends = sends_whole servers k l.line c d now xs t h.hs h.sends;
+  said = h.said;
+  others = h.others;
+}
 
 -- messages were to be carried
 pub carry_some : {V : Type 0} (G : Ghosts V) (servers : ℕ) (c : Crowd) (a z : Stations V) (k : ℕ) (l : NumberedLine) (now : Next) (f : RunFault) → DidSome G (CarriesAt servers c now) f a z → DidOfLine G f servers c c a z k l now []
@@ -335,8 +389,8 @@ module _ {V : Type 0} (G : Ghosts V) (servers : ℕ) (c d : Crowd) (a b : Statio
     text = sym (append-nil text);
   }
 
-  pub begins_other : (f : RunFault) → AddsSomeEvents G f servers c d a b l.line → BeginsOn G f servers c d a b l
-  begins_other f h = record {
+  pub begins_other : (f : RunFault) (lists : List (Vec Item Global)) → AddsSomeEvents G f servers c d a b l.line → BeginsOn G f servers c d a b l lists lists
+  begins_other f lists h = record {
     turns = [];
     at_end = h.at_end;
     hs = h.hs;
@@ -345,6 +399,7 @@ module _ {V : Type 0} (G : Ghosts V) (servers : ℕ) (c d : Crowd) (a b : Statio
     ends = h.ends;
     left = h.left;
     begins = subst (λ (o : Option ℕ). BeginsOwn servers c l o [] h.hs h.due d) (sym none) (refl, h.begins, h.declared);
+    lists = λ k. sym (append-nil (lists_in lists k));
     few = λ k. omega arith;
     said = quiet h.at_end h.goes.later h.declared;
   }
@@ -420,6 +475,16 @@ module _ {V : Type 0} (G : Ghosts V) (servers : ℕ) (c d : Crowd) (a b : Statio
   from_line : (y : Stations V) → SayOn (at_line c k l.line) d a y (turn_at l k xs ∷ []) → SayOn c d a y (turn_at l k xs ∷ [])
   from_line y says = λ j front short said. says j front short (said_at_line (state_at a) c k l.line places small j front said)
 
+  module _ (lists : List (Vec Item Global)) (v : Vec Item Global) (many : length lists ≡ 17) (is : v.items ≡ lists_in lists k ++ xs) where
+    left : (j : ℕ) → (((j == k) ≡ true) × (j ≡ k)) ⊎ (((j == k) ≡ false) × (j ≢ k)) → lists_in (slice_set lists k v) j ≡ lists_in lists j ++ own_in j (turn_at l k xs ∷ [])
+    left j (inl same) =
+        ap (lists_in (slice_set lists k v)) same.1 ∙ set_same lists k v (omega (arith, small, many)) ∙ is
+        ∙ (λ i. lists_in lists k ++ sym (own_same l k xs) i) ∙ ap (λ (i : ℕ). lists_in lists i ++ own_in i (turn_at l k xs ∷ [])) (sym same.1)
+    left j (inr away) = set_other lists k v j away.1 ∙ sym (append-nil (lists_in lists j)) ∙ ap (λ (ys : List Item). lists_in lists j ++ ys) (sym (own_other l k j xs away.1))
+
+    pub lists_now : (j : ℕ) → lists_in (slice_set lists k v) j ≡ lists_in lists j ++ own_in j (turn_at l k xs ∷ [])
+    lists_now j = left j (eqb_tells j k)
+
   pub plays_item : (t : Option (ℕ × TransId)) (lists : List (Vec Item Global)) (v : Vec Item Global) (text now : List ℕ) → length lists ≡ 17 → v.items ≡ lists_in lists k ++ xs → now ≡ text ++ turns_text (turn_at l k xs ∷ [])
       → DidLine G servers (at_line c k l.line) d a b k l next.Call xs t → PlaysOn G servers c d a b l lists (slice_set lists k v) text now
   plays_item t lists v text now many is told did = record {
@@ -429,20 +494,14 @@ module _ {V : Type 0} (G : Ghosts V) (servers : ℕ) (c d : Crowd) (a b : Statio
     goes = did.goes;
     plays = subst (λ (o : Option ℕ). PlaysOwn servers c l o (turn_at l k xs ∷ []) did.hs d) (sym named) (xs, t, refl, did.number, did.sends);
     places = set_many lists k v;
-    lists = λ j. left j (eqb_tells j k);
+    lists = lists_now lists v many is;
     few = few_turn l k xs few;
     said = from_line b (said_turn G a b (at_line c k l.line) d l k xs did.goes.later few did.said did.others);
     text = told;
   }
-    where
-      left : (j : ℕ) → (((j == k) ≡ true) × (j ≡ k)) ⊎ (((j == k) ≡ false) × (j ≢ k)) → lists_in (slice_set lists k v) j ≡ lists_in lists j ++ own_in j (turn_at l k xs ∷ [])
-      left j (inl same) =
-          ap (lists_in (slice_set lists k v)) same.1 ∙ set_same lists k v (omega (arith, small, many)) ∙ is
-          ∙ (λ i. lists_in lists k ++ sym (own_same l k xs) i) ∙ ap (λ (i : ℕ). lists_in lists i ++ own_in i (turn_at l k xs ∷ [])) (sym same.1)
-      left j (inr away) = set_other lists k v j away.1 ∙ sym (append-nil (lists_in lists j)) ∙ ap (λ (ys : List Item). lists_in lists j ++ ys) (sym (own_other l k j xs away.1))
 
-  pub begins_item : (f : RunFault) → DidOfLine G f servers (at_line c k l.line) d a b k l next.Call xs → BeginsOn G f servers c d a b l
-  begins_item f h = record {
+  pub begins_item : (f : RunFault) (lists now : List (Vec Item Global)) → ((j : ℕ) → lists_in now j ≡ lists_in lists j ++ own_in j (turn_at l k xs ∷ [])) → DidOfLine G f servers (at_line c k l.line) d a b k l next.Call xs → BeginsOn G f servers c d a b l lists now
+  begins_item f lists now are h = record {
     turns = turn_at l k xs ∷ [];
     at_end = h.at_end;
     hs = h.hs;
@@ -451,9 +510,18 @@ module _ {V : Type 0} (G : Ghosts V) (servers : ℕ) (c d : Crowd) (a b : Statio
     ends = h.ends;
     left = h.left;
     begins = subst (λ (o : Option ℕ). BeginsOwn servers c l o (turn_at l k xs ∷ []) h.hs h.due d) (sym named) (xs, refl, h.number, h.sends);
+    lists = are;
     few = few_turn l k xs few;
     said = from_line h.at_end (said_turn G a h.at_end (at_line c k l.line) d l k xs h.goes.later few h.said h.others);
   }
+
+-- a line that sent nothing has no item
+pub no_items : (l : NumberedLine) (k : ℕ) (lists : List (Vec Item Global)) (j : ℕ) → lists_in lists j ≡ lists_in lists j ++ own_in j (turn_at l k [] ∷ [])
+no_items l k lists j = sym (append-nil (lists_in lists j)) ∙ ap (λ (ys : List Item). lists_in lists j ++ ys) (sym (nothing (eqb_tells j k)))
+  where
+    nothing : (((j == k) ≡ true) × (j ≡ k)) ⊎ (((j == k) ≡ false) × (j ≢ k)) → own_in j (turn_at l k [] ∷ []) ≡ []
+    nothing (inl same) = ap (λ (i : ℕ). own_in i (turn_at l k [] ∷ [])) same.1 ∙ own_same l k []
+    nothing (inr away) = own_other l k j [] away.1
 
 -- ---- and what is carried behind it
 
@@ -475,7 +543,7 @@ module _ {V : Type 0} (G : Ghosts V) (servers : ℕ) (c d : Crowd) (a b : Statio
     text = h.text;
   }
 
-  pub adds_some : (f : RunFault) (z : Stations V) → DidSome G (CarriesIf servers d.settings.collects) f b z → AddsSome G f servers c d a z l
+  pub adds_some : (f : RunFault) (z : Stations V) → DidSome G (CarriesIf servers d.settings.collects) f b z → AddsSome G f servers c d a z l lists now
   adds_some f z cut = record {
     turns = h.turns;
     at_end = cut.at_end;
@@ -485,10 +553,11 @@ module _ {V : Type 0} (G : Ghosts V) (servers : ℕ) (c d : Crowd) (a b : Statio
     ends = cut.ends;
     left = cut.left;
     begins = inr (h.hs, cut.hs, refl, h.plays, cut.cut);
+    lists = h.lists;
     few = h.few;
     said = said_behind cut.at_end cut.goes.later;
   }
 
 -- a line that is not over
-pub adds_begun : {V : Type 0} (G : Ghosts V) (f : RunFault) (servers : ℕ) (c d : Crowd) (a b : Stations V) (l : NumberedLine) → BeginsOn G f servers c d a b l → AddsSome G f servers c d a b l
-adds_begun G f servers c d a b l h = record { turns = h.turns; at_end = h.at_end; hs = h.hs; due = h.due; goes = h.goes; ends = h.ends; left = h.left; begins = inl h.begins; few = h.few; said = h.said }
+pub adds_begun : {V : Type 0} (G : Ghosts V) (f : RunFault) (servers : ℕ) (c d : Crowd) (a b : Stations V) (l : NumberedLine) (lists now : List (Vec Item Global)) → BeginsOn G f servers c d a b l lists now → AddsSome G f servers c d a b l lists now
+adds_begun G f servers c d a b l lists now h = record { turns = h.turns; at_end = h.at_end; hs = h.hs; due = h.due; goes = h.goes; ends = h.ends; left = h.left; begins = inl h.begins; lists = h.lists; few = h.few; said = h.said }

@@ -1,7 +1,6 @@
 -- Behind a run that was settled all servers are at rest.
-use Rattle.std.specs.Prelude.{IsTrue, map as list_map, slice_get}
-use Rattle.std.specs.List.{AllByRecursion}
-use Rattle.std.proofs.Common.{inl, inr, ◌≡◌, ℕ, suc, ◌+◌, ◌-◌, ◌<◌, ◌≤◌, List, [], ◌∷◌, ◌++◌, length, get_or, refl, sym, ◌∙◌, ap, subst, arith}
+use Rattle.std.specs.Prelude.{IsTrue, map as list_map}
+use Rattle.std.proofs.Common.{inl, inr, ◌≡◌, ℕ, suc, ◌+◌, ◌-◌, ◌<◌, ◌≤◌, List, [], ◌∷◌, ◌++◌, length, get_or, sym, ◌∙◌, ap, subst, arith}
 use Rattle.std.proofs.lemmas.List.{length-map}
 use Rattle.alp_journal.specs.Account.{Account, state_of as account_state, Stands}
 use Rattle.alp_journal.specs.Answered.{IsAnswered}
@@ -9,24 +8,22 @@ use Rattle.alp_journal.specs.Laws.{IsLawful}
 use Rattle.alp_history.specs.Items.{Handed}
 use Rattle.alp_history.specs.Log as logs
 use Rattle.alp_history.specs.Log.{IsIn}
-use Rattle.alp_history.specs.Theorems.{IsProper, IsSettled}
 use Rattle.alp_node.specs.NodeStates.{NodeState}
 use Rattle.alp_node.specs.Nodes.{IsRight, start_in}
 use Rattle.alp_vault.specs.declared.vault.Vault.{Ghosts}
-use Rattle.alp_course.specs.Courses.{Course, Seat, seat_at, no_seat, IsSeat, Occurrence, AreCourse, TellAll}
-use Rattle.alp_course.specs.Links.{server_log, log_of, AreNumbered, IsFirst}
-use Rattle.alp_course.specs.Resting.{AreSpelled, IsWellRun}
+use Rattle.alp_course.specs.Courses.{Course, Seat, seat_at, no_seat, IsSeat, Occurrence, AreCourse}
+use Rattle.alp_course.specs.Links.{server_log, log_of, AreNumbered}
+use Rattle.alp_course.specs.Midway.{IsMidway}
+use Rattle.alp_course.specs.Resting.{IsWellRun}
 use Rattle.alp_course.specs.Settles.{IsSettling}
 use Rattle.alp_course.proofs.CalmRest.{each_tells}
-use Rattle.alp_course.proofs.LanguageLemmas.{IsVia, course_split}
-use Rattle.alp_course.proofs.LinkLemmas.{course_on, first_holds, linking}
+use Rattle.alp_course.proofs.LinkLemmas.{linked}
+use Rattle.alp_course.proofs.MidwayLemmas.{midway_on}
 use Rattle.alp_course.proofs.RestingLemmas.{resting}
 use Rattle.alp_course.proofs.SeatLemmas.{IsOf, its as its_log, nobodys, of_course, of_seat, seat_number}
-use Rattle.alp_course.proofs.UpLemmas.{many_on}
 use Rattle.alp_cluster.specs.Runs.{AreRested}
 use Rattle.alp_cluster.specs.Station.{standing, seat_for, seat_of}
 use Rattle.alp_cluster.specs.Stations.{AreOn, IsManned, IsOneOf, course_of}
-use Rattle.alp_cluster.specs.declared.station.Station.{Station}
 use Rattle.alp_cluster.specs.declared.stations.Stations.{Stations}
 use Rattle.alp_cluster.proofs.StationsLemmas.{its, seat_stands}
 use Rattle.alp_cluster.proofs.SweepLemmas.{is_there}
@@ -81,22 +78,18 @@ module _ {V : Type 0} (G : Ghosts V) (z : Stations V) (on : AreOn G z) where
         account = (right.state, right.says, right.kept.quiet.settled.stands);
       })
 
-  -- behind the settling of a run
-  pub rested_all : (servers : ℕ) (first : Course) (hs before behind : List Occurrence) → IsFirst first → AreCourse first hs (course_of G z) → hs ≡ before ++ behind → length z.all.items ≡ servers → IsSettling servers behind → AreRested G z
-  rested_all servers first hs before behind begin course are count settles handed tells sound spelled n s =
+  -- behind a settling, wherever that began
+  pub rested_all : (r : Course) (behind : List Occurrence) → IsMidway r → IsSettling (length r.seats) behind → AreCourse r behind (course_of G z) → AreRested G z
+  rested_all r behind mid settles course handed tells sound spelled n s =
       let c : Course = course_of G z in
-      let via : IsVia first before behind c = course_split first c before behind (subst (λ (xs : List Occurrence). AreCourse first xs c) are course) in
-      let many : length c.seats ≡ length via.mid.seats = many_on via.mid c behind via.second in
-      let all : length c.seats ≡ length z.all.items = length-map z.all.items (seat_of G) in
-      let numbered : AreNumbered 1 c.seats = (course_on first c hs (first_holds first begin) course).numbered in
+      let last : IsMidway c = midway_on r c behind mid course in
       let facts : (k : ℕ) → IsSeat c k → IsRightSeat (length c.seats) (seat_at c k) = (λ k here. right_seat k here (each_tells c tells k here)) in
-      let word : IsSettling (length via.mid.seats) behind = subst (λ (k : ℕ). IsSettling k behind) (sym count ∙ sym all ∙ many) settles in
       let well : IsWellRun c handed = record {
-        proper = record { different = different c handed numbered; sound = sound; lawful = all_lawful c handed numbered (λ k here. (facts k here).lawful); linked = linking first c hs handed begin course };
+        proper = record { different = different c handed last.holds.numbered; sound = sound; lawful = all_lawful c handed last.holds.numbered (λ k here. (facts k here).lawful); linked = linked c handed last.holds };
         answered = λ k here. (facts k here).answered;
         tells = tells;
         spelled = spelled;
         among = λ k here. (facts k here).among;
         account = λ k here. (facts k here).account;
       } in
-      resting first via.mid c before behind handed begin via.first word via.second well n s
+      resting r c behind handed mid settles course well n s

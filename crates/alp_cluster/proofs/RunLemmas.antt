@@ -1,14 +1,13 @@
 -- A run that goes on by one line, and what it is in the end.
-use Rattle.std.specs.Prelude.{false, map as list_map, Option, None, Some, IfSome, Vec, replicate}
+use Rattle.std.specs.Prelude.{map as list_map, None, IfSome, Vec, replicate}
 use Rattle.std.specs.Global.{Global}
 use Rattle.std.specs.List.{AllByRecursion}
 use Rattle.std.specs.FinMap.{get-empty}
 use Rattle.std.specs.Ordering.{nat_cmp}
 use Rattle.std.specs.Option.{option_map}
 use Rattle.std.proofs.Common.{inl, inr, ◌≡◌, ℕ, zero, suc, ◌+◌, ◌*◌, ◌<◌, ◌≤◌, ◌^◌, List, [], ◌∷◌, ◌++◌, length, take, get_or, refl, sym, ◌∙◌, ap, subst, arith, append-nil, length-append}
-use Rattle.std.proofs.lemmas.List.{take_more, map-append, length-replicate, length-map}
+use Rattle.std.proofs.lemmas.List.{take_more, map-append, length-map}
 use Rattle.std.proofs.lemmas.Grind.{flat_map-append}
-use Rattle.alp_base.specs.declared.ids.TransId.{TransId}
 use Rattle.alp_journal.specs.declared.log.Item.{Item}
 use Rattle.alp_report.specs.Reports.{line_text}
 use Rattle.alp_history.specs.RunLogs.{item_of}
@@ -20,16 +19,16 @@ use Rattle.alp_session.specs.declared.client.Client.{Client}
 use Rattle.alp_session.specs.declared.frames.Addressed.{Addressed}
 use Rattle.alp_session.specs.declared.frames.Frames.{Frames}
 use Rattle.alp_vault.specs.declared.vault.Vault.{Ghosts}
-use Rattle.alp_course.specs.Courses.{Course, Occurrence, AreCourse}
-use Rattle.alp_course.specs.Plays.{Due, sent_of, Plays, IsCut}
+use Rattle.alp_course.specs.Courses.{Occurrence, AreCourse}
 use Rattle.alp_course.specs.Settles.{IsSettling, AreUp, AreTaken}
 use Rattle.alp_course.specs.Turns.{Turn, lists_in, own_in, sent_in, turns_text}
 use Rattle.alp_course.proofs.LanguageLemmas.{course_append}
+use Rattle.alp_course.proofs.MidwayLemmas.{first_midway, midway_on}
 use Rattle.alp_course.proofs.PlayLemmas.{Plays-push, sent_append, sent_in-append, plays_sent, begins_sent, settling_cut_sent, own_append}
 use Rattle.alp_course.proofs.TakenLemmas.{taken_all}
 use Rattle.alp_course.proofs.UpLemmas.{lifting_up, many_on}
 use Rattle.alp_cluster.specs.Clients.{States, come_in, session_of, HasSaid}
-use Rattle.alp_cluster.specs.Runs.{Ran, HasPlayed, HasPlayedOut, HasEndedEarly}
+use Rattle.alp_cluster.specs.Runs.{Ran, AreRested, HasPlayed, HasPlayedOut, HasEndedEarly, IsSettledDown}
 use Rattle.alp_cluster.specs.Station.{seat_of}
 use Rattle.alp_cluster.specs.Stations.{Go, Did, DidSome, course_of, state_at}
 use Rattle.alp_cluster.specs.Steps.{Adds, AddsSome}
@@ -92,8 +91,8 @@ module _ {V : Type 0} (G : Ghosts V) (servers : ℕ) (ls : List NumberedLine) (c
   -- ---- a run that ends before its script does
 
   -- in a line
-  pub line_ended : (lines : List NumberedLine) (l : NumberedLine) (later : List NumberedLine) (known : Crowd) (f : RunFault) → lines ≡ ls ++ l ∷ later → length ls < 2 ^ 29 → AddsSome G f servers c known s t l → HasEndedEarly G servers lines f t
-  line_ended lines l later known f are low e = record {
+  pub line_ended : (lines : List NumberedLine) (l : NumberedLine) (later : List NumberedLine) (known : Crowd) (f : RunFault) (now : List (Vec Item Global)) → lines ≡ ls ++ l ∷ later → length ls < 2 ^ 29 → AddsSome G f servers c known s t l lists now → HasEndedEarly G servers lines f t now
+  line_ended lines l later known f now are low e = record {
     last = e.at_end;
     on = e.goes.later.on;
     count = count_more e.at_end e.hs e.goes;
@@ -124,10 +123,11 @@ module _ {V : Type 0} (G : Ghosts V) (servers : ℕ) (ls : List NumberedLine) (c
     });
     ends = e.ends;
     ended = e.left;
+    lists = λ k. e.lists k ∙ ap (λ (xs : List Item). xs ++ own_in k e.turns) (h.lists k) ∙ sym (own_append k h.turns e.turns);
   }
 
   -- or behind all lines
-  pub end_ended : (f : RunFault) → length ls < 2 ^ 29 → DidSome G (IsSettling servers) f s t → HasEndedEarly G servers ls f t
+  pub end_ended : (f : RunFault) → length ls < 2 ^ 29 → DidSome G (IsSettling servers) f s t → HasEndedEarly G servers ls f t lists
   end_ended f low e = record {
     last = e.at_end;
     on = e.goes.later.on;
@@ -142,6 +142,7 @@ module _ {V : Type 0} (G : Ghosts V) (servers : ℕ) (ls : List NumberedLine) (c
     next_was = inr (record { clients = c; happened_before = h.happened; happened_now = e.hs; happened_are = refl; plays = h.plays; settles = e.cut });
     ends = e.ends;
     ended = e.left;
+    lists = h.lists;
   }
 
   -- ---- all of it
@@ -158,6 +159,12 @@ module _ {V : Type 0} (G : Ghosts V) (servers : ℕ) (ls : List NumberedLine) (c
       let many : length (list_map (seat_of G) s.all.items) ≡ servers = length-map s.all.items (seat_of G) ∙ h.count in
       taken_all (course_of G s) (course_of G t) e.hs (subst (λ (n : ℕ). IsSettling n e.hs) (sym many) e.word) (passes_course G e.hs s t e.goes.passes)
 
+  -- and all are at rest
+  rested_then : (e : Did G (IsSettling servers) s t) → AreRested G t
+  rested_then e =
+      let many : length (list_map (seat_of G) s.all.items) ≡ servers = length-map s.all.items (seat_of G) ∙ h.count in
+      rested_all G t e.goes.later.on (course_of G s) e.hs (midway_on h.ran.first (course_of G s) h.happened (first_midway h.ran.first h.ran.is_first) h.ran.course) (subst (λ (n : ℕ). IsSettling n e.hs) (sym many) e.word) (passes_course G e.hs s t e.goes.passes)
+
   did_alone : Did G (IsSettling servers) s t → servers ≡ 1 → Did G (IsSettling 1) s t
   did_alone e one = subst (λ (n : ℕ). Did G (IsSettling n) s t) one e
 
@@ -167,7 +174,7 @@ module _ {V : Type 0} (G : Ghosts V) (servers : ℕ) (ls : List NumberedLine) (c
     count = count_more t e.hs e.goes;
     up = up_then e;
     taken = taken_then e;
-    rested = (let r = ran_more t e.hs e.goes in rested_all G t e.goes.later.on servers r.first (h.happened ++ e.hs) h.happened e.hs r.is_first r.course refl (count_more t e.hs e.goes) e.word);
+    rested = rested_then e;
     rests = λ one told. rested_alone G s t h.step.on (did_alone e one) (h.count ∙ one) told;
     turns = h.turns;
     hs = h.happened ++ e.hs;
@@ -178,6 +185,18 @@ module _ {V : Type 0} (G : Ghosts V) (servers : ℕ) (ls : List NumberedLine) (c
     text = h.text;
     ran = ran_more t e.hs e.goes;
   }
+
+-- a settling by itself
+pub settled_down : {V : Type 0} (G : Ghosts V) (s t : Stations V) → Did G (IsSettling (length s.all.items)) s t → IsSettledDown G s t
+settled_down G s t e =
+    let many : length (list_map (seat_of G) s.all.items) ≡ length s.all.items = length-map s.all.items (seat_of G) in
+    let word : IsSettling (length (course_of G s).seats) e.hs = subst (λ (n : ℕ). IsSettling n e.hs) (sym many) e.word in
+    let course : AreCourse (course_of G s) e.hs (course_of G t) = passes_course G e.hs s t e.goes.passes in
+    record {
+      up = lifting_up (course_of G s) (course_of G t) e.hs word course;
+      taken = taken_all (course_of G s) (course_of G t) e.hs word course;
+      rested = λ mid. rested_all G t e.goes.later.on (course_of G s) e.hs mid word course;
+    }
 
 -- ---- the line at a place
 

@@ -1,6 +1,6 @@
 -- What a client still sends for its line, behind messages that are carried before.
 use Rattle.std.specs.Prelude.{◌≢◌, Option, None, Some}
-use Rattle.std.proofs.Common.{◌≡◌, ℕ, ◌+◌, ◌<◌, ◌≤◌, List, [], ◌∷◌, ◌++◌, length, refl, sym, ◌∙◌, ap, subst, arith}
+use Rattle.std.proofs.Common.{inl, inr, ◌≡◌, ℕ, ◌+◌, ◌<◌, ◌≤◌, List, [], ◌∷◌, ◌++◌, length, append-nil, sym, ◌∙◌, subst, arith}
 use Rattle.alp_base.specs.declared.ids.TransId.{TransId}
 use Rattle.alp_journal.specs.declared.log.Item.{Item}
 use Rattle.alp_script.specs.declared.numbered.NumberedLine.{NumberedLine}
@@ -8,7 +8,6 @@ use Rattle.alp_session.specs.Ahead.{ahead, IsOnItsWay}
 use Rattle.alp_session.specs.Frames.{IsReady}
 use Rattle.alp_session.specs.Crowd.{Crowd}
 use Rattle.alp_session.specs.Crowds.{client_at, asks, times_out}
-use Rattle.alp_session.specs.declared.client.Client.{Client}
 use Rattle.alp_session.specs.declared.frames.Addressed.{Addressed}
 use Rattle.alp_session.specs.declared.waiting.Next.{Next}
 use Rattle.alp_vault.specs.declared.vault.Vault.{Ghosts}
@@ -16,13 +15,14 @@ use Rattle.alp_course.specs.Courses.{Occurrence}
 use Rattle.alp_course.specs.Languages.{Just}
 use Rattle.alp_course.specs.Plays.{Due, IsCut, CarriesAt, timeouts_due}
 use Rattle.alp_cluster.specs.Clients.{InStep}
-use Rattle.alp_cluster.specs.Stations.{AreLater, Did, DidSome}
-use Rattle.alp_cluster.specs.Steps.{IsOwnNext, Exchanged, ExchangesNone, DidLine, DidOfLine}
+use Rattle.alp_cluster.specs.Stations.{Did, DidSome}
+use Rattle.alp_cluster.specs.Steps.{IsOwnNext, Exchanged, ExchangesNone, SendsNot, DidLine, DidOfLine}
 use Rattle.alp_cluster.specs.declared.fault.RunFault.{RunFault}
+use Rattle.alp_cluster.specs.declared.fault.RunFault.TheVariants as fault
 use Rattle.alp_cluster.specs.declared.stations.Stations.{Stations}
 use Rattle.alp_cluster.proofs.CarryLemmas.{count_later}
 use Rattle.alp_cluster.proofs.ExchangeLemmas.{in_step_later}
-use Rattle.alp_cluster.proofs.LineLemmas.{fewer_behind, own_behind, more_line, more_some, ended_line, send_some, timed_some}
+use Rattle.alp_cluster.proofs.LineLemmas.{fewer_behind, own_behind, more_line, more_some, asks_wanting, next_wanting, ended_line, send_some, timed_some}
 
 -- nothing is no cut
 no_cut : (hs : List Occurrence) (due : Due) → IsCut (Just []) hs due → ⊥
@@ -59,6 +59,11 @@ module _ {V : Type 0} (G : Ghosts V) (c e : Crowd) (same : e ≡ c) (a b : Stati
   pub line_sends : (f : RunFault) (z : Stations V) (frame : Addressed) → asks e k l.line now ≡ Some frame → ExchangesNone G f k frame b z → DidOfLine G f (length a.all.items) c c a z k l now []
   line_sends f z frame asked h = subst (λ (x : Crowd). DidOfLine G f (length a.all.items) x x a z k l now []) same (send_some G (length a.all.items) e a b k l now carried_here f z frame asked step_here h)
 
+  -- ---- there was no memory for it
+
+  pub line_asks : DidOfLine G fault.OutOfMemory (length a.all.items) c c a b k l now []
+  line_asks = asks_wanting G (length a.all.items) c a b k l now carried carried.goes.later.on
+
   -- ---- it went out, and there is more to come
 
   module _ (d : Crowd) (m : Stations V) (frame : Addressed) (behind : Next) (x : Item) (small : k ≤ 16) (way : IsOnItsWay c.words (client_at c k) l.line now) (asked : asks e k l.line now ≡ Some frame) (h : Exchanged G e d b m k l now frame behind x) where
@@ -93,3 +98,19 @@ module _ {V : Type 0} (G : Ghosts V) (c e : Crowd) (same : e ≡ c) (a b : Stati
       longer xs few,
       more_some G (length a.all.items) c a b k l now carried d f m z frame behind x xs asked_then then_h g (subst (λ (n : ℕ). DidOfLine G g n d f m z k l behind xs) many_then rest),
     )
+
+  -- ---- it did not go out, or went out and memory was wanting
+
+  -- what of the line is told then
+  pub record NotSent (f : RunFault) (z : Stations V) (before after : List Item) : Type 0 where
+    pub xs : List Item
+    pub known : Crowd
+    pub few : length xs ≤ ahead c.words (client_at c k) l.line now
+    pub items : after ≡ before ++ xs
+    pub did : DidOfLine G f (length a.all.items) c known a z k l now xs
+
+  pub line_not : (f : RunFault) (z : Stations V) (frame : Addressed) (before after : List Item) → k ≤ 16 → IsOnItsWay c.words (client_at c k) l.line now → asks e k l.line now ≡ Some frame → SendsNot G f e b z k l now frame before after → NotSent f z before after
+  line_not f z frame before after small way asked (inl (same, none)) = record { xs = []; known = c; few = omega arith; items = same ∙ sym (append-nil before); did = line_sends f z frame asked none }
+  line_not f z frame before after small way asked (inr (is, d, behind, x, items, h)) =
+      let (few, did) = line_some d z frame behind x small way asked h fault.OutOfMemory d z [] (omega arith) (next_wanting G (length z.all.items) d z k l behind h.goes.later.on) in
+      record { xs = x ∷ []; known = d; few = few; items = items; did = subst (λ (g : RunFault). DidOfLine G g (length a.all.items) c d a z k l now (x ∷ [])) (sym is) did }

@@ -10,20 +10,21 @@ use Rattle.alp_node.specs.NodeStates.{NodeState}
 use Rattle.alp_node.specs.Served.{IsServed}
 use Rattle.alp_vault.specs.declared.vault.Vault.{Ghosts}
 use Rattle.alp_course.specs.Courses.{last_rank, ranks_from, ranks_with}
-use Rattle.alp_course.specs.Happens.{Stand, Happening, ComesTo, Takes, Happens, stop_set, restarted, lifts}
+use Rattle.alp_course.specs.Happens.{Stand, ComesTo, Takes, Happens, stop_set, restarted, lifts}
 use Rattle.alp_course.proofs.RankLemmas.{none_with}
-use Rattle.alp_cluster.specs.Goes.{AddsEntries, GoesBy}
-use Rattle.alp_cluster.specs.Servers.{IsOn, IsFree, HasGone, HasNoRoom, HasComeTo, HasStopSet, IsLifted, StartsAgain, StaysDown, stand_of}
-use Rattle.alp_cluster.specs.Station.{standing, HasVault, Keeps, WentBy, WasHanded, LeavesVault, IsStill}
+use Rattle.alp_rpc.specs.declared.frame.Request.{Request}
+use Rattle.alp_cluster.specs.Exchanges.{EndsHanding, event_of}
+use Rattle.alp_cluster.specs.Goes.{GoesBy}
+use Rattle.alp_cluster.specs.Servers.{IsFree, HasGone, HasNoRoom, IsUntouched, HasFailedIn, EndsStep, HasComeTo, HasStopSet, IsLifted, StartsAgain, stand_of}
+use Rattle.alp_cluster.specs.Station.{standing, HasVault, Keeps, WentBy, LeavesVault, IsStill, IsLeftUntouched, IsLeftFailed, EndsEvent, EndsFrame}
 use Rattle.alp_cluster.specs.declared.fault.RunFault.{RunFault}
 use Rattle.alp_cluster.specs.declared.fault.RunFault.TheVariants as fault
 use Rattle.alp_cluster.specs.declared.server.Server.{Server}
-use Rattle.alp_cluster.specs.declared.server.Server.TheVariants.{Fallen}
 use Rattle.alp_cluster.specs.declared.station.Station.{Station}
-use Rattle.alp_cluster.proofs.AddsLemmas.{adds_at, adds_some}
 use Rattle.alp_cluster.proofs.GoLemmas.{event_goes}
 use Rattle.alp_cluster.proofs.GoneLemmas.{one_nothing}
-use Rattle.alp_cluster.proofs.RestartLemmas.{again_goes, again_gone, stays_gone, lifted_goes, lifted_gone, stop_goes, stop_gone}
+use Rattle.alp_cluster.proofs.RestartLemmas.{again_goes, again_gone, lifted_goes, stop_goes}
+use Rattle.alp_cluster.proofs.TakenLemmas.{untouched}
 
 pub last_index : (xs : List ℕ) → slice_index_or xs (length xs - 1) 0 ≡ last_rank xs
 last_index [] = refl
@@ -66,7 +67,7 @@ few_taken w k x false (sent.Call client epoch number c) es v h = (let one : leng
 pub one_of : {V : Type 0} (o : Option (Server V)) (n m : NodeState V) → o ≡ standing n → o ≡ standing m → n ≡ m
 one_of o n m first second = (let same : standing n ≡ standing m = sym first ∙ second in cc)
 
--- ---- what is left of its vault and its journal
+-- ---- what is left of its vault
 
 module _ {V : Type 0} (G : Ghosts V) where
   -- nothing was done, for memory was wanting
@@ -75,24 +76,18 @@ module _ {V : Type 0} (G : Ghosts V) where
     n.kept.vault,
     subst (λ (o : Option (Server V)). HasVault o n.kept.vault) (sym (same ∙ stood)) refl,
     subst (λ (q : Result T RunFault). HasGone G P n.kept.vault n.kept.vault q) (sym is) (one_nothing G P n.kept.vault (Err fault.OutOfMemory) tt tt refl),
-    adds_at y.server n (same ∙ stood),
   )
 
   -- ranks are no matter of the vault
   pub leaves_on : {T : Type 0} (P : Type 0) (x y z w : Station V) (r : Result T RunFault) → y.server ≡ x.server → w.server ≡ z.server → LeavesVault G P y z r → LeavesVault G P x w r
   leaves_on P x y z w r first last leaves = λ n stood.
-      let (v, has, gone, adds) = leaves n (first ∙ stood) in
-      (v, subst (λ (o : Option (Server V)). HasVault o v) (sym last) has, gone, subst (λ (o : Option (Server V)). AddsEntries n o) (sym last) adds)
+      let (v, has, gone) = leaves n (first ∙ stood) in
+      (v, subst (λ (o : Option (Server V)). HasVault o v) (sym last) has, gone)
 
   -- of the one that stands there
-  pub leaves_server : {T : Type 0} (P : Type 0) (x : Station V) (o : Option (Server V)) (n : NodeState V) (v : V) (r : Result T RunFault) → x.server ≡ standing n → HasVault o v → HasGone G P n.kept.vault v r → AddsEntries n o
-      → (k : NodeState V) → x.server ≡ standing k → (u : V) × HasVault o u × HasGone G P k.kept.vault u r × AddsEntries k o
-  leaves_server {T} P x o n v r is has gone adds = λ k stood. (
-    v,
-    has,
-    subst (λ (z : NodeState V). HasGone G P z.kept.vault v r) (one_of x.server n k is stood) gone,
-    subst (λ (z : NodeState V). AddsEntries z o) (one_of x.server n k is stood) adds,
-  )
+  pub leaves_server : {T : Type 0} (P : Type 0) (x : Station V) (o : Option (Server V)) (n : NodeState V) (v : V) (r : Result T RunFault) → x.server ≡ standing n → HasVault o v → HasGone G P n.kept.vault v r
+      → (k : NodeState V) → x.server ≡ standing k → (u : V) × HasVault o u × HasGone G P k.kept.vault u r
+  leaves_server {T} P x o n v r is has gone = λ k stood. (v, has, subst (λ (z : NodeState V). HasGone G P z.kept.vault v r) (one_of x.server n k is stood) gone)
 
   -- ---- it went on
 
@@ -140,6 +135,51 @@ module _ {V : Type 0} (G : Ghosts V) where
     },
   )
 
+  -- ---- a step that was not taken as it is to be
+
+  -- there was no memory for the rank
+  pub push_by : (x y : Station V) (n : NodeState V) → Keeps G x n → y.server ≡ x.server → y.is_fused ≡ x.is_fused → y.ranks.items ≡ x.ranks.items → IsLeftUntouched G x y n
+  push_by x y n keeps server fused ranks = record { after = n; stands = server ∙ keeps.stands; untouched = untouched G n; ranks = ranks; fused = fused }
+
+  module _ (seen : ℕ) (x y : Station V) (n m : NodeState V) (keeps : Keeps G x n) (stands : y.server ≡ standing m) (fused : y.is_fused ≡ x.is_fused) (ranks : y.ranks.items ≡ take (length m.journal) (x.ranks.items ++ (max (last_rank x.ranks.items) seen + 1) ∷ [])) where
+    untouched_by : IsUntouched G n m → IsLeftUntouched G x y n
+    untouched_by h = record {
+      after = m;
+      stands = stands;
+      untouched = h;
+      ranks =
+          ranks ∙ ap (λ (js : List Entry). take (length js) (x.ranks.items ++ (max (last_rank x.ranks.items) seen + 1) ∷ [])) h.journal
+          ∙ take_none x.ranks.items n.journal (max (last_rank x.ranks.items) seen + 1) keeps.ranked;
+      fused = fused;
+    }
+
+    failed_by : (e : Event) → HasFailedIn G n m e → IsLeftFailed G seen e x y n
+    failed_by e h = record {
+      after = m;
+      stands = stands;
+      failed = h;
+      ranks =
+          ranks ∙ ap (λ (js : List Entry). take (length js) (x.ranks.items ++ (max (last_rank x.ranks.items) seen + 1) ∷ [])) h.journal
+          ∙ take_ranks x.ranks.items n.journal (h.entry ∷ []) (max (last_rank x.ranks.items) seen + 1) keeps.ranked (omega arith);
+      fused = fused;
+    }
+
+    pub event_by : (e : Event) (f : RunFault) → EndsStep G f n m e → EndsEvent G f seen e x y n
+    event_by e fault.JournalFull h = still_by seen x y n m keeps h stands fused ranks
+    event_by e fault.OutOfMemory h = untouched_by h
+    event_by e (fault.DiskFault server) h = (h.0, failed_by e h.1)
+    event_by e (fault.Start server f) h = absurd h
+
+  pub frame_by : (x y : Station V) (n m : NodeState V) → Keeps G x n → y.server ≡ standing m → y.is_fused ≡ x.is_fused → y.ranks.items ≡ take (length m.journal) (x.ranks.items ++ (max (last_rank x.ranks.items) 0 + 1) ∷ [])
+      → (f : RunFault) (o : Option Request) → EndsHanding G f n m o → EndsFrame G f o x y n
+  frame_by x y n m keeps stands fused ranks f None h = (h.0, untouched_by 0 x y n m keeps stands fused ranks h.1)
+  frame_by x y n m keeps stands fused ranks f (Some q) h = event_by 0 x y n m keeps stands fused ranks (event_of q) f h
+
+  -- whatever the bytes of a frame spell
+  pub frame_wants : (x y : Station V) (n : NodeState V) (o : Option Request) → IsLeftUntouched G x y n → EndsFrame G fault.OutOfMemory o x y n
+  frame_wants x y n None h = (refl, h)
+  frame_wants x y n (Some q) h = h
+
   -- ---- its disk
 
   -- without entries the ranks stay
@@ -182,9 +222,6 @@ module _ {V : Type 0} (G : Ghosts V) where
 
   -- what is left of it, whether it did or not
   pub again_leaves : (pick : ℕ) (x : Station V) (o : Option (Server V)) (n m : NodeState V) → x.server ≡ standing n → StartsAgain G pick n m → o ≡ standing m → (k : NodeState V) → x.server ≡ standing k
-      → (u : V) × HasVault o u × HasGone {T = Unit {0}} G (Unit {0}) k.kept.vault u (Ok tt) × AddsEntries k o
+      → (u : V) × HasVault o u × HasGone {T = Unit {0}} G (Unit {0}) k.kept.vault u (Ok tt)
   again_leaves pick x o n m stood again stands =
-      let g : GoesBy G false false (λ w es v. Happens false w (restarted pick) es v) n m = again_goes G pick n m again false false in
-      let adds : AddsEntries n (standing m) = adds_some n m g.entries g.later.opening g.journal in
       leaves_server {T = Unit {0}} (Unit {0}) x o n m.kept.vault (Ok tt) stood (subst (λ (q : Option (Server V)). HasVault q m.kept.vault) (sym stands) refl) (again_gone G pick n m again (Unit {0}) tt)
-      (subst (λ (q : Option (Server V)). AddsEntries n q) (sym stands) adds)

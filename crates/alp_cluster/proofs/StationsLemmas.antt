@@ -1,34 +1,31 @@
 -- One of the servers of a run goes on.
-use Rattle.std.specs.Prelude.{◌≢◌, ◌⊎◌, Bool, map as list_map, slice_get, slice_set, Option, None, Some, IfSome, Result, Ok, Err}
+use Rattle.std.specs.Prelude.{◌≢◌, ◌⊎◌, map as list_map, slice_get, slice_set, Option, None, Some, IfSome, Result, Ok, Err}
 use Rattle.std.proofs.Common.{inl, inr, ◌≡◌, ℕ, zero, suc, ◌+◌, ◌-◌, ◌<◌, ◌≤◌, List, [], ◌∷◌, ◌++◌, length, get_or, refl, sym, ◌∙◌, ap, subst, arith}
 use Rattle.std.proofs.lemmas.List.{append-nil, length-append, length-set, length-map, map-set, set-get_or, get_or-map, get_or-set_same, get_or-set_other}
 use Rattle.std.proofs.lemmas.Bool.{cases_eq}
 use Rattle.alp_journal.specs.declared.entry.Entry.{Entry}
 use Rattle.alp_journal.specs.Timely.{IsTimelyMessage}
 use Rattle.alp_node.specs.NodeStates.{NodeState}
-use Rattle.alp_node.specs.Nodes.{start_in}
 use Rattle.alp_node.specs.declared.opened.Opened.{Opened}
 use Rattle.alp_node.specs.declared.server_state.ServerState.{ServerState}
-use Rattle.alp_node.specs.declared.start.StartFault.TheVariants as start_fault
 use Rattle.alp_posts.specs.Messages.{HasGrown}
 use Rattle.alp_posts.specs.Post.{Post}
-use Rattle.alp_posts.specs.Posts.{AreServers, Fits, post_at}
-use Rattle.alp_posts.proofs.TableLemmas.{longer_fits, still_grown}
+use Rattle.alp_posts.specs.Posts.{Fits, post_at}
+use Rattle.alp_posts.proofs.TableLemmas.{longer_fits}
 use Rattle.alp_vault.specs.declared.vault.Vault.{Ghosts}
-use Rattle.alp_course.specs.Courses.{Course, Seat, no_seat, seat_at, seat_after, ranks_with, IsSeat, IsAt}
+use Rattle.alp_course.specs.Courses.{Seat, no_seat, seat_at, seat_after, IsSeat, IsAt}
 use Rattle.alp_course.specs.Happens.{Stand}
 use Rattle.alp_course.proofs.RankLemmas.{many_from, get_below}
 use Rattle.alp_cluster.specs.Come.{Come}
-use Rattle.alp_cluster.specs.Goes.{AddsEntries, IsLater, GoesBy, opening_in}
-use Rattle.alp_cluster.specs.Servers.{IsOn, IsFree, HasGone, HasGoneBy, IsFailure, IsToldFault, AreCountedIn, stand_of}
-use Rattle.alp_cluster.specs.Station.{standing, HasVault, seat_for, seat_of, Keeps, WentBy, LeavesVault}
+use Rattle.alp_cluster.specs.Goes.{opening_in}
+use Rattle.alp_cluster.specs.Servers.{HasGone, IsFailure, IsToldFault, AreCountedIn, stand_of}
+use Rattle.alp_cluster.specs.Station.{standing, HasVault, seat_for, seat_of, WentBy, LeavesVault}
 use Rattle.alp_cluster.specs.Stations.{AreOn, AreLater, IsManned, IsOneOf, IsOfRun, LeavesOf, HaveGone, IsCalmSince, AreCalmSince, course_of, journals_in, openings_of, server_in, server_at, state_in, state_for, state_at, IsReachedBy}
 use Rattle.alp_cluster.specs.declared.fault.RunFault.{RunFault}
 use Rattle.alp_cluster.specs.declared.fault.RunFault.TheVariants as fault
 use Rattle.alp_cluster.specs.declared.server.Server.{Server}
 use Rattle.alp_cluster.specs.declared.station.Station.{Station}
 use Rattle.alp_cluster.specs.declared.stations.Stations.{Stations}
-use Rattle.alp_cluster.proofs.AddsLemmas.{adds_at}
 use Rattle.alp_cluster.proofs.GoneLemmas.{gone_nothing, gone_among}
 
 -- ---- a list with one place set
@@ -99,7 +96,7 @@ module _ {V : Type 0} (G : Ghosts V) (s after : Stations V) (on : AreOn G s) (se
   seats_now : (course_of G after).seats ≡ slice_set (course_of G s).seats (server - 1) (seat_of G y)
   seats_now = ap (list_map (seat_of G)) items ∙ map-set (seat_of G) s.all.items (server - 1) y
 
-  -- ---- what becomes of the vaults and the journals
+  -- ---- what becomes of the vaults
 
   -- at another server nothing was done, and the fault is not its
   still_failed : {T : Type 0} (n count at : ℕ) (faults other : ℕ) (r : Result T RunFault) → IsOfRun count n → at ≢ n → IsFailure (λ m. m ≡ n) n r faults other → (a : ℕ) → IsFailure (IsOfRun count) at r a a
@@ -129,7 +126,7 @@ module _ {V : Type 0} (G : Ghosts V) (s after : Stations V) (on : AreOn G s) (se
       mine : IsManned G (length s.all.items) server x
       mine = its G s on server here x there
 
-      own : (v : V) × HasVault y.server v × HasGone G P mine.node.kept.vault v r × AddsEntries mine.node y.server
+      own : (v : V) × HasVault y.server v × HasGone G P mine.node.kept.vault v r
       own = leaves mine.node mine.keeps.stands
 
       number : G.server mine.node.kept.vault ≡ server
@@ -144,7 +141,7 @@ module _ {V : Type 0} (G : Ghosts V) (s after : Stations V) (on : AreOn G s) (se
       at_it : (z : Station V) (n : NodeState V) → slice_get s.all.items (server - 1) ≡ Some z → z.server ≡ standing n → LeavesOf G (length s.all.items) P n (slice_get after.all.items (server - 1)) r
       at_it z n at stood =
           let same : z ≡ x = same_some (slice_get s.all.items (server - 1)) z x at there in
-          let (v, has, gone, adds) = leaves n (sym (ap (λ (w : Station V). w.server) same) ∙ stood) in
+          let (v, has, gone) = leaves n (sym (ap (λ (w : Station V). w.server) same) ∙ stood) in
           let is : standing n ≡ standing mine.node = sym stood ∙ ap (λ (w : Station V). w.server) same ∙ mine.keeps.stands in
           let node : n ≡ mine.node = cc in
           let its_number : G.server n.kept.vault ≡ server = ap (λ (k : NodeState V). G.server k.kept.vault) node ∙ number in
@@ -154,7 +151,6 @@ module _ {V : Type 0} (G : Ghosts V) (s after : Stations V) (on : AreOn G s) (se
             vault = v;
             its = has;
             gone = gone_among G (λ m. m ≡ G.server n.kept.vault) (IsOfRun (length s.all.items)) P n.kept.vault v r (λ m e. subst (IsOfRun (length s.all.items)) (sym (e ∙ its_number)) of_run) gone;
-            adds = adds;
           }
 
       elsewhere : (i : ℕ) (z : Station V) (n : NodeState V) → i ≢ server - 1 → slice_get s.all.items i ≡ Some z → z.server ≡ standing n → LeavesOf G (length s.all.items) P n (slice_get after.all.items i) r
@@ -171,7 +167,6 @@ module _ {V : Type 0} (G : Ghosts V) (s after : Stations V) (on : AreOn G s) (se
             its = subst (λ (o : Option (Server V)). HasVault o n.kept.vault) (sym stood) refl;
             gone = gone_nothing G (IsOfRun (length s.all.items)) P n.kept.vault r (still_failed server (length s.all.items) (G.server n.kept.vault) (G.faults mine.node.kept.vault) (G.faults own.0) r of_run apart failed (G.faults n.kept.vault))
                 (still_told server (G.server n.kept.vault) (G.faults mine.node.kept.vault) (G.faults own.0) r apart failed) (still_counted server (G.server n.kept.vault) (G.faults mine.node.kept.vault) (G.faults own.0) r apart failed (G.faults n.kept.vault));
-            adds = adds_at z.server n stood;
           }
 
       each : (i : ℕ) (z : Station V) (n : NodeState V) → slice_get s.all.items i ≡ Some z → z.server ≡ standing n → LeavesOf G (length s.all.items) P n (slice_get after.all.items i) r

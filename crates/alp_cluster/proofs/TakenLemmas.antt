@@ -20,7 +20,7 @@ use Rattle.alp_node.specs.Sessions.{session_at}
 use Rattle.alp_node.specs.Steps.{IsSeated}
 use Rattle.alp_node.specs.Turns.{HasTurned}
 use Rattle.alp_node.specs.declared.opened.Opened.{Opened}
-use Rattle.alp_cluster.specs.Servers.{IsOn, IsDone, IsKeptReply, AreKept, HasGone, HasStepped, state_of, is_failure, is_failed_at, fails}
+use Rattle.alp_cluster.specs.Servers.{IsOn, IsDone, IsKeptReply, AreKept, HasGone, HasStepped, IsUntouched, HasFailedIn, state_of, is_failure, is_failed_at, fails}
 use Rattle.alp_cluster.specs.declared.fault.RunFault.TheVariants as fault
 use Rattle.alp_cluster.proofs.CalmLemmas.{calm, calm_reply, quiet_now, fault_now, failed_rose, free_goes}
 use Rattle.alp_cluster.proofs.DeskLemmas.{change, kept_all}
@@ -141,7 +141,39 @@ module _ {V : Type 0} (G : Ghosts V) (n m : NodeState V) (e : Event) (r : Option
     counted = λ p free. ((λ here. rose_by shows), (λ away. absurd (away (is ∙ sym on.kept.number))));
   }
 
+  -- the entry shows it
+  pub failed_left : (is_read_fault r ≡ true) ⊎ (list_any is_failure a.acts ≡ true) → HasFailedIn G n m e
+  failed_left shows = record {
+    up = up;
+    room = room;
+    server = seat.server;
+    opening = opening;
+    start = start_same;
+    telling = seat.same.telling;
+    entry = entry_made;
+    event = refl;
+    journal = a.entry;
+    shows = shows;
+    rose = rose_by shows;
+  }
+
 -- memory was wanting
+pub wanting_left : {V : Type 0} (G : Ghosts V) (n m : NodeState V) → m.opening ≡ n.opening → IsSeated G n.kept m.kept → HasNoEntry G n m → IsUntouched G n m
+wanting_left G n m opening seat none = record {
+  journal = none.journal;
+  opening = opening;
+  server = seat.server;
+  epoch = seat.epoch;
+  down = none.up;
+  start = λ i. start_by G (seat.server i) (ap (λ (o : Opened _). o.vault.value) opening i);
+  telling = seat.same.telling;
+  faults = none.vault.faults;
+}
+
+-- nothing was done
+pub untouched : {V : Type 0} (G : Ghosts V) (n : NodeState V) → IsUntouched G n n
+untouched G n = record { journal = refl; opening = refl; server = refl; epoch = refl; down = refl; start = refl; telling = refl; faults = refl }
+
 pub wanting_gone : {V T : Type 0} (G : Ghosts V) (P : Type 0) (n m : NodeState V) → IsSeated G n.kept m.kept → HasNoEntry G n m → HasGone {T = T} G P n.kept.vault m.kept.vault (Err fault.OutOfMemory)
 wanting_gone G P n m seat none = record {
   same = seat.same;

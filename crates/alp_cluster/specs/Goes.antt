@@ -23,12 +23,6 @@ journal_in (Some (Up n)) = n.journal
 journal_in (Some (Fallen d)) = d.journal
 journal_in None = []
 
--- It was opened on what this server was, and its journal is that of this server with more entries, or none.
-pub record AddsEntries {V : Type 0} (before : NodeState V) (now : Option (Server V)) : Type 0 where
-  pub opening : opening_in now ≡ Some before.opening
-  pub more : List Entry
-  pub journal : journal_in now ≡ before.journal ++ more
-
 -- ---- one that stands
 
 -- It is the same server, opened on the same, and what calls it had come to it has come to still. Where no entry of its journal stopped it, none

@@ -1,5 +1,5 @@
 -- A run that has played some lines of a script, and its servers at the end.
-use Rattle.std.specs.Prelude.{◌≡◌, ◌⊎◌, ℕ, ◌*◌, ◌<◌, ◌≤◌, ◌^◌, Bool, false, true, IsTrue, List, [], ◌∷◌, ◌++◌, length, map as list_map, Option, None, Vec}
+use Rattle.std.specs.Prelude.{◌≡◌, ◌⊎◌, ℕ, ◌*◌, ◌<◌, ◌≤◌, ◌^◌, Bool, false, true, IsTrue, List, [], ◌∷◌, ◌++◌, length, map as list_map, None, Vec}
 use Rattle.std.specs.Global.{Global}
 use Rattle.std.specs.List.{AllByRecursion}
 use Rattle.alp_base.specs.declared.ids.TransId.{TransId}
@@ -16,13 +16,14 @@ use Rattle.alp_history.specs.Theorems.{IsSettled}
 use Rattle.alp_vault.specs.declared.vault.Vault.{Ghosts}
 use Rattle.alp_course.specs.Courses.{Course, Occurrence, seat_at, IsSeat, AreCourse, TellAll}
 use Rattle.alp_course.specs.Links.{log_of, IsFirst}
+use Rattle.alp_course.specs.Midway.{IsMidway}
 use Rattle.alp_course.specs.Plays.{Due, sent_of, IsCut, Plays, BeginsLine, ArePlayed}
 use Rattle.alp_course.specs.Resting.{AreSpelled}
 use Rattle.alp_course.specs.Settles.{IsSettling, AreUp, AreTaken}
 use Rattle.alp_course.specs.Turns.{Turn, lists_in, own_in, sent_in, turns_text}
 use Rattle.alp_cluster.specs.Clients.{InStep, HasSaid}
 use Rattle.alp_cluster.specs.Fills.{IsEndFor}
-use Rattle.alp_cluster.specs.Stations.{AreOn, EndsFor, course_of, openings_of, state_at}
+use Rattle.alp_cluster.specs.Stations.{AreOn, EndsFor, course_of, state_at}
 use Rattle.alp_cluster.specs.declared.fault.RunFault.{RunFault}
 use Rattle.alp_cluster.specs.declared.stations.Stations.{Stations}
 
@@ -78,6 +79,13 @@ AreRested G last =
     (handed : Handed) → TellAll (course_of G last) → AreSoundOpenings (log_of (course_of G last) handed) → ((n : ℕ) → IsSeat (course_of G last) n → AreSpelled (seat_at (course_of G last) n).opening)
     → (n : ℕ) → IsSeat (course_of G last) n → IsSettled (seat_at (course_of G last) n).stand.state
 
+-- Behind a settling each server is up, nobody stops its disk, and no message to another one is left. Where it began with servers on their way, as those
+-- of a run are from its first moment on, all are at rest.
+pub record IsSettledDown {V : Type 0} (G : Ghosts V) (before after : Stations V) : Type 0 where
+  pub up : AreUp (course_of G after)
+  pub taken : AreTaken (course_of G after)
+  pub rested : IsMidway (course_of G before) → AreRested G after
+
 -- All lines were played on servers that did nothing before, and then the run was settled: each server is up, nobody stops its disk, no message
 -- to another one is left, and all are at rest. Where it is the only one, no transaction is live there, whatever it opened on.
 pub record HasPlayedOut {V : Type 0} (G : Ghosts V) (servers : ℕ) (lines : List NumberedLine) (last : Stations V) (vs : List (Vec Item Global)) (printed : List ℕ) : Type 0 where
@@ -122,9 +130,9 @@ pub record StopsBehindLines (servers : ℕ) (lines : List NumberedLine) (turns :
   pub plays : Plays servers new_crowd lines turns happened_before clients
   pub settles : IsCut (IsSettling servers) happened_now due
 
--- The run ended before, for that fault, and this is what was played by then: the servers stood so, and there was more to come, for which
--- that is no way. These are left.
-pub record HasEndedEarly {V : Type 0} (G : Ghosts V) (servers : ℕ) (lines : List NumberedLine) (f : RunFault) (left : Stations V) : Type 0 where
+-- The run ended before, for that fault, and this is what was played by then: the servers stood so, each item stands in its client's list, and
+-- there was more to come, for which that is no way. These are left.
+pub record HasEndedEarly {V : Type 0} (G : Ghosts V) (servers : ℕ) (lines : List NumberedLine) (f : RunFault) (left : Stations V) (vs : List (Vec Item Global)) : Type 0 where
   pub last : Stations V
   pub on : AreOn G last
   pub count : length last.all.items ≡ servers
@@ -137,4 +145,5 @@ pub record HasEndedEarly {V : Type 0} (G : Ghosts V) (servers : ℕ) (lines : Li
   pub ran : Ran G hs last
   pub next_was : StopsInLine servers lines turns hs due ⊎ StopsBehindLines servers lines turns hs due
   pub ends : IsEndFor f (course_of G last) due
-  pub ended : EndsFor G f last left
+  pub ended : EndsFor G f due last left
+  pub lists : (k : ℕ) → lists_in vs k ≡ own_in k turns

@@ -1,5 +1,5 @@
 -- A server of a run, up or down, on a disk that lines may stop.
-use Rattle.std.specs.Prelude.{◌≡◌, ◌≢◌, ℕ, ◌≤◌, ◌||◌, Bool, true, false, IsTrue, List, [], ◌∷◌, ◌++◌, length, Option, None, Some, is_some, Result, Ok, Err}
+use Rattle.std.specs.Prelude.{◌≡◌, ◌≢◌, ◌⊎◌, ℕ, ◌≤◌, ◌||◌, Bool, true, false, IsTrue, List, [], ◌∷◌, ◌++◌, length, Option, None, Some, is_some, Result, Ok, Err}
 use Rattle.std.specs.List.{list_any, AllByRecursion}
 use Rattle.alp_base.specs.Allowances.{Sets}
 use Rattle.alp_base.specs.Causes.{Rose}
@@ -35,7 +35,6 @@ use Rattle.alp_node.specs.declared.server_state.ServerState.{ServerState}
 use Rattle.alp_node.specs.declared.start.StartFault.{StartFault}
 use Rattle.alp_node.specs.declared.start.StartFault.TheVariants as start_fault
 use Rattle.alp_course.specs.Happens.{Stand}
-use Rattle.alp_cluster.specs.Fills.{OnEnd}
 use Rattle.alp_cluster.specs.declared.fault.RunFault.{RunFault}
 use Rattle.alp_cluster.specs.declared.fault.RunFault.TheVariants as fault
 
@@ -169,15 +168,47 @@ HasGone G P old new result = HasGoneBy G (λ server. server ≡ G.server old) P 
 
 -- ---- one step
 
--- of the faults that a script brings about only a journal that is full ended the call, and then this holds
-abbrev pub OnFull : {T : Type 0} → Result T RunFault → Type 0 → Type 0
-OnFull r P = OnEnd r (λ f. (f ≡ fault.JournalFull) × P)
-
 -- it took no step: its journal has no room for another entry
 pub record HasNoRoom {V : Type 0} (old new : NodeState V) : Type 0 where
   pub up : old.kept.is_down ≡ false
   pub full : IsFull old
   pub same : new ≡ old
+
+-- Memory was wanting: it took no step, and stands as it stood. Its vault may have other pages at hand.
+pub record IsUntouched {V : Type 0} (G : Ghosts V) (old new : NodeState V) : Type 0 where
+  pub journal : new.journal ≡ old.journal
+  pub opening : new.opening ≡ old.opening
+  pub server : new.kept.server ≡ old.kept.server
+  pub epoch : new.kept.epoch ≡ old.kept.epoch
+  pub down : new.kept.is_down ≡ old.kept.is_down
+  pub start : start_in G new ≡ start_in G old
+  pub telling : G.tells new.kept.vault ≡ G.tells old.kept.vault
+  pub faults : G.faults new.kept.vault ≡ G.faults old.kept.vault
+
+-- an entry shows that the device failed in it: by its reply, or by an act
+abbrev pub ShowsFault : Entry → Type 0
+ShowsFault e = (is_read_fault e.reply ≡ true) ⊎ (fails e ≡ true)
+
+-- Its device failed in the step of this event: there is one entry more, which shows it, and its count of faults rose.
+pub record HasFailedIn {V : Type 0} (G : Ghosts V) (old new : NodeState V) (e : Event) : Type 0 where
+  pub up : old.kept.is_down ≡ false
+  pub room : HasRoom old
+  pub server : new.kept.server ≡ old.kept.server
+  pub opening : new.opening ≡ old.opening
+  pub start : start_in G new ≡ start_in G old
+  pub telling : G.tells new.kept.vault ≡ G.tells old.kept.vault
+  pub entry : Entry
+  pub event : entry.event ≡ e
+  pub journal : new.journal ≡ old.journal ++ entry ∷ []
+  pub shows : ShowsFault entry
+  pub rose : Rose (G.faults old.kept.vault) (G.faults new.kept.vault)
+
+-- a step was not taken as it is to be: its journal has no room, memory was wanting, or its device failed
+abbrev pub EndsStep : {V : Type 0} → Ghosts V → RunFault → (old new : NodeState V) → Event → Type 0
+EndsStep G fault.JournalFull old new e = HasNoRoom old new
+EndsStep G fault.OutOfMemory old new e = IsUntouched G old new
+EndsStep G (fault.DiskFault server) old new e = (server ≡ old.kept.server) × HasFailedIn G old new e
+EndsStep G (fault.Start server f) old new e = ⊥
 
 -- it is down, and takes no step
 pub record IsShut {V : Type 0} (old new : NodeState V) (r : Option Reply) : Type 0 where

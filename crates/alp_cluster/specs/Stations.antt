@@ -2,8 +2,6 @@
 use Rattle.std.specs.Prelude.{◌≡◌, ℕ, ◌+◌, ◌-◌, ◌≤◌, List, [], ◌∷◌, length, map as list_map, slice_get, slice_set, Option, None, Some, IfSome, Result}
 use Rattle.alp_journal.specs.declared.entry.Entry.{Entry}
 use Rattle.alp_journal.specs.declared.event.Event.{Event}
-use Rattle.alp_journal.specs.declared.event.Event.TheVariants as event
-use Rattle.alp_node.specs.DownStates.{DownState}
 use Rattle.alp_journal.specs.Timely.{IsTimelyMessage}
 use Rattle.alp_node.specs.NodeStates.{NodeState}
 use Rattle.alp_node.specs.declared.opened.Opened.{Opened}
@@ -12,14 +10,14 @@ use Rattle.alp_posts.specs.Post.{Post, post_of}
 use Rattle.alp_posts.specs.Posts.{AreServers, Fits, post_at}
 use Rattle.alp_vault.specs.declared.vault.Vault.{Ghosts}
 use Rattle.alp_course.specs.Courses.{Course, seat_at, Occurrence, at, Occurs}
-use Rattle.alp_course.specs.Happens.{Happening, timed_out, ticked, forced, stop_set, restarted}
+use Rattle.alp_course.specs.Happens.{stop_set, restarted}
 use Rattle.alp_course.specs.Languages.{Language}
 use Rattle.alp_course.specs.Plays.{Due, IsCut}
 use Rattle.alp_cluster.specs.Come.{Come, IsReached}
-use Rattle.alp_cluster.specs.Fills.{IsEndFor}
-use Rattle.alp_cluster.specs.Goes.{AddsEntries, opening_in, journal_in}
-use Rattle.alp_cluster.specs.Servers.{AreCalm, HasGoneBy, HasStopSet, StartsAgain}
-use Rattle.alp_cluster.specs.Station.{standing, HasVault, seat_of, Keeps, EndsHere}
+use Rattle.alp_cluster.specs.Fills.{IsEndFor, IsEventDue, IsFailing, seen_due}
+use Rattle.alp_cluster.specs.Goes.{opening_in, journal_in}
+use Rattle.alp_cluster.specs.Servers.{AreCalm, HasGoneBy, IsUntouched, HasStopSet, StartsAgain}
+use Rattle.alp_cluster.specs.Station.{standing, HasVault, seat_of, Keeps, IsLeftFailed, EndsHere}
 use Rattle.alp_cluster.specs.declared.fault.RunFault.{RunFault}
 use Rattle.alp_cluster.specs.declared.fault.RunFault.TheVariants as fault
 use Rattle.alp_cluster.specs.declared.server.Server.{Server}
@@ -107,6 +105,10 @@ IsCalmSince G before after = AreCalm (journal_in after) → AreCalm (journal_in 
 abbrev pub AreCalmSince : {V : Type 0} → Ghosts V → (before after : Stations V) → Type 0
 AreCalmSince G before after = (n : ℕ) → IsCalmSince G (server_at before n) (server_at after n)
 
+-- so it is with each but the one whose device failed, where that is the fault
+abbrev pub AreCalmBut : {V : Type 0} → Ghosts V → RunFault → (before after : Stations V) → Type 0
+AreCalmBut G f before after = (n : ℕ) → 1 ≤ n → (IsFailing f n → ⊥) → IsCalmSince G (server_at before n) (server_at after n)
+
 -- ---- how they go on
 
 -- The server of this number fell, with that pick of what a crash leaves, and started again.
@@ -160,12 +162,14 @@ pub record Go {V : Type 0} (G : Ghosts V) (hs : List Occurrence) (before after :
 -- one of them did not start again: it fell, with some pick of what a crash leaves, and is left so
 pub record EndsAt {V : Type 0} (G : Ghosts V) (f : RunFault) (before now : Stations V) : Type 0 where
   pub number : ℕ
+  pub here : IsOneOf before number
   pub pick : ℕ
   pub station : Station V
   pub left : Station V
   pub node : NodeState V
   pub there : slice_get before.all.items (number - 1) ≡ Some station
   pub stood : station.server ≡ standing node
+  pub number_is : node.kept.server ≡ number
   pub others : now.all.items ≡ slice_set before.all.items (number - 1) left
   pub ends : EndsHere G pick f node left.server
 
@@ -174,11 +178,42 @@ pub record IsUnchanged {V : Type 0} (G : Ghosts V) (before now : Stations V) : T
   pub servers : servers_of now ≡ servers_of before
   pub course : course_of G now ≡ course_of G before
 
--- where a run ended for that fault, behind what came of these servers
-abbrev pub EndsFor : {V : Type 0} → Ghosts V → RunFault → (before now : Stations V) → Type 0
-EndsFor G fault.JournalFull before now = IsUnchanged G before now
-EndsFor G (fault.Start server f) before now = EndsAt G (fault.Start server f) before now
-EndsFor G f before now = Unit {0}
+-- the server stands there still, and took no step
+pub record IsStillThere {V : Type 0} (G : Ghosts V) (n : NodeState V) (now : Option (Station V)) : Type 0 where
+  pub station : Station V
+  pub there : now ≡ Some station
+  pub node : NodeState V
+  pub stands : station.server ≡ standing node
+  pub untouched : IsUntouched G n node
+
+-- Memory was wanting: no server took a step, and each stands as it stood. Vaults may have other pages at hand.
+pub record IsNoFurther {V : Type 0} (G : Ghosts V) (before now : Stations V) : Type 0 where
+  pub course : course_of G now ≡ course_of G before
+  pub each : (i : ℕ) (x : Station V) (n : NodeState V) → slice_get before.all.items i ≡ Some x → x.server ≡ standing n → IsStillThere G n (slice_get now.all.items i)
+  pub openings : openings_of now ≡ openings_of before
+  pub calm : AreCalmSince G before now
+
+-- The device of the server of this number failed in the step that was due. There is one entry more, of the event that was to come, with its
+-- rank, which shows the failure; and nothing else changed.
+pub record FailsAt {V : Type 0} (G : Ghosts V) (number : ℕ) (due : Due) (before now : Stations V) : Type 0 where
+  pub here : IsOneOf before number
+  pub station : Station V
+  pub left : Station V
+  pub was : NodeState V
+  pub there : slice_get before.all.items (number - 1) ≡ Some station
+  pub stood : station.server ≡ standing was
+  pub others : now.all.items ≡ slice_set before.all.items (number - 1) left
+  pub posts : list_map unshown now.posts ≡ list_map unshown before.posts
+  pub event : Event
+  pub its : IsEventDue (course_of G before) due event
+  pub fails : IsLeftFailed G (seen_due (course_of G before) due) event station left was
+
+-- what a run that ended for that fault leaves of these servers, where that was to come
+abbrev pub EndsFor : {V : Type 0} → Ghosts V → RunFault → Due → (before now : Stations V) → Type 0
+EndsFor G fault.JournalFull due before now = IsUnchanged G before now
+EndsFor G fault.OutOfMemory due before now = IsNoFurther G before now
+EndsFor G (fault.DiskFault server) due before now = FailsAt G server due before now
+EndsFor G (fault.Start server f) due before now = EndsAt G (fault.Start server f) before now
 
 -- what occurred at the servers is such a thing
 pub record Did {V : Type 0} (G : Ghosts V) (A : Language) (before after : Stations V) : Type 0 where
@@ -194,32 +229,22 @@ pub record DidSome {V : Type 0} (G : Ghosts V) (A : Language) (f : RunFault) (be
   pub cut : IsCut A hs due
   pub goes : Go G hs before at_end
   pub ends : IsEndFor f (course_of G at_end) due
-  pub left : EndsFor G f at_end after
+  pub left : EndsFor G f due at_end after
 
--- ---- their vaults and journals
+-- ---- their vaults
 
 abbrev pub IsOfRun : (count server : ℕ) → Type 0
 IsOfRun count server = (1 ≤ server) × (server ≤ count)
 
--- what a call leaves of one of them, whether it went well or not: its vault, and its journal with more entries, or none
+-- what a call leaves of the vault of one of them, whether it went well or not
 pub record LeavesOf {V T : Type 0} (G : Ghosts V) (count : ℕ) (P : Type 0) (n : NodeState V) (now : Option (Station V)) (r : Result T RunFault) : Type 0 where
   pub station : Station V
   pub there : now ≡ Some station
   pub vault : V
   pub its : HasVault station.server vault
   pub gone : HasGoneBy G (IsOfRun count) P n.kept.vault vault r
-  pub adds : AddsEntries n station.server
 
 -- of each of them
 pub record HaveGone {V T : Type 0} (G : Ghosts V) (P : Type 0) (old new : Stations V) (r : Result T RunFault) : Type 0 where
   pub many : length new.all.items ≡ length old.all.items
   pub each : (i : ℕ) (x : Station V) (n : NodeState V) → slice_get old.all.items i ≡ Some x → x.server ≡ standing n → LeavesOf G (length old.all.items) P n (slice_get new.all.items i) r
-
--- ---- events
-
--- by this event that happens
-abbrev pub IsOfEvent : Happening → Event → Type 0
-IsOfEvent (timed_out t) e = e ≡ event.Timeout t
-IsOfEvent ticked e = e ≡ event.Tick
-IsOfEvent forced e = e ≡ event.Force
-IsOfEvent h e = ⊥

@@ -1,5 +1,5 @@
 -- What the lines of a script do to the clients and the servers of a run.
-use Rattle.std.specs.Prelude.{◌≡◌, ◌≢◌, ℕ, ◌+◌, ◌<◌, ◌≤◌, ◌^◌, List, ◌∷◌, [], ◌++◌, length, map as list_map, Option, Some, Vec}
+use Rattle.std.specs.Prelude.{◌≡◌, ◌≢◌, ◌⊎◌, ℕ, ◌+◌, ◌<◌, ◌≤◌, ◌^◌, List, ◌∷◌, [], ◌++◌, length, map as list_map, Option, Vec}
 use Rattle.std.specs.Global.{Global}
 use Rattle.std.specs.List.{AllByRecursion}
 use Rattle.alp_base.specs.declared.ids.TransId.{TransId}
@@ -25,6 +25,7 @@ use Rattle.alp_cluster.specs.Clients.{InStep, IsShort, HasSaid}
 use Rattle.alp_cluster.specs.Fills.{IsEndFor}
 use Rattle.alp_cluster.specs.Stations.{Go, EndsFor, course_of, state_at}
 use Rattle.alp_cluster.specs.declared.fault.RunFault.{RunFault}
+use Rattle.alp_cluster.specs.declared.fault.RunFault.TheVariants as fault
 use Rattle.alp_cluster.specs.declared.stations.Stations.{Stations}
 
 -- only a line that sends a frame of its own comes to a collect
@@ -65,7 +66,7 @@ pub record DidOfLine {V : Type 0} (G : Ghosts V) (f : RunFault) (servers : ℕ) 
   pub due : Due
   pub goes : Go G hs before at_end
   pub ends : IsEndFor f (course_of G at_end) due
-  pub left : EndsFor G f at_end after
+  pub left : EndsFor G f due at_end after
   pub number : AllByRecursion (λ (x : Item). x.line ≡ l.number) xs
   pub sends : SendsMore servers old k l.line now xs hs due new
   pub said : SaysOn old new before at_end k xs
@@ -85,7 +86,7 @@ pub record AddsSomeEvents {V : Type 0} (G : Ghosts V) (f : RunFault) (servers : 
   pub due : Due
   pub goes : Go G hs before at_end
   pub ends : IsEndFor f (course_of G at_end) due
-  pub left : EndsFor G f at_end after
+  pub left : EndsFor G f due at_end after
   pub begins : IsCut (GivesLine servers old l) hs due
   pub declared : new ≡ declares old l
 
@@ -120,33 +121,42 @@ pub record Adds {V : Type 0} (G : Ghosts V) (servers : ℕ) (old new : Crowd) (b
   pub said : SayOn old new before after turns
   pub text : text_after ≡ text_before ++ turns_text turns
 
--- some of it, and the rest could not come for that fault
-pub record AddsSome {V : Type 0} (G : Ghosts V) (f : RunFault) (servers : ℕ) (old new : Crowd) (before after : Stations V) (l : NumberedLine) : Type 0 where
+-- some of it, and the rest could not come for that fault; each item of it stands in its client's list
+pub record AddsSome {V : Type 0} (G : Ghosts V) (f : RunFault) (servers : ℕ) (old new : Crowd) (before after : Stations V) (l : NumberedLine) (lists_before lists_after : List (Vec Item Global)) : Type 0 where
   pub turns : List Turn
   pub at_end : Stations V
   pub hs : List Occurrence
   pub due : Due
   pub goes : Go G hs before at_end
   pub ends : IsEndFor f (course_of G at_end) due
-  pub left : EndsFor G f at_end after
+  pub left : EndsFor G f due at_end after
   pub begins : BeginsLine servers old l turns hs due new
+  pub lists : (k : ℕ) → lists_in lists_after k ≡ lists_in lists_before k ++ own_in k turns
   pub few : (k : ℕ) → length (own_in k turns) ≤ 5
   pub said : SayOn old new before at_end turns
 
 -- of a line that is not over
-pub record BeginsOn {V : Type 0} (G : Ghosts V) (f : RunFault) (servers : ℕ) (old new : Crowd) (before after : Stations V) (l : NumberedLine) : Type 0 where
+pub record BeginsOn {V : Type 0} (G : Ghosts V) (f : RunFault) (servers : ℕ) (old new : Crowd) (before after : Stations V) (l : NumberedLine) (lists_before lists_after : List (Vec Item Global)) : Type 0 where
   pub turns : List Turn
   pub at_end : Stations V
   pub hs : List Occurrence
   pub due : Due
   pub goes : Go G hs before at_end
   pub ends : IsEndFor f (course_of G at_end) due
-  pub left : EndsFor G f at_end after
+  pub left : EndsFor G f due at_end after
   pub begins : BeginsOwn servers old l (client_named l.line) turns hs due new
+  pub lists : (k : ℕ) → lists_in lists_after k ≡ lists_in lists_before k ++ own_in k turns
   pub few : (k : ℕ) → length (own_in k turns) ≤ 5
   pub said : SayOn old new before at_end turns
 
--- a frame of a client was to go out, which had no way
+-- a frame of a client was to go out, for which the fault is the end
 pub record ExchangesNone {V : Type 0} (G : Ghosts V) (f : RunFault) (client : ℕ) (frame : Addressed) (before after : Stations V) : Type 0 where
   pub ends : IsEndFor f (course_of G before) (to_send client frame)
-  pub left : EndsFor G f before after
+  pub left : EndsFor G f (to_send client frame) before after
+
+-- The frame did not go out, and there is no item more; or it went out and has its item, and memory was wanting for what the client makes of the
+-- reply.
+abbrev pub SendsNot : {V : Type 0} → Ghosts V → RunFault → (old : Crowd) (before after : Stations V) → ℕ → NumberedLine → Next → Addressed → (items_before items_after : List Item) → Type 0
+SendsNot G f old before after k l now frame items_before items_after =
+    ((items_after ≡ items_before) × ExchangesNone G f k frame before after)
+    ⊎ ((f ≡ fault.OutOfMemory) × (known : Crowd) × (behind : Next) × (x : Item) × (items_after ≡ items_before ++ x ∷ []) × Exchanged G old known before after k l now frame behind x)

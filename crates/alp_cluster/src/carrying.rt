@@ -1,14 +1,14 @@
 //! How messages come from one server of a run to another.
 ghost use Rattle.std.specs.Prelude.{◌≡◌, ◌||◌, ◌∷◌, [], Ok, OnOk, IfOk, IfSome, length};
 ghost use Rattle.alp_journal.specs.Timely.{IsTimelyMessage};
+ghost use Rattle.alp_journal.specs.declared.event.Event.TheVariants as event;
 ghost use Rattle.alp_course.specs.Courses.{looks, brings, loses, repeats, next_message as next_of};
 ghost use Rattle.alp_course.specs.Languages.{Just};
 ghost use Rattle.alp_course.specs.Plays.{OfTwo};
 ghost use Rattle.alp_course.specs.Carries.{ArePairCarried, CarriesTo, CarriesFrom, IsSweep, IsCarried, CarriesIf};
 ghost use Rattle.alp_cluster.specs.Fills.{OnEnd};
-ghost use Rattle.alp_cluster.specs.Servers.{OnFull};
 ghost use Rattle.alp_cluster.specs.Stations.{AreOn, IsOneOf, Did, DidSome, HaveGone, course_of};
-ghost use Rattle.alp_cluster.specs.Messages.{AreApart, HasArrived, HasNoRoomFor, DidSay, IfOr, taking_at};
+ghost use Rattle.alp_cluster.specs.Messages.{AreApart, HasArrived, EndsEventAt, DidSay, IfOr, taking_at};
 
 use crate::fault::RunFault;
 use crate::stations::Stations;
@@ -68,7 +68,7 @@ impl<V: Vault> Stations<V> {
         requires timely { IsTimelyMessage message }
         ensures gone { HaveGone V.Vault (Unit {0}) self.old self.new result }
         ensures came { OnOk result (HasArrived V.Vault from to message seen self.old self.new) }
-        ensures filled { OnFull result (HasNoRoomFor V.Vault to self.old self.new) }
+        ensures ended { OnEnd result (λ f. EndsEventAt V.Vault f to seen (event.Arrive from message) self.old self.new) }
     {
         self.all[to as usize - 1].happen(Event::Arrive { from, message }, seen)
     }

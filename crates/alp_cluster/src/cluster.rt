@@ -11,8 +11,8 @@ ghost use Rattle.alp_course.specs.Settles.{IsSettling};
 ghost use Rattle.alp_cluster.specs.Clients.{InStep};
 ghost use Rattle.alp_cluster.specs.Gathered.{AreGathered};
 ghost use Rattle.alp_cluster.specs.Fills.{OnEnd};
-ghost use Rattle.alp_cluster.specs.Runs.{StopNone, is_stop_line, HasPlayed, HasPlayedOut, HasEndedEarly};
-ghost use Rattle.alp_cluster.specs.Stations.{AreOn, AreCalmSince, Did, DidSome, HaveGone, openings_of};
+ghost use Rattle.alp_cluster.specs.Runs.{StopNone, is_stop_line, HasPlayed, HasPlayedOut, HasEndedEarly, IsSettledDown};
+ghost use Rattle.alp_cluster.specs.Stations.{AreOn, AreCalmSince, AreCalmBut, Did, DidSome, HaveGone, openings_of};
 ghost use Rattle.alp_cluster.specs.Steps.{Adds, AddsSome, PlaysOn, BeginsOn};
 
 use crate::fault::RunFault;
@@ -94,16 +94,16 @@ impl<V: Vault> Cluster<V> {
     }
 
     /// Plays a line. A client's line sends what its client asks; one of another event has it happen; and any other declares or sets
-    /// something. Behind it messages are carried, where they are carried by themselves. Where a journal is full or a
-    /// server has no epoch left, the rest of the line is not played. Of a disk that fails, a server that does not start again, and want of
-    /// memory the contract says which disk failed. However the line ends, each journal is the one before with more entries, or none.
+    /// something. Behind it messages are carried, where they are carried by themselves. Where a journal is full, a disk fails, a server does
+    /// not start again, or memory is wanting, the rest of the line is not played: the servers stand as what came of the line so far leaves them,
+    /// but for the entry in which the disk failed, or the server that fell.
     pub fn play_step(&mut self, line: &NumberedLine) -> Result<(), RunFault>
         requires step { InStep V.Vault self.old.parties.clients self.old.parties.stations }
         requires form { IsForm line.now.line }
         requires ours { names_ours (length self.old.parties.stations.all.items) line.now.line ≡ true }
         requires places { length self.old.lists.items ≡ 17 }
         ensures gone { HaveGone V.Vault (is_stop_line line.now.line ≡ false) self.old.parties.stations self.new.parties.stations result }
-        ensures ended { OnEnd result (λ f. (known : Crowd) × AddsSome V.Vault f (length self.old.parties.stations.all.items) self.old.parties.clients known self.old.parties.stations self.new.parties.stations line.now) }
+        ensures ended { OnEnd result (λ f. (known : Crowd) × AddsSome V.Vault f (length self.old.parties.stations.all.items) self.old.parties.clients known self.old.parties.stations self.new.parties.stations line.now self.old.lists.items self.new.lists.items) }
         ensures adds { OnOk result (Adds V.Vault (length self.old.parties.stations.all.items) self.old.parties.clients self.new.parties.clients self.old.parties.stations self.new.parties.stations line.now self.old.lists.items self.new.lists.items self.old.text.items self.new.text.items) }
     {
         self.play_line(line)?;
@@ -117,7 +117,7 @@ impl<V: Vault> Cluster<V> {
         requires ours { names_ours (length self.old.parties.stations.all.items) line.now.line ≡ true }
         requires places { length self.old.lists.items ≡ 17 }
         ensures gone { HaveGone V.Vault (is_stop_line line.now.line ≡ false) self.old.parties.stations self.new.parties.stations result }
-        ensures ended { OnEnd result (λ f. (known : Crowd) × BeginsOn V.Vault f (length self.old.parties.stations.all.items) self.old.parties.clients known self.old.parties.stations self.new.parties.stations line.now) }
+        ensures ended { OnEnd result (λ f. (known : Crowd) × BeginsOn V.Vault f (length self.old.parties.stations.all.items) self.old.parties.clients known self.old.parties.stations self.new.parties.stations line.now self.old.lists.items self.new.lists.items) }
         ensures adds { OnOk result (PlaysOn V.Vault (length self.old.parties.stations.all.items) self.old.parties.clients self.new.parties.clients self.old.parties.stations self.new.parties.stations line.now self.old.lists.items self.new.lists.items self.old.text.items self.new.text.items) }
     {
         match line.line.client() {
@@ -134,7 +134,7 @@ impl<V: Vault> Cluster<V> {
         requires named { client_named line.now.line ≡ Some client }
         requires places { length self.old.lists.items ≡ 17 }
         ensures gone { HaveGone V.Vault (Unit {0}) self.old.parties.stations self.new.parties.stations result }
-        ensures ended { OnEnd result (λ f. (known : Crowd) × BeginsOn V.Vault f (length self.old.parties.stations.all.items) self.old.parties.clients known self.old.parties.stations self.new.parties.stations line.now) }
+        ensures ended { OnEnd result (λ f. (known : Crowd) × BeginsOn V.Vault f (length self.old.parties.stations.all.items) self.old.parties.clients known self.old.parties.stations self.new.parties.stations line.now self.old.lists.items self.new.lists.items) }
         ensures adds { OnOk result (PlaysOn V.Vault (length self.old.parties.stations.all.items) self.old.parties.clients self.new.parties.clients self.old.parties.stations self.new.parties.stations line.now self.old.lists.items self.new.lists.items self.old.text.items self.new.text.items) }
     {
         self.parties.clients.at_line(client, &line.line)?;
@@ -147,13 +147,14 @@ impl<V: Vault> Cluster<V> {
     }
 
     /// All comes to rest: nobody stops a disk any more, each server that is down starts again with pick 0, each transaction times out where
-    /// it has an open part, and there are rounds of ticks and messages, one at least and eight at most. However it ends, each journal is the one
-    /// before with more entries, or none.
+    /// it has an open part, and there are rounds of ticks and messages, one at least and eight at most. A fault ends it as it ends a line.
+    /// Else each server is up then, nobody stops its disk, no message is left, and all are at rest where they were those of a run (`IsMidway`).
     pub fn settle(&mut self) -> Result<(), RunFault>
         requires on { AreOn V.Vault self.old.parties.stations }
         ensures gone { HaveGone V.Vault (Unit {0}) self.old.parties.stations self.new.parties.stations result }
         ensures ended { OnEnd result (λ f. DidSome V.Vault (IsSettling (length self.old.parties.stations.all.items)) f self.old.parties.stations self.new.parties.stations) }
         ensures settled { OnOk result (Did V.Vault (IsSettling (length self.old.parties.stations.all.items)) self.old.parties.stations self.new.parties.stations) }
+        ensures rest { OnOk result (IsSettledDown V.Vault self.old.parties.stations self.new.parties.stations) }
         ensures clients { self.new.parties.clients ≡ self.old.parties.clients }
         ensures lists { self.new.lists ≡ self.old.lists }
         ensures text { self.new.text ≡ self.old.text }
@@ -166,11 +167,11 @@ impl<V: Vault> Cluster<V> {
         requires accepted { IsAccepted lines.now }
         requires new { HasPlayed V.Vault (servers_said lines.now) [] self.old.parties.clients self.old.parties.stations self.old.lists.items self.old.text.items }
         ensures gone { HaveGone V.Vault (StopNone lines.now) self.old.parties.stations self.new.parties.stations result }
-        ensures ended { OnEnd result (λ f. HasEndedEarly V.Vault (servers_said lines.now) lines.now f self.new.parties.stations) }
+        ensures ended { OnEnd result (λ f. HasEndedEarly V.Vault (servers_said lines.now) lines.now f self.new.parties.stations self.new.lists.items) }
         ensures openings { OnOk result (openings_of self.new.parties.stations ≡ openings_of self.old.parties.stations) }
         ensures left { OnEnd result (λ _. openings_of self.new.parties.stations ≡ openings_of self.old.parties.stations) }
         ensures calm { OnOk result (AreCalmSince V.Vault self.old.parties.stations self.new.parties.stations) }
-        ensures calm_left { OnEnd result (λ _. AreCalmSince V.Vault self.old.parties.stations self.new.parties.stations) }
+        ensures calm_left { OnEnd result (λ f. AreCalmBut V.Vault f self.old.parties.stations self.new.parties.stations) }
         ensures played { OnOk result (HasPlayed V.Vault (servers_said lines.now) lines.now self.new.parties.clients self.new.parties.stations self.new.lists.items self.new.text.items) }
     {
         for line in lines {
@@ -179,18 +180,17 @@ impl<V: Vault> Cluster<V> {
         Ok(())
     }
 
-    /// Plays all lines on servers that did nothing yet, and lets all come to rest. Where a journal is full or a server has no epoch left,
-    /// the rest is not played. Of the other faults the contract says which disk failed. However the run ends, each server is the one that was
-    /// opened, and its journal is the one before with more entries, or none.
+    /// Plays all lines on servers that did nothing yet, and lets all come to rest. Where a fault ends that, the rest is not played: the servers
+    /// stand as the lines so far leave them, but for the entry in which a disk failed, or the server that fell. Each is the one that was opened.
     pub fn play_out(&mut self, lines: &[NumberedLine]) -> Result<(), RunFault>
         requires accepted { IsAccepted lines.now }
         requires new { HasPlayed V.Vault (servers_said lines.now) [] self.old.parties.clients self.old.parties.stations self.old.lists.items self.old.text.items }
         ensures gone { HaveGone V.Vault (StopNone lines.now) self.old.parties.stations self.new.parties.stations result }
-        ensures ended { OnEnd result (λ f. HasEndedEarly V.Vault (servers_said lines.now) lines.now f self.new.parties.stations) }
+        ensures ended { OnEnd result (λ f. HasEndedEarly V.Vault (servers_said lines.now) lines.now f self.new.parties.stations self.new.lists.items) }
         ensures openings { OnOk result (openings_of self.new.parties.stations ≡ openings_of self.old.parties.stations) }
         ensures left { OnEnd result (λ _. openings_of self.new.parties.stations ≡ openings_of self.old.parties.stations) }
         ensures calm { OnOk result (AreCalmSince V.Vault self.old.parties.stations self.new.parties.stations) }
-        ensures calm_left { OnEnd result (λ _. AreCalmSince V.Vault self.old.parties.stations self.new.parties.stations) }
+        ensures calm_left { OnEnd result (λ f. AreCalmBut V.Vault f self.old.parties.stations self.new.parties.stations) }
         ensures played { OnOk result (HasPlayedOut V.Vault (servers_said lines.now) lines.now self.new.parties.stations self.new.lists.items self.new.text.items) }
     {
         self.play(lines)?;

@@ -5,6 +5,7 @@ mod carrying;
 mod cluster;
 mod exchange;
 mod fault;
+mod fits;
 mod parties;
 mod restarts;
 mod server;

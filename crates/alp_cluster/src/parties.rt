@@ -19,7 +19,7 @@ ghost use Rattle.alp_cluster.specs.Clients.{InStep};
 ghost use Rattle.alp_cluster.specs.Fills.{OnEnd};
 ghost use Rattle.alp_cluster.specs.Runs.{is_stop_line, happens_at_once};
 ghost use Rattle.alp_cluster.specs.Stations.{AreOn, Did, DidSome, HaveGone};
-ghost use Rattle.alp_cluster.specs.Steps.{IsOwnNext, Exchanged, DidLine, DidOfLine, ExchangesNone, AddsEvents, AddsSomeEvents};
+ghost use Rattle.alp_cluster.specs.Steps.{IsOwnNext, Exchanged, SendsNot, DidLine, DidOfLine, AddsEvents, AddsSomeEvents};
 
 use crate::fault::RunFault;
 use crate::stations::Stations;
@@ -66,7 +66,8 @@ impl<V: Vault> Parties<V> {
         }
     }
 
-    // A client sends a frame for its line, and hears the reply: one item more. Gives what it does next for the line.
+    // A client sends a frame for its line, and hears the reply: one item more. Gives what it does next for the line. There is room for the
+    // item before the server takes its step, so no entry stands of which no item tells.
     fn send(
         &mut self,
         items: &mut Vec<Item>,
@@ -82,7 +83,7 @@ impl<V: Vault> Parties<V> {
         requires fits { IfSome (request_next self.old.clients client line.now.line next) request.Fits }
         requires own { IsOwnNext line.now.line next }
         ensures gone { HaveGone V.Vault (Unit {0}) self.old.stations self.new.stations result }
-        ensures ended { OnEnd result (λ f. ExchangesNone V.Vault f client frame self.old.stations self.new.stations) }
+        ensures ended { OnEnd result (λ f. SendsNot V.Vault f self.old.clients self.old.stations self.new.stations client line.now next frame items.old.items items.new.items) }
         ensures sent { IfOk result (λ behind. (x : AnItem) × (items.new.items ≡ items.old.items ++ x ∷ []) × Exchanged V.Vault self.old.clients self.new.clients self.old.stations self.new.stations client line.now next frame behind x) }
     {
         let server = frame.server;
@@ -90,13 +91,18 @@ impl<V: Vault> Parties<V> {
         if !self.stations.has(server) {
             return Err(RunFault::OutOfMemory);
         }
+        items.reserve(1)?;
         let handed = self
             .stations
             .hand(self.alloc, server, client, frame.bytes.as_slice())?;
+        let (item, bytes) = handed.into_item(line.number, server, mark_of(&line.line));
+        items.push_reserved(item);
+        let Ok(bytes) = bytes else {
+            return Err(RunFault::OutOfMemory);
+        };
         let behind = self
             .clients
-            .hears(self.alloc, client, &line.line, next, frame, &handed.bytes)?;
-        items.push(handed.item(line.number, server, mark_of(&line.line)))?;
+            .hears(self.alloc, client, &line.line, next, frame, &bytes)?;
         Ok(behind)
     }
 
@@ -133,7 +139,7 @@ impl<V: Vault> Parties<V> {
         requires own { IsOwnNext line.now.line next }
         requires way { IsOnItsWay self.old.clients.words (client_at self.old.clients client) line.now.line next }
         ensures gone { HaveGone V.Vault (Unit {0}) self.old.stations self.new.stations result }
-        ensures ended { OnEnd result (λ f. (xs : List AnItem) × (known : Crowd) × (length xs ≤ ahead self.old.clients.words (client_at self.old.clients client) line.now.line next) × DidOfLine V.Vault f (length self.old.stations.all.items) self.old.clients known self.old.stations self.new.stations client line.now next xs) }
+        ensures ended { OnEnd result (λ f. (xs : List AnItem) × (known : Crowd) × (length xs ≤ ahead self.old.clients.words (client_at self.old.clients client) line.now.line next) × (items.new.items ≡ items.old.items ++ xs) × DidOfLine V.Vault f (length self.old.stations.all.items) self.old.clients known self.old.stations self.new.stations client line.now next xs) }
         ensures did { OnOk result ((xs : List AnItem) × (t : Option (ℕ × ATrans)) × (length xs ≤ ahead self.old.clients.words (client_at self.old.clients client) line.now.line next) × (items.new.items ≡ items.old.items ++ xs) × DidLine V.Vault (length self.old.stations.all.items) self.old.clients self.new.clients self.old.stations self.new.stations client line.now next xs t) }
     {
         self.carry_before(next)?;
@@ -157,7 +163,7 @@ impl<V: Vault> Parties<V> {
         requires step { InStep V.Vault self.old.clients self.old.stations }
         requires form { IsForm line.now.line }
         ensures gone { HaveGone V.Vault (Unit {0}) self.old.stations self.new.stations result }
-        ensures ended { OnEnd result (λ f. (xs : List AnItem) × (known : Crowd) × (length xs ≤ 5) × DidOfLine V.Vault f (length self.old.stations.all.items) self.old.clients known self.old.stations self.new.stations client line.now next.Call xs) }
+        ensures ended { OnEnd result (λ f. (xs : List AnItem) × (known : Crowd) × (length xs ≤ 5) × (items.new.items ≡ items.old.items ++ xs) × DidOfLine V.Vault f (length self.old.stations.all.items) self.old.clients known self.old.stations self.new.stations client line.now next.Call xs) }
         ensures did { OnOk result ((xs : List AnItem) × (t : Option (ℕ × ATrans)) × (length xs ≤ 5) × (items.new.items ≡ items.old.items ++ xs) × (text.new.items ≡ text.old.items ++ turns_text (record { line = line.now.number; client = client; items = xs } ∷ [])) × DidLine V.Vault (length self.old.stations.all.items) self.old.clients self.new.clients self.old.stations self.new.stations client line.now next.Call xs t) }
     {
         let before = items.len();

@@ -1,5 +1,5 @@
 //! A server of a run, with the ranks of its entries.
-ghost use Rattle.std.specs.Prelude.{◌≡◌, ◌≤◌, ◌+◌, max, Bool, false, [], ◌∷◌, ◌++◌, length, take, Some, Ok, IsSome, IfOk, IfErr, OnOk, OnErr};
+ghost use Rattle.std.specs.Prelude.{◌≡◌, ◌≤◌, ◌+◌, max, Bool, false, [], ◌∷◌, ◌++◌, length, take, Some, Ok, IfOk, IfErr, OnOk, OnErr};
 ghost use Rattle.alp_node.specs.NodeStates.{NodeState};
 ghost use Rattle.alp_node.specs.DownStates.{DownState};
 ghost use Rattle.alp_node.specs.Served.{IsServed};
@@ -10,10 +10,10 @@ ghost use Rattle.alp_course.specs.Courses.{last_rank};
 ghost use Rattle.alp_course.specs.Happens.{ComesTo, Happens, stop_set, restarted, lifts};
 ghost use Rattle.alp_cluster.specs.declared.fault.RunFault.TheVariants as run_fault;
 ghost use Rattle.alp_cluster.specs.declared.server.Server.TheVariants.{Fallen};
-ghost use Rattle.alp_cluster.specs.Exchanges.{IsHanded};
+ghost use Rattle.alp_cluster.specs.Exchanges.{IsHanded, EndsHanding};
 ghost use Rattle.alp_cluster.specs.Fills.{OnEnd};
-ghost use Rattle.alp_cluster.specs.Servers.{IsOn, HasNoRoom, HasComeTo, OnFull, HasStopSet, StartsAgain, StaysDown};
-ghost use Rattle.alp_cluster.specs.Station.{standing, HasVault, Keeps, WentBy, WasHanded, LeavesVault, IsStill, EndsHere};
+ghost use Rattle.alp_cluster.specs.Servers.{IsOn, HasComeTo, EndsStep, HasStopSet, StartsAgain, StaysDown};
+ghost use Rattle.alp_cluster.specs.Station.{standing, HasVault, Keeps, WentBy, WasHanded, LeavesVault, EndsEvent, EndsFrame, EndsRestart};
 
 use crate::exchange::{Handed, hand};
 use crate::fault::RunFault;
@@ -110,7 +110,7 @@ impl<V: Vault> Station<V> {
         requires stands { (n : NodeState V) × (self.old.server ≡ standing n) × IsOn V.Vault n }
         requires served { IsServed event }
         ensures gone { LeavesVault V.Vault (Unit {0}) self.old self.new result }
-        ensures filled { OnFull result ((n : NodeState V) → self.old.server ≡ standing n → (m : NodeState V) × (self.new.server ≡ standing m) × HasNoRoom n m) }
+        ensures ended { OnEnd result (λ f. (n : NodeState V) → self.old.server ≡ standing n → (m : NodeState V) × (self.new.server ≡ standing m) × EndsStep V.Vault f n m event) }
         ensures came { OnOk result ((n : NodeState V) → self.old.server ≡ standing n → (m : NodeState V) × (self.new.server ≡ standing m) × HasComeTo V.Vault n m event) }
         ensures stands { (n : NodeState V) × (self.new.server ≡ standing n) }
         ensures ranks { self.new.ranks ≡ self.old.ranks }
@@ -131,7 +131,7 @@ impl<V: Vault> Station<V> {
         requires stands { (n : NodeState V) × Keeps V.Vault self.old n }
         requires served { IsServed event }
         ensures gone { LeavesVault V.Vault (Unit {0}) self.old self.new result }
-        ensures filled { OnFull result ((n : NodeState V) → Keeps V.Vault self.old n → HasNoRoom n n × IsStill self.old self.new) }
+        ensures ended { OnEnd result (λ f. (n : NodeState V) → Keeps V.Vault self.old n → EndsEvent V.Vault f seen event self.old self.new n) }
         ensures came { OnOk result ((n : NodeState V) → Keeps V.Vault self.old n → WentBy V.Vault seen (λ w es v. ComesTo w w.is_down event es v) self.old self.new n) }
     {
         self.push_rank(seen)?;
@@ -145,7 +145,7 @@ impl<V: Vault> Station<V> {
         requires stands { (n : NodeState V) × (self.old.server ≡ standing n) × IsOn V.Vault n }
         requires client { (1 ≤ client) × (client ≤ 16) }
         ensures gone { LeavesVault V.Vault (Unit {0}) self.old self.new result }
-        ensures filled { OnFull result ((n : NodeState V) → self.old.server ≡ standing n → (m : NodeState V) × (self.new.server ≡ standing m) × IsSome (whole request frame.now) × HasNoRoom n m) }
+        ensures ended { OnEnd result (λ f. (n : NodeState V) → self.old.server ≡ standing n → (m : NodeState V) × (self.new.server ≡ standing m) × EndsHanding V.Vault f n m (whole request frame.now)) }
         ensures handed { IfOk result (λ h. (n : NodeState V) → self.old.server ≡ standing n → (m : NodeState V) × (self.new.server ≡ standing m) × IsHanded V.Vault n m client frame.now (whole request frame.now) h) }
         ensures stands { (n : NodeState V) × (self.new.server ≡ standing n) }
         ensures ranks { self.new.ranks ≡ self.old.ranks }
@@ -168,7 +168,7 @@ impl<V: Vault> Station<V> {
         requires stands { (n : NodeState V) × Keeps V.Vault self.old n }
         requires client { (1 ≤ client) × (client ≤ 16) }
         ensures gone { LeavesVault V.Vault (Unit {0}) self.old self.new result }
-        ensures filled { OnFull result ((n : NodeState V) → Keeps V.Vault self.old n → IsSome (whole request frame.now) × HasNoRoom n n × IsStill self.old self.new) }
+        ensures ended { OnEnd result (λ f. (n : NodeState V) → Keeps V.Vault self.old n → EndsFrame V.Vault f (whole request frame.now) self.old self.new n) }
         ensures handed { IfOk result (λ h. (n : NodeState V) → Keeps V.Vault self.old n → WasHanded V.Vault self.old self.new n client frame.now h) }
     {
         self.push_rank(0)?;
@@ -245,7 +245,7 @@ impl<V: Vault> Station<V> {
         ensures gone { LeavesVault V.Vault (Unit {0}) self.old self.new result }
         ensures went { OnOk result ((n : NodeState V) → Keeps V.Vault self.old n → (tells : Bool) → WentBy V.Vault 0 (λ w es v. Happens tells w (restarted pick) es v) self.old self.new n) }
         ensures again { OnOk result ((n : NodeState V) → Keeps V.Vault self.old n → (m : NodeState V) × (self.new.server ≡ standing m) × StartsAgain V.Vault pick n m) }
-        ensures ended { OnEnd result (λ f. (n : NodeState V) → Keeps V.Vault self.old n → EndsHere V.Vault pick f n self.new.server) }
+        ensures ended { OnEnd result (λ f. (n : NodeState V) → Keeps V.Vault self.old n → EndsRestart V.Vault pick f self.old self.new n) }
     {
         self.push_rank(0)?;
         self.restart_here(pick)?;

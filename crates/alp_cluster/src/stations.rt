@@ -1,5 +1,5 @@
 //! The servers of a run, and what happens at one of them.
-ghost use Rattle.std.specs.Prelude.{◌≡◌, ◌≤◌, ◌-◌, true, false, [], ◌∷◌, Some, Ok, IsSome, IfOk, OnOk, length, slice_get};
+ghost use Rattle.std.specs.Prelude.{◌≡◌, ◌≤◌, ◌-◌, true, false, [], ◌∷◌, Some, Ok, IfOk, OnOk, length, slice_get};
 ghost use Rattle.alp_fields.specs.Forms.{whole};
 ghost use Rattle.alp_node.specs.Served.{IsServed};
 ghost use Rattle.alp_rpc.specs.Frames.{request};
@@ -7,11 +7,10 @@ ghost use Rattle.alp_course.specs.Courses.{at};
 ghost use Rattle.alp_course.specs.Happens.{Happening, stop_set, restarted, lifts};
 ghost use Rattle.alp_course.specs.Languages.{Just};
 ghost use Rattle.alp_course.specs.Plays.{timeouts_at};
-ghost use Rattle.alp_cluster.specs.Fills.{OnEnd};
-ghost use Rattle.alp_cluster.specs.Servers.{OnFull};
-ghost use Rattle.alp_cluster.specs.Messages.{HasNoRoomFor};
+ghost use Rattle.alp_cluster.specs.Fills.{OnEnd, IsOfEvent};
+ghost use Rattle.alp_cluster.specs.Messages.{EndsFrameAt};
 ghost use Rattle.alp_cluster.specs.Handings.{AreHanded};
-ghost use Rattle.alp_cluster.specs.Stations.{AreOn, IsOneOf, Did, DidSome, HaveGone, IsOfEvent};
+ghost use Rattle.alp_cluster.specs.Stations.{AreOn, IsOneOf, Did, DidSome, HaveGone};
 
 use crate::exchange::Handed;
 use crate::fault::RunFault;
@@ -129,7 +128,7 @@ impl<V: Vault> Stations<V> {
         requires client { (1 ≤ client) × (client ≤ 16) }
         ensures gone { HaveGone V.Vault (Unit {0}) self.old self.new result }
         ensures handed { IfOk result (λ h. AreHanded V.Vault server client frame.now h self.old self.new) }
-        ensures filled { OnFull result (IsSome (whole request frame.now) × HasNoRoomFor V.Vault server self.old self.new) }
+        ensures ended { OnEnd result (λ f. EndsFrameAt V.Vault f server (whole request frame.now) self.old self.new) }
     {
         self.all[server as usize - 1].hand(alloc, client, frame)
     }

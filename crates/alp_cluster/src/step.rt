@@ -1,10 +1,9 @@
 //! One step of a server of a run, on a device that may fail or be stopped.
-ghost use Rattle.std.specs.Prelude.{◌≡◌, Some, IfOk, slice_get};
+ghost use Rattle.std.specs.Prelude.{◌≡◌, IfOk, slice_get};
 ghost use Rattle.alp_journal.specs.Answered.{is_read_fault};
 ghost use Rattle.alp_node.specs.Served.{IsServed};
-ghost use Rattle.alp_cluster.specs.Goes.{AddsEntries};
-ghost use Rattle.alp_cluster.specs.Servers.{IsOn, HasGone, Steps, HasNoRoom, OnFull, is_failure, fails, is_failed_at};
-ghost use Rattle.alp_cluster.specs.declared.server.Server.TheVariants.{Up};
+ghost use Rattle.alp_cluster.specs.Fills.{OnEnd};
+ghost use Rattle.alp_cluster.specs.Servers.{IsOn, HasGone, Steps, EndsStep, is_failure, fails, is_failed_at};
 
 use crate::fault::RunFault;
 use alp_files::{Refusal, Reply};
@@ -51,14 +50,13 @@ fn failed_at(entries: &[Entry], place: usize) -> bool
     }
 }
 
-/// The server answers the event, or says that it is down; or its device failed, or its journal has no room for the entry: then it
-/// would say so, and is not asked.
+/// The server answers the event, or says that it is down; or its device failed, which its entry shows, or its journal has no room for the
+/// entry: then it would say so, and is not asked. Where memory was wanting there is no entry.
 pub fn step<V: Vault>(node: &mut Node<V>, event: Event) -> Result<Option<Reply>, RunFault>
     requires on { IsOn V.Vault node.old }
     requires served { IsServed event }
     ensures gone { HasGone V.Vault (Unit {0}) node.old.kept.vault node.new.kept.vault result }
-    ensures adds { AddsEntries node.old (Some (Up node.new)) }
-    ensures filled { OnFull result (HasNoRoom node.old node.new) }
+    ensures ended { OnEnd result (λ f. EndsStep V.Vault f node.old node.new event) }
     ensures steps { IfOk result (λ r. Steps V.Vault node.old.kept.is_down node.old node.new event r) }
 {
     if node.is_down() {

@@ -22,10 +22,11 @@ use Rattle.alp_posts.proofs.MessageLemmas.{messages_append, messages_kept}
 use Rattle.alp_posts.proofs.TableLemmas.{same_post, other_post}
 use Rattle.alp_course.specs.Courses.{Course, Seat, seat_at, seat_after, last_rank, IsSeat, IsAt, AreTwo, Occurrence, at as happens_at, looks, brings, loses, repeats, rests, next_message, taking, IsBrought, Occurs, AreCourse}
 use Rattle.alp_course.specs.Happens.{Stand, Happening, ticked, IsEntryOf, ComesTo, Happens}
+use Rattle.alp_course.specs.Midway.{Holds, taken_of, sent_to, IsWithin}
 use Rattle.alp_course.specs.Settles.{IsUpIn, AreUp}
 use Rattle.alp_course.proofs.CalmArrivals.{flat_in}
 use Rattle.alp_course.proofs.CalmRange.{IsMild, IsMildEntry}
-use Rattle.alp_course.proofs.LinkLemmas.{Holds, are_servers, occurs_on, get_left}
+use Rattle.alp_course.proofs.LinkLemmas.{are_servers, occurs_on, get_left}
 use Rattle.alp_course.proofs.RankLemmas.{get_below, below_or}
 use Rattle.alp_course.proofs.SeatLemmas.{as_many, each_seat}
 use Rattle.alp_course.proofs.UpLemmas.{course_up, IsCalm}
@@ -68,16 +69,6 @@ pub record IsArrived (r after : Course) (from to : ℕ) (m : Message) : Type 0 w
   pub low : length (seat_at r to).journal ≤ place
   pub stands : slice_get (seat_at after to).journal place ≡ Some entry
   pub event_is : entry.event ≡ event.Arrive from m
-
-abbrev pub taken_of : Course → (from to : ℕ) → ℕ
-taken_of r from to = (post_at r.posts from to).taken
-
-abbrev pub sent_to : Course → (from to : ℕ) → List Message
-sent_to r from to = messages_to to (seat_at r from).journal
-
--- no more were taken than were sent
-abbrev pub IsWithin : Course → Type 0
-IsWithin r = (from to : ℕ) → AreTwo r from to → taken_of r from to ≤ length (sent_to r from to)
 
 pub record HasMoved (r after : Course) : Type 0 where
   pub seats : length after.seats ≡ length r.seats

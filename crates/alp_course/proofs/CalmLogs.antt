@@ -27,11 +27,11 @@ use Rattle.alp_posts.specs.Messages.{messages_to}
 use Rattle.alp_posts.proofs.MessageLemmas.{messages_append}
 use Rattle.alp_course.specs.Courses.{Course, Seat, seat_at, no_seat, IsOneOf, IsSeat, AreTwo, next_message}
 use Rattle.alp_course.specs.Links.{server_log, log_of, AreNumbered}
-use Rattle.alp_course.proofs.CalmCourse.{IsGrown, grown_then, IsArrived, taken_of, sent_to, IsWithin, HasMoved, sent_in_list, seat_then}
+use Rattle.alp_course.specs.Midway.{taken_of, sent_to, IsWithin, said_by}
+use Rattle.alp_course.proofs.CalmCourse.{IsGrown, grown_then, IsArrived, HasMoved, sent_in_list, seat_then}
 use Rattle.alp_course.proofs.CalmRange.{IsMildEntry}
 use Rattle.alp_course.proofs.CalmRest.{IsRoundTo}
 use Rattle.alp_course.proofs.CalmRounds.{IsShut, IsOverIn, AreGoneIn, CameTo, IsCalmRound, AreKnownIn, keeps, shut_kept, over_kept, gone_kept, over_then, gone_then, none_then}
-use Rattle.alp_course.proofs.CalmStart.{said_by}
 use Rattle.alp_course.proofs.LinkLemmas.{get_left, get_right, all_at}
 use Rattle.alp_course.proofs.RankLemmas.{get_below}
 use Rattle.alp_course.proofs.SeatLemmas.{of_seat}

@@ -28,13 +28,14 @@ use Rattle.alp_course.specs.Languages.{Language, Just, Then, Each}
 use Rattle.alp_course.specs.Links.{server_log, log_of, AreNumbered}
 use Rattle.alp_course.specs.Opens.{is_unasked, HasOpenPart, IsLeastOpen}
 use Rattle.alp_course.specs.Settles.{AreTimedOut, none_open, one_open, IsTicked, IsRound, Further, AreRounds, IsUpIn, AreUp}
+use Rattle.alp_course.specs.Midway.{taken_of, sent_to, IsWithin, said_by, Holds}
 use Rattle.alp_course.proofs.CalmArrivals.{flat_in}
-use Rattle.alp_course.proofs.CalmCourse.{IsGrown, longer, stood, IsArrived, taken_of, sent_to, IsWithin, HasMoved, IsOneMore, one_more as makes_one, IsOfRound, course_moved, sent_in_list, seat_then, two_then}
+use Rattle.alp_course.proofs.CalmCourse.{IsGrown, longer, stood, IsArrived, HasMoved, IsOneMore, one_more as makes_one, IsOfRound, course_moved, sent_in_list, seat_then, two_then}
 use Rattle.alp_course.proofs.CalmRange.{IsMildEntry}
 use Rattle.alp_course.proofs.CalmRounds.{IsShut, CameTo, IsCalmRound}
-use Rattle.alp_course.proofs.CalmStart.{said_by, within_step, within_on}
+use Rattle.alp_course.proofs.CalmStart.{within_step, within_on}
 use Rattle.alp_course.proofs.LanguageLemmas.{IsVia, course_split}
-use Rattle.alp_course.proofs.LinkLemmas.{Holds, get_left, get_right, course_on}
+use Rattle.alp_course.proofs.LinkLemmas.{get_left, get_right, course_on}
 use Rattle.alp_course.proofs.RankLemmas.{get_below, below_or}
 use Rattle.alp_course.proofs.SeatLemmas.{as_many, each_seat, seat_there, seat_elsewhere, of_seat}
 use Rattle.alp_course.proofs.TakenLemmas.{NoneLeft, carried_none, no_message}

@@ -16,13 +16,14 @@ use Rattle.alp_course.specs.Languages.{Language, Just, Then, Each}
 use Rattle.alp_course.specs.Links.{log_of, AreNumbered}
 use Rattle.alp_course.specs.Opens.{IsRestOf}
 use Rattle.alp_course.specs.Settles.{IsRound, Further, AreRounds, AreUp}
-use Rattle.alp_course.proofs.CalmCourse.{IsWithin, HasMoved, not_moved, course_moved, then_moved, IsOfRound}
+use Rattle.alp_course.specs.Midway.{IsWithin, said_by, AreSaid, Holds}
+use Rattle.alp_course.proofs.CalmCourse.{HasMoved, not_moved, course_moved, then_moved, IsOfRound}
 use Rattle.alp_course.proofs.CalmLogs.{end_of, AllIn, HasNoDecision, shut_on, over_on, gone_on, first_leaves, second_leaves, third_leaves, settled_so}
 use Rattle.alp_course.proofs.CalmRest.{IsRoundTo, round_to_end, rounds_moved, tells_on}
 use Rattle.alp_course.proofs.CalmRounds.{IsShut, IsOverIn, AreGoneIn, AreKnownIn}
-use Rattle.alp_course.proofs.CalmStart.{said_by, AreSaid, said_on, within_step, within_on}
+use Rattle.alp_course.proofs.CalmStart.{said_on, within_step, within_on}
 use Rattle.alp_course.proofs.LanguageLemmas.{IsVia, course_split}
-use Rattle.alp_course.proofs.LinkLemmas.{Holds, course_on}
+use Rattle.alp_course.proofs.LinkLemmas.{course_on}
 
 -- what is asked of the end of it
 module _ (z : Course) (handed : Handed) (numbered : AreNumbered 1 z.seats) (proper : IsProper (log_of z handed)) (answered : (n : ℕ) → IsOneOf (length z.seats) n → IsAnswered (opening_of (log_of z handed) n) (journal_of (log_of z handed) n))

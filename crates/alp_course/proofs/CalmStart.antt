@@ -25,8 +25,9 @@ use Rattle.alp_posts.proofs.TableLemmas.{same_post, other_post}
 use Rattle.alp_course.specs.Courses.{Course, Seat, seat_at, seat_after, no_seat, first_seat, last_rank, IsSeat, IsAt, AreTwo, Occurrence, at, looks, brings, loses, repeats, rests, next_message, taking, Arrives, IsBrought, IsLost, IsRepeated, Occurs, AreCourse}
 use Rattle.alp_course.specs.Happens.{Stand, Happening, sent_it, timed_out, ticked, forced, stop_set, restarted, lifts, finds, IsEntryOf, IsNone, ComesTo, Takes, Happens}
 use Rattle.alp_course.specs.Links.{AreIdle, IsFirst}
-use Rattle.alp_course.proofs.CalmCourse.{taken_of, sent_to, IsWithin, seat_then}
-use Rattle.alp_course.proofs.LinkLemmas.{Holds, are_servers, occurs_on}
+use Rattle.alp_course.specs.Midway.{Holds, taken_of, sent_to, IsWithin, said_by, AreSaid}
+use Rattle.alp_course.proofs.CalmCourse.{seat_then}
+use Rattle.alp_course.proofs.LinkLemmas.{are_servers, occurs_on}
 use Rattle.alp_course.proofs.RankLemmas.{get_below}
 use Rattle.alp_course.proofs.SeatLemmas.{as_many, each_seat}
 
@@ -117,12 +118,6 @@ within_first r f holds from to two =
     omega (arith, none)
 
 -- ---- each server stands as its journal says
-
-abbrev pub said_by : Seat → State
-said_by s = state_after next (opened s.opening) s.journal
-
-abbrev pub AreSaid : Course → Type 0
-AreSaid r = (n : ℕ) → IsSeat r n → (seat_at r n).stand.state ≡ said_by (seat_at r n)
 
 by_entry : (w : Stand) (x : Event) (es : List Entry) (v : Stand) → IsEntryOf w x es v → v.state ≡ state_after next w.state es
 by_entry w x es v h = ap (λ (z : Stand). z.state) h.behind ∙ sym (ap (state_after next w.state) h.one)

@@ -17,6 +17,7 @@ pub mod CalmArrivals
 pub mod CalmRounds
 pub mod CalmCourse
 pub mod CalmStart
+pub mod MidwayLemmas
 pub mod CalmRest
 pub mod CalmLogs
 pub mod CalmSettled

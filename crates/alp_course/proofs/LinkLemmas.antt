@@ -24,7 +24,8 @@ use Rattle.alp_posts.proofs.TableLemmas.{same_post, other_post, still_table}
 use Rattle.alp_course.specs.Happens.{Happening, sent_it, timed_out, ticked, forced, stop_set, restarted, lifts, finds, Stand, IsEntryOf, IsNone, ComesTo, Takes, Happens}
 use Rattle.alp_course.specs.Courses.{Course, Seat, no_seat, seat_at, seat_after, last_rank, ranks_with, IsSeat, IsAt, Occurrence, at, looks, brings, loses, repeats, rests, next_message, taking, Arrives, IsBrought, IsLost, IsRepeated, Occurs, AreCourse, first_seat}
 use Rattle.alp_course.specs.Links.{server_log, log_of, AreNumbered, AreIdle, IsFirst, Linking}
-use Rattle.alp_course.proofs.RankLemmas.{unwrap_get, get_below, below_or, AreRising, none_rising, old_rank, new_rank, still_rising}
+use Rattle.alp_course.specs.Midway.{AreRising, IsSentBy, AllSent, LastSent, Holds}
+use Rattle.alp_course.proofs.RankLemmas.{unwrap_get, get_below, below_or, none_rising, old_rank, new_rank, still_rising}
 use Rattle.alp_course.proofs.SeatLemmas.{as_many, seat_there, each_seat, still_seat, seat_number, still_numbered, IsOf, its, nobodys, of_course, of_seat}
 
 -- ---- what was sent
@@ -33,14 +34,6 @@ stands_in : (a : Act) (acts : List Act) (i : ℕ) → slice_get acts i ≡ Some 
 stands_in a [] i h = absurd cc
 stands_in a (b ∷ acts) zero h = inl (let same : b ≡ a = cc in sym same)
 stands_in a (b ∷ acts) (suc i) h = inr (stands_in a acts i h)
-
--- this server sent that message to that server, at an entry of at most this rank
-pub record IsSentBy (s : Seat) (to : ℕ) (m : Message) (most : ℕ) : Type 0 where
-  pub place : ℕ
-  pub entry : Entry
-  pub stands : slice_get s.journal place ≡ Some entry
-  pub sent : IsIn (act.Sent to m) entry.acts
-  pub low : get_or s.ranks place 0 ≤ most
 
 pub get_left : {X : Type 0} (xs ys : List X) (i : ℕ) → i < length xs → slice_get (xs ++ ys) i ≡ slice_get xs i
 get_left [] ys i less = absurd (omega (arith, less))
@@ -81,22 +74,6 @@ higher s to m a b up h = (let low : get_or s.ranks h.place 0 ≤ a = h.low in re
 -- where the entry is of a message that arrives, its sender sent it, at no higher rank than this
 abbrev pub AsSent : Course → (n most : ℕ) → Entry → Type 0
 AsSent r n most e = (from : ℕ) (m : Message) → e.event ≡ event.Arrive from m → IsSeat r from × IsSentBy (seat_at r from) n m most
-
--- of each entry of a server, below its own rank
-abbrev pub AllSent : Course → ℕ → Seat → Type 0
-AllSent r n s = (i : ℕ) (e : Entry) → slice_get s.journal i ≡ Some e → (from : ℕ) (m : Message) → e.event ≡ event.Arrive from m → (most : ℕ) × (most < get_or s.ranks i 0) × IsSeat r from × IsSentBy (seat_at r from) n m most
-
--- what was taken last was sent, at no higher rank than the sender had then
-abbrev pub LastSent : Course → (from to : ℕ) → Option (Message × ℕ) → Type 0
-LastSent r from to last = IfSome last (λ x. IsSentBy (seat_at r from) to x.0 x.1)
-
-pub record Holds (r : Course) : Type 0 where
-  pub few : length r.seats ≤ 8
-  pub numbered : AreNumbered 1 r.seats
-  pub table : IsTable r.posts
-  pub rising : (n : ℕ) → 1 ≤ n → AreRising (seat_at r n).ranks (seat_at r n).journal
-  pub sent : (n : ℕ) → 1 ≤ n → AllSent r n (seat_at r n)
-  pub posts : (from to : ℕ) → IsSeat r from → IsSeat r to → LastSent r from to (post_at r.posts from to).last
 
 -- ---- entries that bring no message
 

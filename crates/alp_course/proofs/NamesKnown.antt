@@ -44,11 +44,11 @@ use Rattle.alp_history.proofs.Votes.{joined-server}
 use Rattle.alp_course.specs.Courses.{Course, Seat, seat_at, IsOneOf, IsSeat}
 use Rattle.alp_course.specs.Resting.{IsPositive, AreSpelled}
 use Rattle.alp_course.specs.Links.{server_log, log_of, AreNumbered}
+use Rattle.alp_course.specs.Midway.{Holds, IsSentBy}
 use Rattle.alp_course.proofs.CalmArrivals.{HasIt}
 use Rattle.alp_course.proofs.CalmCourse.{HasMoved}
 use Rattle.alp_course.proofs.CalmLogs.{end_of, end_within, stands_in_log, in_journal, seat_of}
 use Rattle.alp_course.proofs.CalmRounds.{IsNamed, AreKnownIn, has_in}
-use Rattle.alp_course.proofs.LinkLemmas.{Holds, IsSentBy}
 use Rattle.alp_course.proofs.NameLemmas.{IsKnown}
 use Rattle.alp_course.proofs.NamesAlong.{IsRegistered, IsLetIn, HoldsLetIn, AreNamed, names_at}
 use Rattle.alp_course.proofs.NameWords.{DrawsIn, says_so, joined_drawn, register_asks, ids_more, ids_drawn}

@@ -11,7 +11,7 @@ use Rattle.alp_lines.specs.declared.line.Line.{Line}
 use Rattle.alp_lines.specs.declared.line.Line.TheVariants as line
 use Rattle.alp_script.specs.declared.numbered.NumberedLine.{NumberedLine}
 use Rattle.alp_session.specs.Crowd.{Crowd}
-use Rattle.alp_session.specs.Crowds.{new_crowd, client_at, hears}
+use Rattle.alp_session.specs.Crowds.{new_crowd, client_at, hears, times_out}
 use Rattle.alp_session.specs.declared.waiting.Next.{Next}
 use Rattle.alp_session.specs.declared.waiting.Next.TheVariants as next
 use Rattle.alp_course.specs.Happens.{Happening, sent_it, timed_out, ticked, forced, stop_set, restarted, lifts, finds}
@@ -163,7 +163,10 @@ module _ (servers k : ℕ) (l : Line) where
 
   more_due_sent : (c : Crowd) (n : Next) (hs : List Occurrence) (due : Due) → IsMoreDue servers c k l n hs due → sent_of hs ≡ []
   more_due_sent c n hs due (inl cut) = cut_none (CarriesAt servers c n) (silent_at servers c n) hs due cut
-  more_due_sent c n hs due (inr (carried, next)) = silent_at servers c n hs carried
+  more_due_sent c n hs due (inr (inl (carried, next))) = silent_at servers c n hs carried
+  more_due_sent c n hs due (inr (inr (is, inl none))) = ap sent_of none
+  more_due_sent c n hs due (inr (inr (is, inr (inl carried)))) = silent_at servers c n hs carried
+  more_due_sent c n hs due (inr (inr (is, inr (inr over)))) = sends_sent c c n [] (times_out c k n) hs over
 
   sends_more_sent : (c d : Crowd) (n : Next) (xs : List Item) (hs : List Occurrence) (due : Due) → SendsMore servers c k l n xs hs due d → sent_of hs ≡ list_map (λ (x : Item). (k, x)) xs
   sends_more_sent c d n [] hs due h = more_due_sent c n hs due h.0

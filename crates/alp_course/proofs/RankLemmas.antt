@@ -5,6 +5,7 @@ use Rattle.std.proofs.lemmas.List.{append-nil, append_assoc, length-append, get_
 use Rattle.std.proofs.lemmas.Bool.Decides.{leb_tells}
 use Rattle.alp_journal.specs.declared.entry.Entry.{Entry}
 use Rattle.alp_course.specs.Courses.{last_rank, ranks_from, ranks_with}
+use Rattle.alp_course.specs.Midway.{AreRising}
 
 pub unwrap_get : {X : Type 0} (xs : List X) (i : ℕ) (d : X) → unwrap_or (slice_get xs i) d ≡ get_or xs i d
 unwrap_get [] i d = refl
@@ -66,12 +67,6 @@ with_append rs es fs =
     ∙ ap (λ (ns : List ℕ). rs ++ ns) (sym (from_append (max (last_rank rs) 0 + 1) es fs))
 
 -- ---- rising
-
--- there is one for each entry, they rise, and the last one is the greatest
-pub record AreRising (rs : List ℕ) (journal : List Entry) : Type 0 where
-  pub many : length rs ≡ length journal
-  pub rise : (i k : ℕ) → i < k → k < length rs → get_or rs i 0 < get_or rs k 0
-  pub top : (i : ℕ) → i < length rs → get_or rs i 0 ≤ last_rank rs
 
 pub none_rising : AreRising [] []
 none_rising = record { many = refl; rise = λ i k low less. absurd (omega (arith, less)); top = λ i less. absurd (omega (arith, less)) }

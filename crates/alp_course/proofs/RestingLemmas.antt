@@ -19,14 +19,15 @@ use Rattle.alp_course.specs.Links.{server_log, log_of, AreNumbered, IsFirst}
 use Rattle.alp_course.specs.Resting.{AreSpelled, IsWellRun, Resting}
 use Rattle.alp_course.specs.Languages.{Each}
 use Rattle.alp_course.specs.Settles.{AreTimedOut, AreRounds, IsSettling, AreUp}
+use Rattle.alp_course.specs.Midway.{said_by, AreSaid, Holds}
 use Rattle.alp_course.proofs.CalmCourse.{HasMoved}
 use Rattle.alp_course.proofs.CalmLogs.{AllIn, end_of}
 use Rattle.alp_course.proofs.CalmRest.{IsRoundTo, TellsAt, each_tells, all_tell, timed_shut}
 use Rattle.alp_course.proofs.CalmRounds.{IsShut, AreKnownIn}
 use Rattle.alp_course.proofs.CalmSettled.{IsOnWay, shut_rest}
-use Rattle.alp_course.proofs.CalmStart.{said_by, AreSaid, said_on, said_first, within_on, within_first}
+use Rattle.alp_course.proofs.CalmStart.{said_on, said_first, within_on, within_first}
 use Rattle.alp_course.proofs.LanguageLemmas.{IsVia, course_split, course_append}
-use Rattle.alp_course.proofs.LinkLemmas.{Holds, first_holds, course_on}
+use Rattle.alp_course.proofs.LinkLemmas.{first_holds, course_on}
 use Rattle.alp_course.proofs.NamesKnown.{known_in}
 use Rattle.alp_course.proofs.SeatLemmas.{as_many, each_seat, of_seat}
 use Rattle.alp_course.proofs.UpLemmas.{many_on, lifted_up, course_up, calm_timed_all}
@@ -83,22 +84,22 @@ knows_in : (z : Course) (handed : Handed) (numbered : AreNumbered 1 z.seats) (pr
 knows_in z handed numbered proper answered spelled among r after before later held quiet round = known_in z handed numbered proper answered spelled among r after before later held
 
 pub resting : Resting
-resting first r after ys xs handed begin course h settling well n s =
+resting r after xs handed mid h settling well n s =
     let servers : ℕ = length after.seats in
     let one : IsVia r h.front h.back after = course_split r after h.front h.back (subst (λ (zs : List Occurrence). AreCourse r zs after) h.are settling) in
     let next : IsVia one.mid h.second.front h.second.back after = course_split one.mid after h.second.front h.second.back (subst (λ (zs : List Occurrence). AreCourse one.mid zs after) h.second.are one.second) in
     let all_same : length after.seats ≡ length r.seats = many_on r after xs settling in
     let lift_same : length one.mid.seats ≡ length r.seats = many_on r one.mid h.front one.first in
     let time_same : length next.mid.seats ≡ length one.mid.seats = many_on one.mid next.mid h.second.front next.first in
-    let holds_r : Holds r = course_on first r ys (first_holds first begin) course in
+    let holds_r : Holds r = mid.holds in
     let holds_one : Holds one.mid = course_on r one.mid h.front holds_r one.first in
     let holds_next : Holds next.mid = course_on one.mid next.mid h.second.front holds_one next.first in
     let holds_end : Holds after = course_on next.mid after h.second.back holds_next next.second in
-    let said_r : AreSaid r = said_on first r ys (said_first first begin) course in
+    let said_r : AreSaid r = mid.said in
     let said_one : AreSaid one.mid = said_on r one.mid h.front said_r one.first in
     let said_next : AreSaid next.mid = said_on one.mid next.mid h.second.front said_one next.first in
     let said_end : AreSaid after = said_on next.mid after h.second.back said_next next.second in
-    let within_next = within_on one.mid next.mid h.second.front holds_one (within_on r one.mid h.front holds_r (within_on first r ys (first_holds first begin) (within_first first begin (first_holds first begin)) course) one.first) next.first in
+    let within_next = within_on one.mid next.mid h.second.front holds_one (within_on r one.mid h.front holds_r mid.within one.first) next.first in
     let up_one : AreUp one.mid = lifted_up r one.mid h.front h.first one.first in
     let up_next : AreUp next.mid = course_up one.mid next.mid h.second.front (calm_timed_all (length r.seats) h.second.front h.second.first) next.first up_one in
     let tells_next : TellsAt next.mid = course_back next.mid after h.second.back next.second (each_tells after well.tells) in

@@ -7,5 +7,6 @@ pub mod Carries
 pub mod Settles
 pub mod Plays
 pub mod Links
+pub mod Midway
 pub mod Lone
 pub mod Resting

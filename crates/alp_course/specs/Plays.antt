@@ -102,10 +102,11 @@ pub record ArePlayed (servers : ℕ) (lines : List NumberedLine) (turns : List T
 
 -- ---- a script that is not played to its end
 
--- what was to come next: a frame of a client, or something else
+-- What was to come next: a frame of a client, or something else. Or that is not told: memory was wanting between two of them.
 pub data Due : Type 0 where
   to_send : (client : ℕ) (frame : Addressed) → Due
   to_come : (x : Occurrence) → Due
+  untold : Due
 
 -- of what occurs so this much did, and that was to come next
 pub record IsCut (A : Language) (hs : List Occurrence) (due : Due) : Type 0 where
@@ -114,12 +115,17 @@ pub record IsCut (A : Language) (hs : List Occurrence) (due : Due) : Type 0 wher
   pub is : due ≡ to_come coming
   pub all : A (hs ++ coming ∷ rest)
 
+-- After its last item a client's line came so far: nothing more occurred; or messages were carried; or the line came to its end.
+abbrev pub IsSoFar : (servers : ℕ) → Crowd → ℕ → Line → Next → List Occurrence → Type 0
+IsSoFar servers c k l n hs = (hs ≡ []) ⊎ CarriesAt servers c n hs ⊎ Sends servers c k l n [] (times_out c k n) hs c
+
 -- A client's line that has more to do behind these items: messages to carry, a frame to send, or a transaction that is to time out; and
--- what is known then.
+-- what is known then. Where it is not told what was to come, the line may have come to its end.
 abbrev pub IsMoreDue : (servers : ℕ) → Crowd → ℕ → Line → Next → List Occurrence → Due → Type 0
 IsMoreDue servers c k l n hs due =
     IsCut (CarriesAt servers c n) hs due
     ⊎ (CarriesAt servers c n hs × (((frame : Addressed) × (asks c k l n ≡ Some frame) × (due ≡ to_send k frame)) ⊎ ((t : ℕ × TransId) × (times_out c k n ≡ Some t) × (due ≡ to_come (at t.0 (timed_out t.1))))))
+    ⊎ ((due ≡ untold) × IsSoFar servers c k l n hs)
 
 abbrev pub SendsMore : (servers : ℕ) → Crowd → ℕ → Line → Next → List Item → List Occurrence → Due → Crowd → Type 0
 SendsMore servers c k l n [] hs due d = IsMoreDue servers c k l n hs due × (d ≡ c)

@@ -8,7 +8,8 @@ use Rattle.alp_history.specs.Items.{Handed}
 use Rattle.alp_history.specs.Log.{IsIn}
 use Rattle.alp_history.specs.Theorems.{IsProper, IsSettled}
 use Rattle.alp_course.specs.Courses.{Course, seat_at, IsSeat, Occurrence, AreCourse, TellAll}
-use Rattle.alp_course.specs.Links.{log_of, IsFirst}
+use Rattle.alp_course.specs.Links.{log_of}
+use Rattle.alp_course.specs.Midway.{IsMidway}
 use Rattle.alp_course.specs.Settles.{IsSettling}
 
 -- epochs and counters of ids begin with 1
@@ -31,7 +32,6 @@ pub record IsWellRun (after : Course) (handed : Handed) : Type 0 where
   pub among : (n : ℕ) → IsSeat after n → (seat_at after n).opening.servers ≡ length after.seats
   pub account : (n : ℕ) → IsSeat after n → (a : Account) × ((seat_at after n).stand.state ≡ state_of a) × Stands a
 
--- Behind a settling no part lives, none is ready, and no decision stands, at any server.
+-- Behind a settling no part lives, none is ready, and no decision stands, at any server: wherever the run that is settled began.
 abbrev pub Resting : Type 0
-Resting = (first r after : Course) (ys xs : List Occurrence) (handed : Handed) → IsFirst first → AreCourse first ys r → IsSettling (length r.seats) xs → AreCourse r xs after → IsWellRun after handed
-    → (n : ℕ) → IsSeat after n → IsSettled (seat_at after n).stand.state
+Resting = (r after : Course) (xs : List Occurrence) (handed : Handed) → IsMidway r → IsSettling (length r.seats) xs → AreCourse r xs after → IsWellRun after handed → (n : ℕ) → IsSeat after n → IsSettled (seat_at after n).stand.state

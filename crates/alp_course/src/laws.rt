@@ -1,8 +1,15 @@
 //! What holds of each run, whatever happens in it.
 ghost use Rattle.alp_course.specs.Links.{Linking};
 ghost use Rattle.alp_course.specs.Lone.{Alone, Closing, Plainness};
+ghost use Rattle.alp_course.specs.Midway.{Keeping};
 ghost use Rattle.alp_course.specs.Resting.{Resting};
 ghost use Rattle.alp_course.specs.Settles.{Lifting, Emptying};
+
+/// A run is on its way from its first moment on (`IsMidway`), and stays so whatever occurs. What is said of one on its way holds too of servers
+/// that come out of something else than a run of lines.
+pub fn runs_stay_midway()
+    ensures { Keeping }
+{}
 
 /// The journals of a run are linked: ranks rise along each of them, and each message that arrives was sent before.
 pub fn journals_are_linked()

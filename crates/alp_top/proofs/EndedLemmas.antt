@@ -1,4 +1,6 @@
 -- how a run came to a limit, whatever its bay tells
+use Rattle.std.specs.Prelude.{Vec}
+use Rattle.std.specs.Global.{Global}
 use Rattle.std.proofs.Common.{◌≡◌, ℕ, ◌+◌, ◌<◌, List, refl, ◌∙◌, arith}
 use Rattle.alp_base.specs.declared.faults.VaultFault.TheVariants as vault_fault
 use Rattle.alp_bay.specs.declared.bay.BayFault.{BayFault}
@@ -10,6 +12,7 @@ use Rattle.alp_cluster.specs.declared.fault.RunFault.TheVariants as run_fault
 use Rattle.alp_cluster.specs.declared.stations.Stations.{Stations}
 use Rattle.alp_course.specs.Courses.{IsOneOf}
 use Rattle.alp_disk.specs.declared.disk.Disk.{Ghosts}
+use Rattle.alp_journal.specs.declared.log.Item.{Item}
 use Rattle.alp_node.specs.declared.start.StartFault.TheVariants as start_fault
 use Rattle.alp_script.specs.Accepted.{servers_said}
 use Rattle.alp_script.specs.declared.numbered.NumberedLine.{NumberedLine}
@@ -22,8 +25,8 @@ use Rattle.alp_top.specs.declared.fault.NoReport.TheVariants as fault
 use Rattle.alp_top.proofs.SeatedLemmas.{many}
 
 -- a run that ended before its script did
-pub ended_for : {V : Type 0} (G : VaultGhosts V) (lines : List NumberedLine) (f : RunFault) (left : Stations V) → HasEndedEarly G (servers_said lines) lines f left → IsEndedFor lines f
-ended_for G lines f left h = record {
+pub ended_for : {V : Type 0} (G : VaultGhosts V) (lines : List NumberedLine) (f : RunFault) (left : Stations V) (vs : List (Vec Item Global)) → HasEndedEarly G (servers_said lines) lines f left vs → IsEndedFor lines f
+ended_for G lines f left vs h = record {
   first = h.ran.first;
   begins = h.ran.is_first;
   last = course_of G h.last;

@@ -1,46 +1,34 @@
 -- what a run leaves of the disk of each server
-use Rattle.std.specs.Prelude.{Bool, IsTrue, map as list_map, slice_get, Option, None, Some, Result, Ok, Err, OnOk}
-use Rattle.std.proofs.Common.{inl, inr, ◌⊎◌, ◌≡◌, ◌≢◌, ℕ, zero, suc, ◌+◌, ◌-◌, ◌<◌, ◌≤◌, List, [], ◌∷◌, length, refl, sym, ◌∙◌, ap, subst, arith}
-use Rattle.std.proofs.lemmas.Bool.{cases_eq}
+use Rattle.std.specs.Prelude.{Bool, IsTrue, slice_get, Option, Some, Result, Ok, Err, OnOk}
+use Rattle.std.proofs.Common.{◌⊎◌, ◌≡◌, ◌≢◌, ℕ, ◌+◌, ◌-◌, ◌<◌, ◌≤◌, List, [], ◌∷◌, length, refl, sym, ◌∙◌, ap, subst, arith}
 use Rattle.alp_base.specs.Causes.{Rose}
+use Rattle.alp_base.specs.Crashes.{NoMore}
 use Rattle.alp_base.specs.declared.allowance.Allowance.TheVariants.{Free}
-use Rattle.alp_base.specs.declared.faults.Sizes.{Sizes}
-use Rattle.alp_base.specs.declared.faults.VaultFault.{VaultFault}
 use Rattle.alp_base.specs.declared.faults.VaultFault.TheVariants as vault_fault
-use Rattle.alp_course.specs.Courses.{Course, IsOneOf}
+use Rattle.alp_course.specs.Courses.{IsOneOf}
 use Rattle.alp_disk.specs.declared.disk.Disk.{Ghosts}
 use Rattle.alp_node.specs.NodeStates.{NodeState}
-use Rattle.alp_node.specs.Nodes.{start_in}
-use Rattle.alp_node.specs.declared.opened.Opened.{Opened}
-use Rattle.alp_node.specs.declared.start.StartFault.{StartFault}
+use Rattle.alp_node.specs.Nodes.{IsConsistent}
 use Rattle.alp_node.specs.declared.start.StartFault.TheVariants as start_fault
 use Rattle.alp_script.specs.Accepted.{servers_said}
-use Rattle.alp_script.specs.Volumes.{sizes_said}
 use Rattle.alp_script.specs.declared.numbered.NumberedLine.{NumberedLine}
-use Rattle.alp_vault.specs.Vault.{IsSameVault}
 use Rattle.alp_vault.specs.declared.vault.Vault.{Ghosts as VaultGhosts}
 use Rattle.alp_cluster.specs.Gathered.{AreStationsOf}
-use Rattle.alp_cluster.specs.Goes.{AddsEntries}
 use Rattle.alp_cluster.specs.Runs.{StopNone}
-use Rattle.alp_cluster.specs.Servers.{HasGoneBy, IsFailure, IsToldFault, IsOfVolumeAt, IsFailureAt, AreCounted, AreCountedAt, AreCountedIn}
+use Rattle.alp_cluster.specs.Servers.{HasGoneBy, IsFailure, IsToldFault, AreCounted, AreCountedIn}
 use Rattle.alp_cluster.specs.Station.{standing, HasVault}
-use Rattle.alp_cluster.specs.Stations.{IsOfRun, HaveGone, openings_of}
+use Rattle.alp_cluster.specs.Stations.{IsOfRun, HaveGone}
 use Rattle.alp_cluster.specs.declared.fault.RunFault.{RunFault}
 use Rattle.alp_cluster.specs.declared.fault.RunFault.TheVariants as run_fault
-use Rattle.alp_cluster.specs.declared.server.Server.{Server}
 use Rattle.alp_cluster.specs.declared.station.Station.{Station}
 use Rattle.alp_cluster.specs.declared.stations.Stations.{Stations}
 use Rattle.alp_cluster.proofs.GoneLemmas.{gone_then}
-use Rattle.alp_top.specs.Disks.{IsBegunAt, AreBegun, AreOthersSame, IsGiven, IsLeftAt, AreLeftBy, IsClosedAt, AreClosed, notes_in}
-use Rattle.alp_top.specs.Faults.{of_vault, of_start, played}
-use Rattle.alp_top.specs.Volumes.{pages_of, IsReturned, AreReturned, IsLeftWhole, AreLeftWanting, IsCutShort, IsLeftBy, HasFilled, HasUsedUp, HasRunCause, IsOfServers}
-use Rattle.alp_top.specs.declared.fault.NoReport.{NoReport}
+use Rattle.alp_top.specs.Disks.{IsBegunAt, AreBegun, AreOthersSame, IsGiven, IsServerRight, IsLeftAt, AreLeftBy, IsClosedAt, AreClosed}
+use Rattle.alp_top.specs.Faults.{played}
+use Rattle.alp_top.specs.Volumes.{pages_of, AreReturned, IsOfServers}
 use Rattle.alp_top.specs.declared.fault.NoReport.TheVariants as fault
-use Rattle.alp_top.proofs.BeginLemmas.{holds_by}
 use Rattle.alp_top.proofs.GivenLemmas.{one_vault, up_vault, station_at, stations_many}
-use Rattle.alp_top.proofs.JournalLemmas.{HasJournal, journal_less, journal_left}
 use Rattle.alp_top.proofs.PairLemmas.{HasPair, paired_at, same_there}
-use Rattle.alp_top.proofs.StoredLemmas.{started_as}
 
 -- ---- one server
 
@@ -56,7 +44,6 @@ pub record IsGoneAt {V D T : Type 0} (G : VaultGhosts V) (g : Ghosts D) (tells :
   pub stands : slice_get now.all.items (n - 1) ≡ Some left
   pub vault : V
   pub gone : HasGoneBy G (IsOfRun (servers_said lines)) (StopNone lines) node.kept.vault vault r
-  pub says : IsTrue (G.tells vault) → HasJournal (start_in G node) (G.may_leave vault)
   pub given : D
   pub back : IsGiven G g vault given
   pub there : IsTrue tells → after n ≡ Some given
@@ -65,6 +52,7 @@ pub record IsGoneAt {V D T : Type 0} (G : VaultGhosts V) (g : Ghosts D) (tells :
 pub record IsLeftSo {V D T : Type 0} (G : VaultGhosts V) (g : Ghosts D) (tells : Bool) (lines : List NumberedLine) (before after : ℕ → Option D) (first now : Stations V) (r : Result T RunFault) (n : ℕ) : Type 0 where
   pub at : IsGoneAt G g tells lines before after first now r n
   pub its : HasVault at.left.server at.vault
+  pub known : IsServerRight G at.left.server
 
 -- It was at rest, and was closed. Where nobody stops it then, its count of faults stayed.
 pub record IsDoneAt {V D T : Type 0} (G : VaultGhosts V) (g : Ghosts D) (tells : Bool) (lines : List NumberedLine) (before after : ℕ → Option D) (first now : Stations V) (r : Result T RunFault) (n : ℕ) : Type 0 where
@@ -75,6 +63,9 @@ pub record IsDoneAt {V D T : Type 0} (G : VaultGhosts V) (g : Ghosts D) (tells :
   pub serves : OnOk r (IsTrue (G.serves at.vault))
   pub still : OnOk r (G.allowance rest.kept.vault ≡ Free → G.faults at.vault ≡ G.faults rest.kept.vault)
   pub telling : G.tells rest.kept.vault ≡ G.tells at.node.kept.vault
+  pub kept : IsConsistent G rest
+  pub crash : NoMore (G.may_leave rest.kept.vault) (G.may_leave at.vault)
+  pub looked : G.allowance rest.kept.vault ≡ Free → AreCountedIn (G.server rest.kept.vault) r (G.faults rest.kept.vault) (G.faults at.vault)
 
 ok_counted : {U : Type 0} (F : Type 0) (here before now : ℕ) (q : Result U RunFault) → (F → AreCountedIn here q before now) → OnOk q (F → now ≡ before)
 ok_counted F here before now (Ok x) h = h
@@ -117,13 +108,12 @@ module _ {V D : Type 0} (G : VaultGhosts V) (g : Ghosts D) (tells : Bool) (lines
             stands = q.at_one;
             vault = y.vault;
             gone = subst (λ (w : V). HasGoneBy G (IsOfRun (servers_said lines)) (StopNone lines) p.one.kept.vault w r) v (subst (λ (m : ℕ). HasGoneBy G (IsOfRun m) (StopNone lines) p.one.kept.vault l.vault r) first_many l.gone);
-            says = journal_left G p.one y.vault p.both.started.on.kept (subst (λ (w : V). IsSameVault G.tells G.volume G.server G.servers p.one.kept.vault w) v l.gone.same) q.one.server y.its
-                (subst (λ (s : Station V). AddsEntries p.one s.server) (sym one) l.adds) y.known;
             given = q.two;
             back = y.back;
             there = y.there;
           };
           its = y.its;
+          known = y.known;
         }
 
   -- all was played, and then the servers were closed
@@ -142,7 +132,6 @@ module _ {V D : Type 0} (G : VaultGhosts V) (g : Ghosts D) (tells : Bool) (lines
         let v : l.vault ≡ y.node.kept.vault = up_vault c.one.server y.node l.vault y.stands (subst (λ (z : Station V). HasVault z.server l.vault) (sym one) l.its) in
         let first_gone : HasGoneBy {T = T} G (IsOfRun (servers_said lines)) (StopNone lines) p.one.kept.vault y.node.kept.vault (Ok x) =
         subst (λ (w : V). HasGoneBy {T = T} G (IsOfRun (servers_said lines)) (StopNone lines) p.one.kept.vault w (Ok x)) v (subst (λ (m : ℕ). HasGoneBy {T = T} G (IsOfRun m) (StopNone lines) p.one.kept.vault l.vault (Ok x)) first_many l.gone) in
-        let adds : AddsEntries p.one (standing y.node) = subst (λ (o : Option (Server V)). AddsEntries p.one o) (ap (λ (z : Station V). z.server) (sym one) ∙ y.stands) l.adds in
         record {
           at = record {
             node = p.one;
@@ -156,8 +145,6 @@ module _ {V D : Type 0} (G : VaultGhosts V) (g : Ghosts D) (tells : Bool) (lines
             vault = y.vault;
             gone = gone_then G (IsOfRun (servers_said lines)) (StopNone lines) (Unit {0}) (StopNone lines) p.one.kept.vault y.node.kept.vault y.vault x q (λ none. none) (λ none. tt) first_gone
                 (subst (λ (m : ℕ). HasGoneBy G (IsOfRun m) (Unit {0}) y.node.kept.vault y.vault q) (gone.many ∙ first_many) y.gone);
-            says = λ told_v. journal_less (start_in G p.one) (G.may_leave y.node.kept.vault) (G.may_leave y.vault) y.crash
-                (journal_left G p.one y.node.kept.vault p.both.started.on.kept first_gone.same (standing y.node) refl adds y.kept (subst IsTrue y.gone.same.telling told_v));
             given = c.two;
             back = y.back;
             there = y.there;
@@ -168,25 +155,30 @@ module _ {V D : Type 0} (G : VaultGhosts V) (g : Ghosts D) (tells : Bool) (lines
           serves = y.serves;
           still = ok_counted (G.allowance y.node.kept.vault ≡ Free) (G.server y.node.kept.vault) (G.faults y.node.kept.vault) (G.faults y.vault) q (λ free. y.gone.counted tt free);
           telling = first_gone.same.telling;
+          kept = y.kept;
+          crash = y.crash;
+          looked = λ free. y.gone.counted tt free;
         }
 
 -- ---- why a run was not played to its end
 
--- a journal was full
-pub record IsFilledRun {D : Type 0} (g : Ghosts D) (lines : List NumberedLine) (taken given : (n : ℕ) → IsOneOf (servers_said lines) n → D) : Type 0 where
-  pub last : Course
-  pub short : IsCutShort lines run_fault.JournalFull last
-  pub each : (n : ℕ) (here : IsOneOf (servers_said lines) n) → IsLeftBy g lines last n (taken n here) (given n here)
-  pub server : ℕ
-  pub among : IsOneOf (servers_said lines) server
-  pub full : (here : IsOneOf (servers_said lines) server) → HasFilled g lines last server (taken server here) (given server here)
-
--- the epochs of this server are used up
-pub record IsUsedUpRun {D : Type 0} (g : Ghosts D) (lines : List NumberedLine) (server : ℕ) (taken given : (n : ℕ) → IsOneOf (servers_said lines) n → D) : Type 0 where
-  pub last : Course
-  pub short : IsCutShort lines (run_fault.Start server start_fault.EpochEnd) last
-  pub others : (n : ℕ) (here : IsOneOf (servers_said lines) n) → (n ≡ server → ⊥) → IsLeftBy g lines last n (taken n here) (given n here)
-  pub over : (here : IsOneOf (servers_said lines) server) → HasUsedUp g lines last server (taken server here) (given server here)
+-- each disk is given back, however it ended
+pub returned_ok : {V D T : Type 0} (G : VaultGhosts V) (g : Ghosts D) (tells : Bool) (told : IsTrue tells) (lines : List NumberedLine) (before after : ℕ → Option D) (first now : Stations V) (r : Result T RunFault) → AreOthersSame (servers_said lines) before after
+    → (at : (n : ℕ) → IsOneOf (servers_said lines) n → IsGoneAt {T = T} G g tells lines before after first now r n) (P : ℕ → D → D → Type 0) → ((n : ℕ) (here : IsOneOf (servers_said lines) n) → P n (at n here).taken (at n here).given) → AreReturned g lines (servers_said lines) before after P
+returned_ok G g tells told lines before after first now r others at P make = record {
+  each = λ n here.
+      let x = at n here in
+      record {
+        taken = x.taken;
+        from_there = x.begun.was told;
+        given = x.given;
+        there = x.there told;
+        size = x.back.sized ∙ ap pages_of x.gone.same.sizes ∙ sym x.begun.started.sized;
+        later = (let a : G.faults x.node.kept.vault ≡ g.faults x.taken = x.begun.started.faults in let b : g.faults x.given ≡ G.faults x.vault = x.back.faults in omega (arith, a, b, x.gone.later));
+        left = make n here;
+      };
+  others = others;
+}
 
 module _ {V D : Type 0} (G : VaultGhosts V) (g : Ghosts D) (tells : Bool) (lines : List NumberedLine) (before after : ℕ → Option D) (first now : Stations V) (T : Type 0) (f : RunFault) (some : 1 ≤ servers_said lines)
     (at : (n : ℕ) → IsOneOf (servers_said lines) n → IsGoneAt {T = T} G g tells lines before after first now (Err f) n) where
@@ -194,17 +186,17 @@ module _ {V D : Type 0} (G : VaultGhosts V) (g : Ghosts D) (tells : Bool) (lines
   here_is : (n : ℕ) (here : IsOneOf (servers_said lines) n) → G.server (at n here).node.kept.vault ≡ n
   here_is n here = (let x = at n here in x.begun.started.on.kept.number ∙ x.begun.started.number)
 
-  failed : (n : ℕ) (here : IsOneOf (servers_said lines) n) → IsFailure {T = T} (IsOfRun (servers_said lines)) n (Err f) (G.faults (at n here).node.kept.vault) (G.faults (at n here).vault)
+  pub failed : (n : ℕ) (here : IsOneOf (servers_said lines) n) → IsFailure {T = T} (IsOfRun (servers_said lines)) n (Err f) (G.faults (at n here).node.kept.vault) (G.faults (at n here).vault)
   failed n here = subst (λ (m : ℕ). IsFailure {T = T} (IsOfRun (servers_said lines)) m (Err f) (G.faults (at n here).node.kept.vault) (G.faults (at n here).vault)) (here_is n here) (at n here).gone.failed
 
-  counted : StopNone lines → (n : ℕ) (here : IsOneOf (servers_said lines) n) → AreCounted n f (G.faults (at n here).node.kept.vault) (G.faults (at n here).vault)
+  pub counted : StopNone lines → (n : ℕ) (here : IsOneOf (servers_said lines) n) → AreCounted n f (G.faults (at n here).node.kept.vault) (G.faults (at n here).vault)
   counted none n here =
       subst (λ (m : ℕ). AreCounted m f (G.faults (at n here).node.kept.vault) (G.faults (at n here).vault)) (here_is n here) ((at n here).gone.counted none (at n here).begun.started.idle.free)
 
-  rose_for : (n : ℕ) (here : IsOneOf (servers_said lines) n) → Rose (G.faults (at n here).node.kept.vault) (G.faults (at n here).vault) → Rose (g.faults (at n here).taken) (g.faults (at n here).given)
+  pub rose_for : (n : ℕ) (here : IsOneOf (servers_said lines) n) → Rose (G.faults (at n here).node.kept.vault) (G.faults (at n here).vault) → Rose (g.faults (at n here).taken) (g.faults (at n here).given)
   rose_for n here rose = (let x = at n here in subst (λ (m : ℕ). Rose m (g.faults x.given)) x.begun.started.faults (subst (λ (m : ℕ). Rose (G.faults x.node.kept.vault) m) (sym x.back.faults) rose))
 
-  same_for : (n : ℕ) (here : IsOneOf (servers_said lines) n) → G.faults (at n here).vault ≡ G.faults (at n here).node.kept.vault → g.faults (at n here).given ≡ g.faults (at n here).taken
+  pub same_for : (n : ℕ) (here : IsOneOf (servers_said lines) n) → G.faults (at n here).vault ≡ G.faults (at n here).node.kept.vault → g.faults (at n here).given ≡ g.faults (at n here).taken
   same_for n here same = (let x = at n here in x.back.faults ∙ same ∙ x.begun.started.faults)
 
   abbrev Failed : RunFault → Type 0
@@ -213,7 +205,7 @@ module _ {V D : Type 0} (G : VaultGhosts V) (g : Ghosts D) (tells : Bool) (lines
   first_here : IsOneOf (servers_said lines) 1
   first_here = record { first = omega arith; last = some }
 
-  one_of : (s : ℕ) → IsOfRun (servers_said lines) s → IsOneOf (servers_said lines) s
+  pub one_of : (s : ℕ) → IsOfRun (servers_said lines) s → IsOneOf (servers_said lines) s
   one_of s h = record { first = h.0; last = h.1 }
 
   -- of any bay a fault of a disk is told of one that failed
@@ -244,100 +236,10 @@ module _ {V D : Type 0} (G : VaultGhosts V) (g : Ghosts D) (tells : Bool) (lines
   module _ (told : IsTrue tells) (others : AreOthersSame (servers_said lines) before after) where
     -- each disk is given back
     pub returned : (P : ℕ → D → D → Type 0) → ((n : ℕ) (here : IsOneOf (servers_said lines) n) → P n (at n here).taken (at n here).given) → AreReturned g lines (servers_said lines) before after P
-    returned P make = record {
-      each = λ n here.
-          let x = at n here in
-          record {
-            taken = x.taken;
-            from_there = x.begun.was told;
-            given = x.given;
-            there = x.there told;
-            size = x.back.sized ∙ ap pages_of x.gone.same.sizes ∙ sym x.begun.started.sized;
-            later = (let a : G.faults x.node.kept.vault ≡ g.faults x.taken = x.begun.started.faults in let b : g.faults x.given ≡ G.faults x.vault = x.back.faults in omega (arith, a, b, x.gone.later));
-            left = make n here;
-          };
-      others = others;
-    }
-
-    -- and is whole
-    whole_at : (n : ℕ) (here : IsOneOf (servers_said lines) n) → IsLeftWhole g lines n (at n here).taken (at n here).given
-    whole_at n here =
-        let x = at n here in
-        let same : IsSameVault G.tells G.volume G.server G.servers x.node.kept.vault x.vault = x.gone.same in
-        let tells_v : IsTrue (G.tells x.vault) = subst IsTrue (sym (same.telling ∙ x.begun.started.telling)) (x.begun.told told) in
-        let number : G.server x.vault ≡ n = same.number ∙ x.begun.started.on.kept.number ∙ x.begun.started.number in
-        let all : G.servers x.vault ≡ servers_said lines = same.of_all ∙ x.begun.started.on.kept.all ∙ x.begun.started.count in
-        let volume : G.volume x.vault ≡ (start_in G x.node).sizes = same.sizes ∙ ap G.volume (sym x.begun.started.idle.opening) in
-        let tells_node : IsTrue (G.tells x.node.kept.vault) = subst IsTrue (sym x.begun.started.telling) (x.begun.told told) in
-        let h : HasJournal (start_in G x.node) (G.may_leave x.vault) = x.says tells_v in
-        record {
-          opening = start_in G x.node;
-          notes = notes_in G x.node;
-          journal = h.entries;
-          started = started_as G g (sizes_said lines n) n (servers_said lines) x.node x.node x.vault x.taken x.given x.begun.started (x.begun.told told) x.begun.started.on x.begun.started.number refl tells_node;
-          sound = (x.begun.started.on.kept.right tells_node).opening;
-          new = x.begun.started.new (x.begun.told told);
-          found = x.begun.started.found (x.begun.told told);
-          lawful = h.lawful;
-          caused = h.caused;
-          left = λ image may. (let (c, holds, may_be) = x.back.whole tells_v image may in (c, holds_by _ _ _ _ _ _ _ _ image c number all refl (ap (λ (z : Sizes). z.home) volume) holds, h.left c may_be));
-          read = x.back.read tells_v;
-        }
-
-    wanting : (StopNone lines → (n : ℕ) (here : IsOneOf (servers_said lines) n) → g.faults (at n here).given ≡ g.faults (at n here).taken) → AreLeftWanting g lines before after
-    wanting same = record { returned = returned (λ n d e. (StopNone lines → g.faults e ≡ g.faults d) × IsLeftWhole g lines n d e) (λ n here. ((λ none. same none n here), whole_at n here)) }
+    returned = returned_ok G g tells told lines before after first now (Err f) others at
 
     vault_told : (n : ℕ) (here : IsOneOf (servers_said lines) n) → IsTrue (G.tells (at n here).node.kept.vault)
     vault_told n here = (let x = at n here in subst IsTrue (sym x.begun.started.telling) (x.begun.told told))
 
-    fault_told : (n : ℕ) (here : IsOneOf (servers_said lines) n) → IsToldFault {T = T} n (Err f)
+    pub fault_told : (n : ℕ) (here : IsOneOf (servers_said lines) n) → IsToldFault {T = T} n (Err f)
     fault_told n here = subst (λ (m : ℕ). IsToldFault {T = T} m (Err f)) (here_is n here) ((at n here).gone.told (vault_told n here))
-
-    record Facts (q : RunFault) : Type 0 where
-      failed_so : Failed q
-      told_so : (n : ℕ) (here : IsOneOf (servers_said lines) n) → IsToldFault {T = T} n (Err q)
-      counted_so : StopNone lines → (n : ℕ) (here : IsOneOf (servers_said lines) n) → AreCounted n q (G.faults (at n here).node.kept.vault) (G.faults (at n here).vault)
-      filled : q ≡ run_fault.JournalFull → IsFilledRun g lines (λ n here. (at n here).taken) (λ n here. (at n here).given)
-      over : (s : ℕ) → q ≡ run_fault.Start s start_fault.EpochEnd → IsUsedUpRun g lines s (λ n here. (at n here).taken) (λ n here. (at n here).given)
-
-    pub play_ended : (bay_before bay_after : ℕ) → (f ≡ run_fault.JournalFull → IsFilledRun g lines (λ n here. (at n here).taken) (λ n here. (at n here).given))
-        → ((s : ℕ) → f ≡ run_fault.Start s start_fault.EpochEnd → IsUsedUpRun g lines s (λ n here. (at n here).taken) (λ n here. (at n here).given)) → HasRunCause g lines before after bay_before bay_after (played f)
-    play_ended bay_before bay_after filled over = go f (record { failed_so = failed; told_so = fault_told; counted_so = counted; filled = filled; over = over })
-      where
-        failing : (s : ℕ) → IsOfRun (servers_said lines) s → ((n : ℕ) (here : IsOneOf (servers_said lines) n) → n ≡ s → Rose (G.faults (at n here).node.kept.vault) (G.faults (at n here).vault))
-            → (StopNone lines → (n : ℕ) (here : IsOneOf (servers_said lines) n) → (n ≡ s → ⊥) → G.faults (at n here).vault ≡ G.faults (at n here).node.kept.vault) → HasRunCause g lines before after bay_before bay_after (fault.Disk s)
-        failing s among rose same =
-            inr (record {
-              cause = one_of s among;
-              returned =
-                  returned (λ n d e. (n ≡ s → Rose (g.faults d) (g.faults e)) × ((n ≡ s → ⊥) → StopNone lines → g.faults e ≡ g.faults d) × IsLeftWhole g lines n d e)
-                  (λ n here. ((λ is. rose_for n here (rose n here is)), (λ other none. same_for n here (same none n here other)), whole_at n here));
-            })
-
-        go : (q : RunFault) → Facts q → HasRunCause g lines before after bay_before bay_after (played q)
-        go (run_fault.DiskFault s) x = failing s (x.failed_so 1 first_here).0 (λ n here is. (x.failed_so n here).1 (sym is)) (λ none n here other. (x.counted_so none n here).1 (λ is. other (sym is)))
-        go run_fault.OutOfMemory x = inr (inr (wanting (λ none n here. same_for n here (x.counted_so none n here))))
-        go run_fault.JournalFull x =
-            let y = x.filled refl in (
-              y.last,
-              y.short,
-              y.server,
-              y.among,
-              returned (λ n d e. IsLeftBy g lines y.last n d e × (n ≡ y.server → HasFilled g lines y.last n d e))
-                  (λ n here. (y.each n here, (λ is. subst (λ (m : ℕ). (here : IsOneOf (servers_said lines) m) → HasFilled g lines y.last m (at m here).taken (at m here).given) (sym is) y.full here))),
-            )
-        go (run_fault.Start s (start_fault.Vault vault_fault.Failed)) x = failing s (x.failed_so 1 first_here).0 (λ n here is. (x.failed_so n here).1 (sym is)) (λ none n here other. (x.counted_so none n here).1 (λ is. other (sym is)))
-        go (run_fault.Start s (start_fault.Vault vault_fault.Stopped)) x = failing s (x.failed_so 1 first_here).0 (λ n here is. absurd ((x.failed_so n here).1 (sym is))) (λ none n here other. (x.counted_so none n here).1 (λ is. other (sym is)))
-        go (run_fault.Start s (start_fault.Vault vault_fault.OutOfMemory)) x = inr (inr (wanting (λ none n here. same_for n here (elim (cases_eq s n) [ inl is ↦ (x.counted_so none n here).0 is | inr away ↦ (x.counted_so none n here).1 away ]))))
-        go (run_fault.Start s (start_fault.Vault (vault_fault.NotAVolume found))) x = absurd (x.told_so s (one_of s (x.failed_so 1 first_here).0) refl)
-        go (run_fault.Start s (start_fault.Vault (vault_fault.Damaged place))) x = absurd (x.told_so s (one_of s (x.failed_so 1 first_here).0) refl)
-        go (run_fault.Start s start_fault.BadNote) x = absurd (x.told_so s (one_of s (x.failed_so 1 first_here).0) refl)
-        go (run_fault.Start s start_fault.EpochEnd) x =
-            let y = x.over s refl in
-            inr (
-              y.last,
-              y.short,
-              one_of s (x.failed_so 1 first_here).0,
-              returned (λ n d e. ((n ≡ s → ⊥) → IsLeftBy g lines y.last n d e) × (n ≡ s → HasUsedUp g lines y.last n d e))
-                  (λ n here. ((λ other. y.others n here other), (λ is. subst (λ (m : ℕ). (here : IsOneOf (servers_said lines) m) → HasUsedUp g lines y.last m (at m here).taken (at m here).given) (sym is) y.over here))),
-            )

@@ -15,14 +15,14 @@ pub mod KeptLemmas
 pub mod LeaveLemmas
 pub mod LookLemmas
 pub mod EndedLemmas
-pub mod FilledLemmas
+pub mod CutDisks
+pub mod CauseLemmas
 pub mod CountedFits
 pub mod CountedLemmas
 pub mod CountedLists
 pub mod CutLemmas
 pub mod PlayedOutLemmas
 pub mod GivenLemmas
-pub mod JournalLemmas
 pub mod GoneAtLemmas
 pub mod RestLemmas
 pub mod TogetherLemmas

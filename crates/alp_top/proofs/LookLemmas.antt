@@ -34,7 +34,7 @@ module _ {V : Type 0} (G : Ghosts V) (server : ℕ) (u v : V) (same : IsSameVaul
 
 module _ {V : Type 0} (G : Ghosts V) where
   pub looked_err : {T U : Type 0} (u v w : V) (f : RunFault) → G.held v ≡ G.held u → G.allowance v ≡ G.allowance u → NoMore (G.may_leave u) (G.may_leave v) → HasLooked {T = T} G v w (Err f) → HasLooked {T = U} G u w (Err f)
-  looked_err u v w f held allowance crash h = record { held = h.held ∙ held; crash = λ c may. crash c (h.crash c may); allowance = h.allowance ∙ allowance; serves = tt; room = h.room }
+  looked_err u v w f held allowance crash h = record { held = h.held ∙ held; crash = λ c may. crash c (h.crash c may); allowance = h.allowance ∙ allowance; serves = tt; ends = h.ends }
 
   -- a fault that is handed on
   pub looked_on : {T U : Type 0} (u v w : V) (f : RunFault) (r : Result U RunFault) → G.held v ≡ G.held u → G.allowance v ≡ G.allowance u → NoMore (G.may_leave u) (G.may_leave v) → HasLooked {T = T} G v w (Err f) → r ≡ Err f → HasLooked {T = U} G u w r
@@ -42,4 +42,4 @@ module _ {V : Type 0} (G : Ghosts V) where
 
   -- memory was wanting
   pub looked_wanting : {U : Type 0} (u v : V) (r : Result U RunFault) → G.held v ≡ G.held u → G.allowance v ≡ G.allowance u → NoMore (G.may_leave u) (G.may_leave v) → r ≡ Err fault.OutOfMemory → HasLooked {T = U} G u v r
-  looked_wanting {U = U} u v r held allowance crash is = subst (λ (q : Result U RunFault). HasLooked {T = U} G u v q) (sym is) (record { held = held; crash = crash; allowance = allowance; serves = tt; room = tt })
+  looked_wanting {U = U} u v r held allowance crash is = subst (λ (q : Result U RunFault). HasLooked {T = U} G u v q) (sym is) (record { held = held; crash = crash; allowance = allowance; serves = tt; ends = tt })

@@ -1,5 +1,5 @@
 -- the end of a run, as its status tells it
-use Rattle.std.specs.Prelude.{Bool, length, Option, None, Some, Result, Ok, replicate, take}
+use Rattle.std.specs.Prelude.{Bool, Option, None, Some, replicate, take}
 use Rattle.std.specs.Option.{option_map}
 use Rattle.std.specs.Io.KnownBytes.{Appends}
 use Rattle.std.proofs.Common.{inl, inr, ◌⊎◌, ◌≡◌, ◌<◌, ◌≤◌, ℕ, zero, suc, List, [], ◌∷◌, refl, sym, ◌∙◌, ap, subst, arith}
@@ -366,7 +366,9 @@ module _ {D : Type 0} {g : Ghosts D} (lines : List NumberedLine) (before after :
       go : (f : NoReport) → HasRunCause g lines before after bay_before bay_after f → IsPlayedOrMemory (ended_by {D = D} {g = g} f)
       go fault.Bay x = absurd (still x.3)
       go (fault.Disk n) (inl x) = (let e = x.returned.each n (its n x.among) in let why = e.left.0 refl in absurd ((starts n x.among).unfailed e.taken e.given e.from_there e.there why.rose))
-      go (fault.Disk n) (inr x) = (let e = x.returned.each n x.cause in absurd ((starts n x.cause).unfailed e.taken e.given e.from_there e.there (e.left.0 refl)))
+      go (fault.Disk n) (inr (inl x)) = (let e = x.2.1.each n x.2.0 in let why = e.left.1 refl in absurd ((starts n x.2.0).unfailed e.taken e.given e.from_there e.there why.rose))
+      go (fault.Disk n) (inr (inr (inl x))) = (let e = x.2.1.each n x.2.0 in let why = e.left.1 refl in absurd ((starts n x.2.0).unfailed e.taken e.given e.from_there e.there why.rose))
+      go (fault.Disk n) (inr (inr (inr x))) = (let e = x.2.1.each n x.2.0 in let why = e.left.1 refl in absurd ((starts n x.2.0).unfailed e.taken e.given e.from_there e.there why.1))
       go fault.OutOfMemory x = tt
       go fault.JournalFull x = inl refl
       go (fault.EpochEnd n) (inl x) = (let e = x.returned.each n (its n x.among) in let why = e.left.0 refl in absurd (why.0.old ((on n x.among e.taken e.from_there).epoch why.1)))

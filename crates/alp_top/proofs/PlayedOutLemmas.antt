@@ -1,12 +1,12 @@
 -- a run that was played to its end, on the disks of a bay
-use Rattle.std.specs.Prelude.{Vec, Bool, false, IsTrue, map as list_map, slice_get, get_or, Option, None, Some, Result, Ok, Err}
+use Rattle.std.specs.Prelude.{Vec, Bool, false, IsTrue, map as list_map, slice_get, Option, Some, Ok}
 use Rattle.std.specs.Global.{Global}
 use Rattle.std.specs.List.{AllByRecursion}
 use Rattle.std.proofs.Common.{inl, inr, ◌≡◌, ℕ, zero, suc, ◌+◌, ◌-◌, ◌<◌, ◌≤◌, List, [], ◌∷◌, length, refl, sym, ◌∙◌, ap, subst, arith}
 use Rattle.std.proofs.lemmas.List.{length-map}
 use Rattle.alp_base.specs.Notes.{Notes}
 use Rattle.alp_base.specs.declared.allowance.Allowance.TheVariants.{Free}
-use Rattle.alp_course.specs.Courses.{Course, Seat, IsOneOf, IsSeat, seat_at, TellAll}
+use Rattle.alp_course.specs.Courses.{Seat, IsOneOf, IsSeat, seat_at, TellAll}
 use Rattle.alp_course.specs.Links.{server_log}
 use Rattle.alp_disk.specs.declared.disk.Disk.{Ghosts}
 use Rattle.alp_history.specs.Log as logs
@@ -34,7 +34,6 @@ use Rattle.alp_cluster.specs.Runs.{StopNone, HasPlayedOut}
 use Rattle.alp_cluster.specs.Servers.{AreCalm, IsOn, state_of}
 use Rattle.alp_cluster.specs.Station.{standing, seat_for, seat_of}
 use Rattle.alp_cluster.specs.Stations.{AreCalmSince, HaveGone, IsManned, course_of, openings_of}
-use Rattle.alp_cluster.specs.declared.fault.RunFault.{RunFault}
 use Rattle.alp_cluster.specs.declared.station.Station.{Station}
 use Rattle.alp_cluster.specs.declared.stations.Stations.{Stations}
 use Rattle.alp_top.specs.Disks.{AreBegun, AreOthersSame, AreClosed, notes_in}
@@ -46,7 +45,7 @@ use Rattle.alp_top.specs.Reports.{end_of}
 use Rattle.alp_top.specs.Together.{BeginsSound, OpensOn, OpenOn}
 use Rattle.alp_top.specs.Volumes.{pages_of, IsBare, IsUnstopped, IsStored, AreReturned, IsStartable}
 use Rattle.alp_top.specs.declared.finish.Rests.{Rests}
-use Rattle.alp_top.proofs.GoneAtLemmas.{IsGoneAt, IsDoneAt, done_at}
+use Rattle.alp_top.proofs.GoneAtLemmas.{IsDoneAt, done_at}
 use Rattle.alp_top.proofs.CalmAtLemmas.{calm_at}
 use Rattle.alp_top.proofs.CountedLemmas.{counted_for}
 use Rattle.alp_top.proofs.LonelyLemmas.{is_alone}
@@ -250,6 +249,7 @@ module _ {V D U : Type 0} (G : VaultGhosts V) (g : Ghosts D) (tells : Bool) (tol
           serial = h.serial;
           charged = h.charged;
           whole = h.whole;
+          order = h.order;
           shared = sharing (log_of G log) (proper_log G lines last vs text printed log rests rises out kept shows is all_told sound);
           kept = promises (log_of G log) (proper_log G lines last vs text printed log rests rises out kept shows is all_told sound) (told_clients G lines last vs text printed log rests rises out kept shows is all_told);
           counted = counted_for G lines log (faithful G lines last vs text printed log rests rises out kept shows is all_told) sound (shown_as shows);

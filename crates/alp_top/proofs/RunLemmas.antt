@@ -1,10 +1,10 @@
 -- a run on the disks of a bay, and how it ended
-use Rattle.std.specs.Prelude.{Vec, Bool, IsTrue, slice_get, Option, Some, Result, Ok, Err, OnOk}
+use Rattle.std.specs.Prelude.{Vec, Bool, IsTrue, slice_get, Option, Some, Result, Ok, Err}
 use Rattle.std.specs.Global.{Global}
-use Rattle.std.proofs.Common.{◌≡◌, ℕ, zero, suc, ◌+◌, ◌-◌, ◌<◌, ◌≤◌, List, [], ◌∷◌, length, refl, sym, ◌∙◌, ap, subst, arith}
+use Rattle.std.proofs.Common.{◌≡◌, ℕ, suc, ◌+◌, ◌-◌, ◌<◌, ◌≤◌, List, [], ◌∷◌, length, refl, sym, ◌∙◌, ap, subst, arith}
 use Rattle.alp_bay.specs.declared.bay.BayFault.{BayFault}
 use Rattle.alp_bay.specs.declared.bay.BayFault.TheVariants as bay_fault
-use Rattle.alp_course.specs.Courses.{Seat, IsOneOf, IsSeat, seat_at}
+use Rattle.alp_course.specs.Courses.{Seat, IsOneOf, IsSeat}
 use Rattle.alp_disk.specs.declared.disk.Disk.{Ghosts}
 use Rattle.alp_journal.specs.declared.log.Item.{Item}
 use Rattle.alp_node.specs.NodeStates.{NodeState}
@@ -14,33 +14,33 @@ use Rattle.alp_script.specs.Accepted.{RisesFrom, servers_said}
 use Rattle.alp_script.specs.declared.numbered.NumberedLine.{NumberedLine}
 use Rattle.alp_vault.specs.declared.vault.Vault.{Ghosts as VaultGhosts}
 use Rattle.alp_cluster.specs.Fills.{OnEndBy}
-use Rattle.alp_cluster.specs.Gathered.{AreStationsOf, AreGathered}
+use Rattle.alp_cluster.specs.Gathered.{AreStationsOf}
 use Rattle.alp_cluster.specs.Runs.{StopNone, HasPlayed, HasPlayedOut, HasEndedEarly}
 use Rattle.alp_cluster.specs.Servers.{HasGoneBy}
-use Rattle.alp_cluster.specs.Station.{standing, HasVault, seat_for}
-use Rattle.alp_cluster.specs.Stations.{AreCalmSince, IsOfRun, HaveGone, course_of, openings_of}
+use Rattle.alp_cluster.specs.Station.{standing, HasVault}
+use Rattle.alp_cluster.specs.Stations.{AreCalmSince, AreCalmBut, IsOfRun, HaveGone, course_of, openings_of}
 use Rattle.alp_cluster.specs.declared.cluster.Cluster.{Cluster}
 use Rattle.alp_cluster.specs.declared.fault.RunFault.{RunFault}
 use Rattle.alp_cluster.specs.declared.fault.RunFault.TheVariants as run_fault
 use Rattle.alp_cluster.specs.declared.station.Station.{Station}
 use Rattle.alp_cluster.specs.declared.stations.Stations.{Stations}
 use Rattle.alp_cluster.proofs.GatherLemmas.{played_none}
-use Rattle.alp_cluster.proofs.GoneLemmas.{gone_memory}
 use Rattle.alp_top.specs.Anywhere.{IsPlayedThrough}
 use Rattle.alp_top.specs.Disks.{IsBegunAt, AreBegun, IsOfServer, HaveBegun, HaveBegunSome, AreHeld, AreLeftBy, IsAtRest, AreAtRest, AreClosed}
 use Rattle.alp_top.specs.Limits.{IsEndedFor, IsEndTold}
+use Rattle.alp_top.specs.Looks.{IsLookFault}
 use Rattle.alp_top.specs.Endings.{AreRestsOf, IsReportOf, shown_text}
 use Rattle.alp_top.specs.Faults.{of_bay, played}
 use Rattle.alp_top.specs.Headline.{IsRunOf}
 use Rattle.alp_top.specs.Logs.{Log}
-use Rattle.alp_top.specs.Volumes.{HasRunCause, IsBayFault, IsBayTold, IsOfServers}
+use Rattle.alp_top.specs.Volumes.{HasRunCause, IsBayFault, IsOfServers}
 use Rattle.alp_top.specs.declared.fault.NoReport.{NoReport}
 use Rattle.alp_top.specs.declared.fault.NoReport.TheVariants as fault
 use Rattle.alp_top.specs.declared.finish.Rests.{Rests}
 use Rattle.alp_top.proofs.EndedLemmas.{ended_for, ended_told}
-use Rattle.alp_top.proofs.FilledLemmas.{filled, over}
+use Rattle.alp_top.proofs.CauseLemmas.{fell_cause, report_cause, close_cause}
 use Rattle.alp_top.proofs.GivenLemmas.{station_at, stations_many}
-use Rattle.alp_top.proofs.GoneAtLemmas.{IsGoneAt, IsLeftSo, IsDoneAt, others_same, left_at, done_at, play_counted, play_epoch, play_ended}
+use Rattle.alp_top.proofs.GoneAtLemmas.{IsGoneAt, IsLeftSo, others_same, left_at, done_at, play_counted, play_epoch}
 use Rattle.alp_top.proofs.PairLemmas.{HasPair, paired_at, same_there}
 use Rattle.alp_top.proofs.PlayedOutLemmas.{run_over}
 use Rattle.alp_top.proofs.SeatedLemmas.{there_less, seat_on, many}
@@ -49,15 +49,18 @@ use Rattle.alp_top.proofs.StartedLemmas.{new_of, held_each, held_of_begun}
 
 -- ---- faults
 
-pub end_full : (f : RunFault) (P : RunFault → Type 0) → OnEndBy f P → f ≡ run_fault.JournalFull → P f
-end_full f P h is = subst P (sym is) (subst (λ (q : RunFault). OnEndBy q P) is h)
-
-pub end_over : (f : RunFault) (s : ℕ) (P : RunFault → Type 0) → OnEndBy f P → f ≡ run_fault.Start s start_fault.EpochEnd → P f
-end_over f s P h is = subst P (sym is) (subst (λ (q : RunFault). OnEndBy q P) is h)
+pub end_by : (f : RunFault) (P : RunFault → Type 0) → OnEndBy f P → P f
+end_by (run_fault.DiskFault s) P h = h
+end_by run_fault.OutOfMemory P h = h
+end_by run_fault.JournalFull P h = h
+end_by (run_fault.Start s q) P h = h
 
 -- what ends the closing of servers comes to no limit
-pub close_unended : (lines : List NumberedLine) (f : RunFault) → OnEndBy f (λ e. ⊥) → IsEndTold lines (played f)
-close_unended lines f room = ended_told lines f (λ is. absurd (end_full f (λ e. ⊥) room is)) (λ s is. absurd (end_over f s (λ e. ⊥) room is))
+pub close_unended : (lines : List NumberedLine) (f : RunFault) → IsLookFault f → IsEndTold lines (played f)
+close_unended lines run_fault.JournalFull only = absurd only
+close_unended lines (run_fault.Start s q) only = absurd only
+close_unended lines run_fault.OutOfMemory only = tt
+close_unended lines (run_fault.DiskFault s) only = tt
 
 -- none of the bay
 pub play_still : (f : RunFault) (before now : ℕ) → now ≡ before → IsBayFault (played f) before now
@@ -181,18 +184,17 @@ module _ {V D : Type 0} (G : VaultGhosts V) (g : Ghosts D) (tells : Bool) (lines
       pub fell_counted : IsOfServers g (servers_said lines) (played f)
       fell_counted = play_counted G g tells lines before after first now (Unit {0}) f some (λ n here. (fell_at n here).at)
 
-      pub fell_told : OnEndBy f (λ e. HasEndedEarly G (servers_said lines) lines e now) → IsEndTold lines (played f)
-      fell_told ended =
-          ended_told lines f (λ is. subst (IsEndedFor lines) is (ended_for G lines f now (end_full f (λ e. HasEndedEarly G (servers_said lines) lines e now) ended is)))
+      pub fell_told : (vs : List (Vec Item Global)) → OnEndBy f (λ e. HasEndedEarly G (servers_said lines) lines e now vs) → IsEndTold lines (played f)
+      fell_told vs ended =
+          ended_told lines f (λ is. subst (IsEndedFor lines) is (ended_for G lines f now vs (end_by f (λ e. HasEndedEarly G (servers_said lines) lines e now vs) ended)))
           (λ s is. play_epoch G g tells lines before after first now (Unit {0}) f some (λ n here. (fell_at n here).at) s is)
 
-      pub fell_ended : IsTrue tells → (bay_before bay_after : ℕ) → OnEndBy f (λ e. HasEndedEarly G (servers_said lines) lines e now) → OnEndBy f (λ e. openings_of now ≡ openings_of first) → OnEndBy f (λ e. AreCalmSince G first now)
+      pub fell_ended : IsTrue tells → (bay_before bay_after : ℕ) (vs : List (Vec Item Global)) → OnEndBy f (λ e. HasEndedEarly G (servers_said lines) lines e now vs) → OnEndBy f (λ e. openings_of now ≡ openings_of first) → OnEndBy f (λ e. AreCalmBut G e first now)
           → HasRunCause g lines before after bay_before bay_after (played f)
-      fell_ended told bay_before bay_after ended opens calm =
-          play_ended G g tells lines before after first now (Unit {0}) f some (λ n here. (fell_at n here).at) told
+      fell_ended told bay_before bay_after vs ended opens calm =
+          fell_cause G g tells told lines before after first now (Unit {0}) vs some
           (others_same G g tells lines before mid after h.nodes h.disks first now h.gathered.stations h.many h.begun h.others (Err f) gone told (left.others told)) bay_before bay_after
-          (λ is. filled G g tells told lines before after first now f (end_full f (λ e. HasEndedEarly G (servers_said lines) lines e now) ended is) fell_at (end_full f (λ e. openings_of now ≡ openings_of first) opens is) (end_full f (λ e. AreCalmSince G first now) calm is) is)
-          (λ s is. over G g tells told lines before after first now f (end_over f s (λ e. HasEndedEarly G (servers_said lines) lines e now) ended is) fell_at (end_over f s (λ e. openings_of now ≡ openings_of first) opens is) (end_over f s (λ e. AreCalmSince G first now) calm is) s is)
+          (end_by f (λ e. openings_of now ≡ openings_of first) opens) f (end_by f (λ e. HasEndedEarly G (servers_said lines) lines e now vs) ended) fell_at (end_by f (λ e. AreCalmBut G e first now) calm)
 
   -- ---- when it was played
 
@@ -215,43 +217,19 @@ module _ {V D : Type 0} (G : VaultGhosts V) (g : Ghosts D) (tells : Bool) (lines
       pub close_counted : IsOfServers g (servers_said lines) (played f)
       close_counted = play_counted G g tells lines before after first now U f some (rest_at (Err f) closed)
 
-      pub close_ended : IsTrue tells → (bay_before bay_after : ℕ) → OnEndBy f (λ e. ⊥) → HasRunCause g lines before after bay_before bay_after (played f)
-      close_ended told bay_before bay_after room =
-          play_ended G g tells lines before after first now U f some (rest_at (Err f) closed) told (others_then closed.others told) bay_before bay_after
-          (λ is. absurd (end_full f (λ e. ⊥) room is))
-          (λ s is. absurd (end_over f s (λ e. ⊥) room is))
+      pub close_ended : IsTrue tells → (bay_before bay_after : ℕ) (vs : List (Vec Item Global)) (text : List ℕ) → HasPlayedOut G (servers_said lines) lines now vs text → openings_of now ≡ openings_of first → AreCalmSince G first now → IsLookFault f
+          → HasRunCause g lines before after bay_before bay_after (played f)
+      close_ended told bay_before bay_after vs text out opens calm only =
+          close_cause {U = U} G g tells told lines before after first now vs text some (others_then closed.others told) out opens calm bay_before bay_after f only
+          (λ n here. done_at G g tells lines before mid after h.nodes h.disks first now h.gathered.stations h.many h.begun h.others tt (Err f) gone closed n here)
 
     -- there was no memory for the report
     module _ {U : Type 0} (u : U) (closed : AreClosed {T = U} G g tells (length now.all.items) now.all.items mid after (Ok u)) where
-      wanting_at : (n : ℕ) → IsOneOf (servers_said lines) n → IsGoneAt {T = U} G g tells lines before after first now (Err run_fault.OutOfMemory) n
-      wanting_at n here =
-          let x = rest_at (Ok u) closed n here in
-          record {
-            node = x.node;
-            taken = x.taken;
-            begun = x.begun;
-            station = x.station;
-            stood = x.stood;
-            was = x.was;
-            left = x.left;
-            stands = x.stands;
-            vault = x.vault;
-            gone = gone_memory G (IsOfRun (servers_said lines)) (StopNone lines) x.node.kept.vault x.vault u x.gone;
-            says = x.says;
-            given = x.given;
-            back = x.back;
-            there = x.there;
-          }
-
-      pub wanting_ended : IsTrue tells → (bay_before bay_after : ℕ) → HasRunCause g lines before after bay_before bay_after fault.OutOfMemory
-      wanting_ended told bay_before bay_after =
-          play_ended G g tells lines before after first now U run_fault.OutOfMemory some wanting_at told (others_then closed.others told) bay_before bay_after (λ is. absurd (full_not is)) (λ s is. absurd (over_not s is))
-        where
-          full_not : run_fault.OutOfMemory ≡ run_fault.JournalFull → ⊥
-          full_not is = cc
-
-          over_not : (s : ℕ) → run_fault.OutOfMemory ≡ run_fault.Start s start_fault.EpochEnd → ⊥
-          over_not s is = cc
+      pub wanting_ended : IsTrue tells → (bay_before bay_after : ℕ) (vs : List (Vec Item Global)) (text : List ℕ) → HasPlayedOut G (servers_said lines) lines now vs text → openings_of now ≡ openings_of first → AreCalmSince G first now
+          → HasRunCause g lines before after bay_before bay_after fault.OutOfMemory
+      wanting_ended told bay_before bay_after vs text out opens calm =
+          report_cause G g tells told lines before after first now vs text some (others_then closed.others told) out opens calm bay_before bay_after u
+          (λ n here. done_at G g tells lines before mid after h.nodes h.disks first now h.gathered.stations h.many h.begun h.others tt (Ok u) gone closed n here)
 
       -- all went well
       module _ (vs : List (Vec Item Global)) (text printed : List ℕ) (log : Log V) (rests : Rests V) (rises : RisesFrom 1 lines) (out : HasPlayedOut G (servers_said lines) lines now vs text) (kept : AreRestsOf G now.all.items rests) (shows : Bool) (is : IsReportOf rests vs (shown_text shows text) log printed) where

@@ -2,16 +2,13 @@
 use Rattle.std.specs.Prelude.{Vec, Bool, true, false, IsTrue, flat_map, map as list_map, get_or, slice_get, Option, Some}
 use Rattle.std.specs.Global.{Global}
 use Rattle.std.specs.List.{AllByRecursion}
-use Rattle.std.proofs.Common.{inl, inr, ◌≡◌, ℕ, zero, suc, ◌+◌, ◌-◌, ◌<◌, ◌≤◌, List, [], ◌∷◌, ◌++◌, length, refl, sym, ◌∙◌, ap, subst, arith}
-use Rattle.std.proofs.lemmas.List.{length-map}
+use Rattle.std.proofs.Common.{◌≡◌, ℕ, zero, suc, ◌+◌, ◌-◌, ◌<◌, ◌≤◌, List, [], ◌∷◌, ◌++◌, length, refl, sym, ◌∙◌, ap, subst, arith}
 use Rattle.alp_files.specs.Cells.{Cells}
 use Rattle.alp_journal.specs.Along.{Along, state_after}
-use Rattle.alp_journal.specs.Account.{Account, state_of as account_state}
 use Rattle.alp_journal.specs.Laws.{IsLawful}
 use Rattle.alp_journal.specs.Moves.{next}
-use Rattle.alp_journal.specs.Opening.{Start, start_at}
+use Rattle.alp_journal.specs.Opening.{start_at}
 use Rattle.alp_journal.specs.State.{State, opened}
-use Rattle.alp_journal.specs.declared.entry.Entry.{Entry}
 use Rattle.alp_journal.specs.declared.log.Item.{Item}
 use Rattle.alp_history.specs.Handed.{AreOfClients}
 use Rattle.alp_history.specs.Items as items
@@ -23,6 +20,8 @@ use Rattle.alp_history.proofs.Merged.{history}
 use Rattle.alp_history.proofs.Agreed.{agreement}
 use Rattle.alp_history.proofs.AtRest.{settling}
 use Rattle.alp_history.proofs.EffectiveActs.{listing}
+use Rattle.alp_history.proofs.Latest.{latest-of-all}
+use Rattle.alp_history.proofs.LockEnds.{stamps_go_by_locks}
 use Rattle.alp_history.proofs.Wholes.{wholeness}
 use Rattle.alp_course.proofs.SeatLemmas.{of_seat}
 use Rattle.alp_course.specs.Resting.{AreSpelled}
@@ -30,7 +29,6 @@ use Rattle.alp_course.specs.Courses.{Course, Seat, IsSeat, no_seat, seat_at, Tel
 use Rattle.alp_course.specs.Links as links
 use Rattle.alp_course.specs.Links.{server_log}
 use Rattle.alp_course.specs.Plays.{ArePlayed}
-use Rattle.alp_course.specs.Settles.{IsUpIn}
 use Rattle.alp_course.specs.Turns.{Turn, lists_in, own_in, turns_of, turns_text}
 use Rattle.alp_course.proofs.LinkLemmas.{linking}
 use Rattle.alp_course.proofs.PlayLemmas.{played_sent}
@@ -41,24 +39,23 @@ use Rattle.alp_node.specs.NodeStates.{NodeState}
 use Rattle.alp_report.specs.Reports.{Holding, server_text, owned_by, count_text}
 use Rattle.alp_report.specs.Sections.{held_text, owned_text, printed as printed_of}
 use Rattle.alp_report.specs.declared.summary.Held.{Held}
-use Rattle.alp_report.specs.declared.summary.Summary.{Summary}
 use Rattle.alp_script.specs.Accepted.{RisesFrom, servers_said}
 use Rattle.alp_script.specs.declared.numbered.NumberedLine.{NumberedLine}
 use Rattle.alp_session.specs.Crowds.{new_crowd}
 use Rattle.alp_vault.specs.declared.vault.Vault.{Ghosts}
 use Rattle.alp_cluster.specs.Runs.{HasPlayedOut}
-use Rattle.alp_cluster.specs.Servers.{IsOn, IsDone, state_of}
+use Rattle.alp_cluster.specs.Servers.{IsDone, state_of}
 use Rattle.alp_cluster.specs.Station.{standing, seat_for, seat_of}
 use Rattle.alp_cluster.specs.Stations.{IsManned, course_of, state_at}
 use Rattle.alp_cluster.specs.declared.server.Server.{Server}
-use Rattle.alp_cluster.specs.declared.server.Server.TheVariants.{Up, Fallen}
+use Rattle.alp_cluster.specs.declared.server.Server.TheVariants.{Up}
 use Rattle.alp_cluster.specs.declared.station.Station.{Station}
 use Rattle.alp_cluster.specs.declared.stations.Stations.{Stations}
 use Rattle.alp_top.specs.Anywhere.{IsPrintedOf, IsPlayedThrough}
 use Rattle.alp_top.specs.Commands.{shown_as}
 use Rattle.alp_top.specs.Endings.{AreCellsOf, IsHeldAt, IsLogAt, AreRestsOf, IsReportOf, shown_text}
-use Rattle.alp_top.specs.Headline.{IsOfScript, IsFaithful, IsSerial, IsCharged, AreDecidedWhole, AreAtRest}
-use Rattle.alp_top.specs.Logs.{Log, ServerOfLog, openings, start_of, log_of, lists_of}
+use Rattle.alp_top.specs.Headline.{IsOfScript, IsFaithful, IsSerial, IsCharged, AreDecidedWhole, AreInOrder, AreAtRest}
+use Rattle.alp_top.specs.Logs.{Log, ServerOfLog, openings, log_of, lists_of}
 use Rattle.alp_top.specs.Pairs.{AreMatched}
 use Rattle.alp_top.specs.Reports.{end_of, holding_in, files_text_of, owners_text_of, tallied_text, shown_lines, tallied_for}
 use Rattle.alp_top.specs.Tallies.{begun_in, committed_in}
@@ -91,6 +88,7 @@ pub record AreDecidedSo (log : logs.Log) : Type 0 where
   pub serial : IsSerial log
   pub charged : IsCharged log
   pub whole : AreDecidedWhole log
+  pub order : AreInOrder log
 
 module _ {V : Type 0} (G : Ghosts V) (servers : ℕ) where
   -- the log of a server that stands there, as the theorems read it
@@ -294,6 +292,7 @@ module _ {V : Type 0} (G : Ghosts V) (lines : List NumberedLine) (last : Station
           serial = record { replies = h.replies; files = h.files };
           charged = record { each = h.charged; last = h.charged_last };
           whole = record { whole = wholeness (log_of G log) p; listed = listing (log_of G log) p; agree = agreement (log_of G log) p };
+          order = (let (locks, turns, begins) = stamps_go_by_locks (log_of G log) p in record { locks = locks; turns = turns; begins = begins; latest = latest-of-all (log_of G log) p });
         }
 
     -- what clients sent and were handed is as their machines and the servers leave it

@@ -11,7 +11,7 @@ use Rattle.alp_journal.specs.Moves.{next}
 use Rattle.alp_journal.specs.State.{opened}
 use Rattle.alp_history.specs.Handed.{ArePromisesKept}
 use Rattle.alp_history.specs.Log as logs
-use Rattle.alp_history.specs.Theorems.{AreWhole, AreListed, AreShared, DoAgreeOnEnds, IsSettled, EndsInCells}
+use Rattle.alp_history.specs.Theorems.{AreWhole, AreListed, AreShared, DoAgreeOnEnds, GoesByLocks, GoesByTurns, GoesByBegins, IsSettled, EndsInCells}
 use Rattle.alp_script.specs.Accepted.{servers_said}
 use Rattle.alp_script.specs.Volumes.{sizes_said}
 use Rattle.alp_script.specs.declared.numbered.NumberedLine.{NumberedLine}
@@ -97,12 +97,22 @@ pub record AreDecidedWhole (log : logs.Log) : Type 0 where
   pub listed : AreListed log
   pub agree : DoAgreeOnEnds log
 
--- All that holds of the decided transactions: they are one thread's history, with charges, and each is whole; what clients were told of them is
--- kept; and the counts of the report are theirs.
+-- Of two decided transactions that lock a place in modes which disagree, one after the other, the earlier one has the smaller stamp; so has the one
+-- whose mode ends first. Each has a stamp above what its client had seen as it began. Where the thread comes to a transaction, the files hold at each place
+-- what the latest one before it that changed the place left there.
+pub record AreInOrder (log : logs.Log) : Type 0 where
+  pub locks : GoesByLocks log
+  pub turns : GoesByTurns log
+  pub begins : GoesByBegins log
+  pub latest : logs.AreLatest log (logs.starting_all log) (logs.decided log)
+
+-- All that holds of the decided transactions: they are one thread's history, with charges, and each is whole; their order is that of their locks;
+-- what clients were told of them is kept; and the counts of the report are theirs.
 pub record IsHistory {V : Type 0} (G : Ghosts V) (shown : Shown) (lines : List NumberedLine) (log : Log V) : Type 0 where
   pub serial : IsSerial (log_of G log)
   pub charged : IsCharged (log_of G log)
   pub whole : AreDecidedWhole (log_of G log)
+  pub order : AreInOrder (log_of G log)
   -- each has one share at each of its servers, whose calls are just those that the server's entries performed for it
   pub shared : AreShared (log_of G log)
   -- Each stamp that a client was told is of a decided transaction, but in replies that were kept for a number which a raw line sent first, and a

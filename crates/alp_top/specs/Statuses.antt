@@ -1,7 +1,8 @@
 -- How a run ended: its code, its text, and what holds where it ended so.
-use Rattle.std.specs.Prelude.{◌≡◌, ◌⊎◌, ◌≤◌, ℕ, Bool, true, false, IsTrue, List, [], ◌++◌, Option, None, codes, string_bytes}
+use Rattle.std.specs.Prelude.{◌≡◌, ◌⊎◌, ◌≤◌, ℕ, Bool, true, false, IsTrue, List, [], ◌++◌, Option, None, codes, string_bytes, take}
 use Rattle.std.specs.Option.{option_map}
 use Rattle.std.specs.Fmt.{decimal}
+use Rattle.std.specs.Io.KnownBytes.{Appends}
 use Rattle.alp_base.specs.Causes.{Rose}
 use Rattle.alp_journal.specs.Answered.{entries_limit}
 use Rattle.alp_script.specs.declared.fault.ScriptFault.{ScriptFault}
@@ -22,6 +23,10 @@ use Rattle.alp_top.specs.declared.status.Status.TheVariants as status
 -- the vault of a server of a run, on a device that the run may stop
 abbrev pub Kept : (D : Type 0) → Ghosts D → Type 0
 Kept D g = StoreOf (Fuse D g)
+
+-- The line was written whole; or nothing was, since memory was wanting; or a part of it, and then a fault came.
+abbrev pub SaysLine : Type 0 → (written_before written : Option (List ℕ)) → (faults_before faults : ℕ) → List ℕ → Type 0
+SaysLine Same written_before written faults_before faults line = Same ⊎ Appends written_before written line ⊎ (Rose faults_before faults × (count : ℕ) × Appends written_before written (take count line))
 
 module _ {D : Type 0} {g : Ghosts D} where
   abbrev pub code_of : Status D g → ℕ

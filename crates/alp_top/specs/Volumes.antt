@@ -1,5 +1,5 @@
 -- The disks of the run's servers: what each server opened on, and what its disk holds when it is given back.
-use Rattle.std.specs.Prelude.{[], ◌≡◌, ◌⊎◌, ◌≤◌, ◌<◌, ℕ, ◌+◌, ◌*◌, List, length, Option, Some, Result, Ok, Err}
+use Rattle.std.specs.Prelude.{[], ◌∷◌, ◌++◌, ◌≡◌, ◌⊎◌, ◌≤◌, ◌<◌, ℕ, ◌+◌, ◌*◌, List, length, Option, Some, Result, Ok, Err}
 use Rattle.std.specs.FinMap as map
 use Rattle.alp_base.specs.Causes.{Rose}
 use Rattle.alp_base.specs.Crashes.{Only, NoMore}
@@ -26,7 +26,7 @@ use Rattle.alp_node.specs.Durable.{IsSaid, IsSaidThen}
 use Rattle.alp_node.specs.Nodes.{IsSoundStart}
 use Rattle.alp_node.specs.Starts.{raised, epoch_after, IsKeptOrRaised}
 use Rattle.alp_regain.specs.Together.{AreTogether}
-use Rattle.alp_node.specs.declared.start.StartFault.TheVariants.{EpochEnd}
+use Rattle.alp_node.specs.declared.start.StartFault.TheVariants.{EpochEnd, Vault}
 use Rattle.alp_store.specs.Holding.{Holds}
 use Rattle.alp_store.specs.Starts.{AreOfServer, IsNew, Unmaking, WhyNotStarted}
 use Rattle.alp_vault.specs.Contents.{Contents}
@@ -37,12 +37,12 @@ use Rattle.alp_history.specs.Handed.{ArePromisesKept}
 use Rattle.alp_history.specs.Log as logs
 use Rattle.alp_history.specs.RunLogs.{handed_of}
 use Rattle.alp_history.specs.Theorems.{IsOneThread, AreWhole}
-use Rattle.alp_cluster.specs.Fills.{IsEndFor}
+use Rattle.alp_cluster.specs.Fills.{IsEndFor, IsEventDue}
 use Rattle.alp_cluster.specs.Runs.{StopNone, StopsInLine, StopsBehindLines}
-use Rattle.alp_cluster.specs.Servers.{AreCalm, IsDone}
+use Rattle.alp_cluster.specs.Servers.{AreCalm, IsDone, ShowsFault}
 use Rattle.alp_course.specs.Courses.{Course, Occurrence, IsOneOf, IsSeat, seat_at, TellAll, AreCourse}
 use Rattle.alp_course.specs.Links.{IsFirst, log_of}
-use Rattle.alp_course.specs.Plays.{Due, sent_of}
+use Rattle.alp_course.specs.Plays.{Due, ArePlayed, sent_of}
 use Rattle.alp_course.specs.Turns.{Turn, own_in, sent_in}
 use Rattle.alp_cluster.specs.declared.fault.RunFault.{RunFault}
 use Rattle.alp_cluster.specs.declared.fault.RunFault.TheVariants as run_fault
@@ -160,41 +160,67 @@ pub record IsRightAt (last : Course) (n : ℕ) : Type 0 where
   pub lawful : IsLawful (seat_at last n).opening (seat_at last n).journal
   pub caused : Along next IsDone (opened (seat_at last n).opening) (seat_at last n).journal
 
--- The run of these lines ended for that fault where its servers stood so: a line had more to send or to bring about, or the settling behind
--- the lines had (`stopped`). The journals are those of what occurred by then, each reply is the one that was handed, and they are lawful. The
--- vaults tell what they hold, so each settling found what was left. Where what the servers opened on is sound the decided transactions are one
--- thread's history, each with all of its parts, and what the clients are promised is kept. Of a server that runs alone it is.
-pub record IsCutShort (lines : List NumberedLine) (f : RunFault) (last : Course) : Type 0 where
+-- The run of these lines came so far, with these turns of its clients, and its servers stand so. The journals are those of what occurred by then,
+-- each reply is the one that was handed, and they are lawful. The vaults tell what they hold, so each settling found what was left. Where what the
+-- servers opened on is sound the decided transactions are one thread's history, each with all of its parts, and what the clients are promised is
+-- kept. Of a server that runs alone it is.
+pub record IsRunTo (lines : List NumberedLine) (turns : List Turn) (happened : List Occurrence) (last : Course) : Type 0 where
   pub first : Course
   pub begins : IsFirst first
   pub count : length last.seats ≡ servers_said lines
-  pub turns : List Turn
-  pub happened : List Occurrence
-  pub due : Due
   pub course : AreCourse first happened last
   pub sent : sent_of happened ≡ sent_in turns
-  pub stopped : StopsInLine (servers_said lines) lines turns happened due ⊎ StopsBehindLines (servers_said lines) lines turns happened due
-  pub ends : IsEndFor f last due
   pub tells : TellAll last
   pub right : (n : ℕ) → IsSeat last n → IsRightAt last n
   pub history : logs.AreSoundOpenings (log_of last (handed_of (λ k. own_in k turns)))
       → IsOneThread (log_of last (handed_of (λ k. own_in k turns))) × AreWhole (log_of last (handed_of (λ k. own_in k turns))) × ArePromisesKept (log_of last (handed_of (λ k. own_in k turns)))
   pub alone : servers_said lines ≡ 1 → logs.AreSoundOpenings (log_of last (handed_of (λ k. own_in k turns)))
 
--- Where the servers stand so, this one was started on the disk, and what a crash leaves of the disk that is given back is what its journal
--- says; of a server that is down, it is that or what its last write makes of that. Where no line stops a disk, or no entry of the journal stopped the
+-- It ended for that fault there: a line had more to send or to bring about, or the settling behind the lines had (`stopped`).
+pub record IsCutShort (lines : List NumberedLine) (f : RunFault) (last : Course) : Type 0 where
+  pub turns : List Turn
+  pub happened : List Occurrence
+  pub run : IsRunTo lines turns happened last
+  pub due : Due
+  pub stopped : StopsInLine (servers_said lines) lines turns happened due ⊎ StopsBehindLines (servers_said lines) lines turns happened due
+  pub ends : IsEndFor f last due
+
+-- It was played to its end, and settled: then its report was to be made.
+pub record IsPlayedToEnd (lines : List NumberedLine) (last : Course) : Type 0 where
+  pub turns : List Turn
+  pub happened : List Occurrence
+  pub run : IsRunTo lines turns happened last
+  pub played : ArePlayed (servers_said lines) lines turns happened
+
+-- A server was started on the disk and opened so, and what a crash leaves of the disk that is given back is what this journal says, or what its last
+-- write makes of that.
+pub record IsLeftWith {D : Type 0} (g : Ghosts D) (lines : List NumberedLine) (server : ℕ) (o : Start) (journal : List Entry) (taken given : D) : Type 0 where
+  pub notes : Notes
+  pub started : o ≡ start_at server (servers_said lines) o.sizes o.cells notes
+  pub sound : IsSoundStart o
+  pub new : IsNew (sizes_said lines server) (g.size taken) (g.seen taken) → IsOpenedNew (sizes_said lines server) o notes
+  pub found : (IsNew (sizes_said lines server) (g.size taken) (g.seen taken) → ⊥) → IsOpenedOn server (servers_said lines) (g.size taken) (g.seen taken) o notes
+  pub left : (image : Image) → g.may_leave given image
+      → (c : Contents) × Holds server (servers_said lines) (g.size given) o.sizes.home image c × (IsSaid (state_after next (opened o) journal) c ⊎ IsSaidThen (state_after next (opened o) journal) c)
+  pub read : g.may_leave given (g.seen given)
+
+-- Where the servers stand so, the disk of this one is left with its journal. Where no line stops a disk, or no entry of the journal stopped the
 -- server, this one did not fail.
 pub record IsLeftBy {D : Type 0} (g : Ghosts D) (lines : List NumberedLine) (last : Course) (server : ℕ) (taken given : D) : Type 0 where
-  pub notes : Notes
-  pub started : (seat_at last server).opening ≡ start_at server (servers_said lines) (seat_at last server).opening.sizes (seat_at last server).opening.cells notes
-  pub sound : IsSoundStart (seat_at last server).opening
-  pub new : IsNew (sizes_said lines server) (g.size taken) (g.seen taken) → IsOpenedNew (sizes_said lines server) (seat_at last server).opening notes
-  pub found : (IsNew (sizes_said lines server) (g.size taken) (g.seen taken) → ⊥) → IsOpenedOn server (servers_said lines) (g.size taken) (g.seen taken) (seat_at last server).opening notes
-  pub left : (image : Image) → g.may_leave given image
-      → (c : Contents) × Holds server (servers_said lines) (g.size given) (seat_at last server).opening.sizes.home image c
-      × (IsSaid (state_after next (opened (seat_at last server).opening) (seat_at last server).journal) c ⊎ IsSaidThen (state_after next (opened (seat_at last server).opening) (seat_at last server).journal) c)
-  pub read : g.may_leave given (g.seen given)
+  pub with_it : IsLeftWith g lines server (seat_at last server).opening (seat_at last server).journal taken given
   pub unfailed : IsUnstopped lines (seat_at last server).journal → g.faults given ≡ g.faults taken
+
+-- The device failed in the step that was due at the server that was started on it: the disk is left with the journal and one entry more, of the event
+-- that was to come, which shows it. With it the journal is lawful, and each entry has its cause.
+pub record HasFailedOn {D : Type 0} (g : Ghosts D) (lines : List NumberedLine) (last : Course) (due : Due) (server : ℕ) (taken given : D) : Type 0 where
+  pub seat : IsSeat last server
+  pub entry : Entry
+  pub its : IsEventDue last due entry.event
+  pub shows : ShowsFault entry
+  pub lawful : IsLawful (seat_at last server).opening ((seat_at last server).journal ++ entry ∷ [])
+  pub caused : IsAnswered (seat_at last server).opening ((seat_at last server).journal ++ entry ∷ [])
+  pub with_it : IsLeftWith g lines server (seat_at last server).opening ((seat_at last server).journal ++ entry ∷ []) taken given
+  pub rose : Rose (g.faults taken) (g.faults given)
 
 -- The journal of the server that was started on the disk was full where another event was to come. The disk holds what the journal
 -- says.
@@ -205,9 +231,9 @@ pub record HasFilled {D : Type 0} (g : Ghosts D) (lines : List NumberedLine) (la
   pub full : entries_limit ≤ length (seat_at last server).journal
   pub stored : IsStored g (IsUnstopped lines (seat_at last server).journal) server (servers_said lines) (sizes_said lines server) (seat_at last server).opening notes (state_after next (opened (seat_at last server).opening) (seat_at last server).journal) taken given
 
--- The server that was started on the disk was to start again, and had come to the last epoch. What the disk reads and what a crash leaves
--- of it is what the journal says, or that with the whole of what was tried last.
-pub record HasUsedUp {D : Type 0} (g : Ghosts D) (lines : List NumberedLine) (last : Course) (server : ℕ) (taken given : D) : Type 0 where
+-- The server that was started on the disk fell, and did not start again. What the disk reads and what a crash leaves of it is what the journal says, or
+-- that with the whole of what was tried last.
+pub record IsLeftFallen {D : Type 0} (g : Ghosts D) (lines : List NumberedLine) (last : Course) (server : ℕ) (taken given : D) : Type 0 where
   pub seat : IsSeat last server
   pub notes : Notes
   pub started : (seat_at last server).opening ≡ start_at server (servers_said lines) (seat_at last server).opening.sizes (seat_at last server).opening.cells notes
@@ -217,7 +243,16 @@ pub record HasUsedUp {D : Type 0} (g : Ghosts D) (lines : List NumberedLine) (la
   pub left : (image : Image) → g.may_leave given image
       → (c : Contents) × Holds server (servers_said lines) (g.size given) (seat_at last server).opening.sizes.home image c × IsLeftOf (state_after next (opened (seat_at last server).opening) (seat_at last server).journal) c
   pub read : g.may_leave given (g.seen given)
+
+-- It had come to the last epoch, or memory was wanting: then its device did not fail.
+pub record HasUsedUp {D : Type 0} (g : Ghosts D) (lines : List NumberedLine) (last : Course) (server : ℕ) (taken given : D) : Type 0 where
+  pub fallen : IsLeftFallen g lines last server taken given
   pub unfailed : IsUnstopped lines (seat_at last server).journal → g.faults given ≡ g.faults taken
+
+-- Its device failed as it was to start again.
+pub record HasFailedAgain {D : Type 0} (g : Ghosts D) (lines : List NumberedLine) (last : Course) (server : ℕ) (taken given : D) : Type 0 where
+  pub fallen : IsLeftFallen g lines last server taken given
+  pub rose : Rose (g.faults taken) (g.faults given)
 
 -- A disk that is not new holds a volume of this server, one of several, whose notes do not go together, with one another or with its files. It
 -- comes back with the same, after a crash too.
@@ -318,34 +353,31 @@ pub record StopsAt {D : Type 0} (g : Ghosts D) (lines : List NumberedLine) (serv
   pub among : IsOneOf (servers_said lines) server
   pub returned : AreReturned g lines server before after (λ n taken given. (n ≡ server → P taken given) × ((n ≡ server → ⊥) → IsUnplayed g lines n taken given))
 
--- The disk that is given back has what a server leaves that was started on the one that was taken, in the epoch after that of its note, or in the
--- first one. There is a journal from what it opened on that is lawful, each of whose entries has its cause. What the disk reads, and whatever a
--- crash leaves of it, is what this journal says, or that with the whole of what was tried last, with its last epoch or the next one in its note.
--- Whether the lines bring about these entries, whether the journals of several servers go together, and whether a server starts on the disk
--- again, is not said.
-pub record IsLeftWhole {D : Type 0} (g : Ghosts D) (lines : List NumberedLine) (server : ℕ) (taken given : D) : Type 0 where
-  pub opening : Start
-  pub notes : Notes
-  pub journal : List Entry
-  pub started : opening ≡ start_at server (servers_said lines) opening.sizes opening.cells notes
-  pub sound : IsSoundStart opening
-  pub new : IsNew (sizes_said lines server) (g.size taken) (g.seen taken) → IsOpenedNew (sizes_said lines server) opening notes
-  pub found : (IsNew (sizes_said lines server) (g.size taken) (g.seen taken) → ⊥) → IsOpenedOn server (servers_said lines) (g.size taken) (g.seen taken) opening notes
-  pub lawful : IsLawful opening journal
-  pub caused : IsAnswered opening journal
-  pub left : (image : Image) → g.may_leave given image → (c : Contents) × Holds server (servers_said lines) (g.size given) opening.sizes.home image c × IsLeftOf (state_after next (opened opening) journal) c
-  pub read : g.may_leave given (g.seen given)
+-- The disk of each server is given back with its journal, where they stand so.
+abbrev pub AreLeftAll : {D : Type 0} → Ghosts D → List NumberedLine → Course → (before after : ℕ → Option D) → Type 0
+AreLeftAll g lines last before after = AreReturned g lines (servers_said lines) before after (IsLeftBy g lines last)
 
--- The disk of each server was taken and is given back, and is whole: so it is where memory was wanting when all were started. Without a line that
--- stops a disk none failed.
-pub record AreLeftWanting {D : Type 0} (g : Ghosts D) (lines : List NumberedLine) (before after : ℕ → Option D) : Type 0 where
-  pub returned : AreReturned g lines (servers_said lines) before after (λ n taken given. (StopNone lines → g.faults given ≡ g.faults taken) × IsLeftWhole g lines n taken given)
+-- That of this server is left so, and each other one with its journal.
+abbrev pub AreLeftBut : {D : Type 0} → Ghosts D → List NumberedLine → Course → (server : ℕ) → (before after : ℕ → Option D) → (D → D → Type 0) → Type 0
+AreLeftBut g lines last server before after P =
+    IsOneOf (servers_said lines) server × AreReturned g lines (servers_said lines) before after (λ n taken given. ((n ≡ server → ⊥) → IsLeftBy g lines last n taken given) × (n ≡ server → P taken given))
 
--- So is each, and the disk of this server failed: so it is where it failed when all were started. Without a line that stops a disk no other one
--- failed.
-pub record AreLeftFailing {D : Type 0} (g : Ghosts D) (lines : List NumberedLine) (server : ℕ) (before after : ℕ → Option D) : Type 0 where
-  pub cause : IsOneOf (servers_said lines) server
-  pub returned : AreReturned g lines (servers_said lines) before after (λ n taken given. (n ≡ server → Rose (g.faults taken) (g.faults given)) × ((n ≡ server → ⊥) → StopNone lines → g.faults given ≡ g.faults taken) × IsLeftWhole g lines n taken given)
+-- Memory was wanting when all servers were started: for a step or for what comes between two of them; or for a server that was to start again; or for
+-- the report, when all was played. No device failed of a server that no entry stopped.
+abbrev pub AreLeftWanting : {D : Type 0} → Ghosts D → List NumberedLine → (before after : ℕ → Option D) → Type 0
+AreLeftWanting g lines before after =
+    ((last : Course) × IsCutShort lines run_fault.OutOfMemory last × AreLeftAll g lines last before after)
+    ⊎ ((last : Course) × (server : ℕ) × IsCutShort lines (run_fault.Start server (Vault vault_fault.OutOfMemory)) last × AreLeftBut g lines last server before after (HasUsedUp g lines last server))
+    ⊎ ((last : Course) × IsPlayedToEnd lines last × AreLeftAll g lines last before after)
+
+-- The disk of this server failed when all were started: in a step; or as the server was to start again; or as it was read for the report, when all was
+-- played.
+abbrev pub AreLeftFailing : {D : Type 0} → Ghosts D → List NumberedLine → (server : ℕ) → (before after : ℕ → Option D) → Type 0
+AreLeftFailing g lines server before after =
+    ((last : Course) × (short : IsCutShort lines (run_fault.DiskFault server) last) × AreLeftBut g lines last server before after (HasFailedOn g lines last short.due server))
+    ⊎ ((last : Course) × IsCutShort lines (run_fault.Start server (Vault vault_fault.Failed)) last × AreLeftBut g lines last server before after (HasFailedAgain g lines last server))
+    ⊎ ((last : Course) × IsPlayedToEnd lines last
+    × AreLeftBut g lines last server before after (λ taken given. IsLeftWith g lines server (seat_at last server).opening (seat_at last server).journal taken given × Rose (g.faults taken) (g.faults given)))
 
 -- why a disk is none to start on, of those that name it
 abbrev pub IsNoVolume : {D : Type 0} → Ghosts D → List NumberedLine → (server : ℕ) → List ℕ → D → D → Type 0
@@ -362,10 +394,9 @@ IsAtItsEnd g lines server taken given = IsLeftAlone g (sizes_said lines server) 
 -- Why a run ended before its report, and how the bay stands then. The bay failed: the servers before did nothing, and no further disk was taken.
 -- A disk is none to start on, or its server has no epoch left: the servers before did nothing, and it holds what it held. Where a disk failed, or
 -- memory was wanting, one of some cases stands, and no clause says which. The servers before did nothing, and no further disk was taken, where
--- memory was wanting; or they did nothing, and of the last disk that was taken it is said what a start that did not come to its end left; or all
--- disks are given back, and each holds what a lawful journal of its server leaves (`IsLeftWhole`). A full journal, and an epoch that is the last one of a
--- server in the run, come when all were started, and each disk comes back as its server's journal says. A server that starts again in the run
--- finds its own notes good, in whatever it was stopped.
+-- memory was wanting; or they did nothing, and of the last disk that was taken it is said what a start that did not come to its end left; or the lines
+-- were played up to there. A full journal, and an epoch that is the last one of a server in the run, come when all were started. Of a run that was
+-- begun each disk comes back as its server's journal says. A server that starts again in the run finds its own notes good, in whatever it was stopped.
 abbrev pub HasRunCause : {D : Type 0} → Ghosts D → List NumberedLine → (before after : ℕ → Option D) → (bay_before bay_after : ℕ) → NoReport → Type 0
 HasRunCause g lines before after bay_before bay_after fault.Bay = (count : ℕ) × (count < servers_said lines) × AreReturned g lines count before after (IsUnplayed g lines) × Rose bay_before bay_after
 HasRunCause g lines before after bay_before bay_after fault.OutOfMemory =
@@ -379,8 +410,7 @@ HasRunCause g lines before after bay_before bay_after (fault.Disk server) =
     StopsAt g lines server before after (IsFailing g (sizes_said lines server) server (servers_said lines)) ⊎ AreLeftFailing g lines server before after
 HasRunCause g lines before after bay_before bay_after (fault.EpochEnd server) =
     StopsAt g lines server before after (IsAtItsEnd g lines server)
-    ⊎ ((last : Course) × IsCutShort lines (run_fault.Start server EpochEnd) last × IsOneOf (servers_said lines) server
-    × AreReturned g lines (servers_said lines) before after (λ n taken given. ((n ≡ server → ⊥) → IsLeftBy g lines last n taken given) × (n ≡ server → HasUsedUp g lines last n taken given)))
+    ⊎ ((last : Course) × IsCutShort lines (run_fault.Start server EpochEnd) last × AreLeftBut g lines last server before after (HasUsedUp g lines last server))
 HasRunCause g lines before after bay_before bay_after (fault.NotAVolume server found) = StopsAt g lines server before after (IsNoVolume g lines server found)
 HasRunCause g lines before after bay_before bay_after (fault.Damaged server place) =
     StopsAt g lines server before after (IsDamaged g lines server place)

@@ -1,7 +1,6 @@
 //! The disks of the run's servers are taken from their bay and given back.
 ghost use Rattle.std.specs.Prelude.{◌≡◌, ◌⊎◌, ◌≤◌, ℕ, [], None, IsTrue, IfOk, IfErr, OnOk, OnErr, length};
 ghost use Rattle.std.specs.Option.{option_map};
-ghost use Rattle.alp_cluster.specs.Fills.{OnEnd};
 ghost use Rattle.alp_cluster.specs.Gathered.{AreGathered};
 ghost use Rattle.alp_script.specs.Accepted.{IsAccepted, servers_said};
 ghost use Rattle.alp_top.specs.Anywhere.{IsPlayedThrough};
@@ -9,6 +8,7 @@ ghost use Rattle.alp_top.specs.Disks.{IsLong, IsToldOf, IsVaultTold, IsGivenAs, 
 ghost use Rattle.alp_top.specs.Limits.{IsEndTold};
 ghost use Rattle.alp_top.specs.Endings.{AreRestsOf};
 ghost use Rattle.alp_top.specs.Headline.{IsRunOf};
+ghost use Rattle.alp_top.specs.Looks.{OnlyLooks};
 ghost use Rattle.alp_top.specs.Volumes.{HasRunCause, IsBayTold, IsFolderChosen, IsOfServers, pages_of as pages_of_said};
 ghost use Rattle.alp_vault.specs.Vault.{AreSizes};
 
@@ -172,10 +172,10 @@ fn close_one<B: Bay>(
 ) -> Result<(), RunFault>
     requires server { (1 ≤ server) × (server ≤ 8) }
     requires at_rest { IsAtRest ⟦<Store<Fuse<B::Device>> as Vault>⟧ (B.tells bay.old) server station }
-    requires room { OnEnd ended (λ f. ⊥) }
+    requires looks { OnlyLooks ended }
     ensures closed { (servers : ℕ) → server ≤ servers → IsElsewhere servers server ended → IsClosedHere ⟦<Store<Fuse<B::Device>> as Vault>⟧ B.Device.Disk (B.tells bay.old) servers (B.at bay.old) (B.at bay.new) result server station }
     ensures goes { (servers : ℕ) → server ≤ servers → GoesOn servers server ended result }
-    ensures room { OnEnd result (λ f. ⊥) }
+    ensures looks { OnlyLooks result }
     ensures rest { OnOk result (IsStationPut ⟦<Store<Fuse<B::Device>> as Vault>⟧ station rests.old rests.new) }
     ensures tells { B.tells bay.new ≡ B.tells bay.old }
     ensures chosen { B.chosen bay.new ≡ B.chosen bay.old }
@@ -201,7 +201,7 @@ fn close_all<B: Bay>(
     requires at_rest { AreAtRest ⟦<Store<Fuse<B::Device>> as Vault>⟧ (B.tells bay.old) 1 stations.items }
     requires few { length stations.items ≤ 8 }
     ensures closed { AreClosed ⟦<Store<Fuse<B::Device>> as Vault>⟧ B.Device.Disk (B.tells bay.old) (length stations.items) stations.items (B.at bay.old) (B.at bay.new) result }
-    ensures room { OnEnd result (λ f. ⊥) }
+    ensures looks { OnlyLooks result }
     ensures rests { IfOk result (AreRestsOf ⟦<Store<Fuse<B::Device>> as Vault>⟧ stations.items) }
     ensures tells { B.tells bay.new ≡ B.tells bay.old }
     ensures chosen { B.chosen bay.new ≡ B.chosen bay.old }

@@ -10,7 +10,9 @@ mod run;
 mod start;
 mod status;
 mod tally;
+mod telling;
 mod write_all;
 
 pub use run::run_alpine;
 pub use status::{Kept, Status, status_text};
+pub use telling::tell;

@@ -3,7 +3,7 @@
 
 use alp_base::{ReadSource, WriteSink};
 use alp_bay::{HostBay, HostDisk};
-use alp_top::{Status, run_alpine, status_text};
+use alp_top::{Status, run_alpine, tell};
 use std::process::ExitCode;
 use std::{env, io};
 
@@ -32,10 +32,6 @@ fn run(rt: HostRuntime) -> Status<HostDisk> {
 
 fn main(rt: HostRuntime) -> ExitCode {
     let status = run(rt);
-    if let Ok(text) = status_text(rt.alloc(), &status) {
-        if !text.is_empty() {
-            let _ = eprintln!(rt; "{text}");
-        }
-    }
-    ExitCode::from(status.code())
+    let mut err = WriteSink::new(rt.stderr());
+    ExitCode::from(tell(rt.alloc(), &status, &mut err))
 }

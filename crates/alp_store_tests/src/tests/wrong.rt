@@ -2,7 +2,7 @@
 use alp_base::OutOfMemory;
 use std::alloc::{AllocError, AllocFailed};
 
-#[derive(Clone, Copy, PartialEq, Eq)]
+#[derive(Clone, Copy, Debug, PartialEq, Eq)]
 pub(super) enum Wrong {
     Memory,
     Disk,

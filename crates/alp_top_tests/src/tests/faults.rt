@@ -6,10 +6,10 @@ use super::{
     AGAIN, AGAIN_TOLD, Failing, IDLE, REFUSALS, REFUSED, SCRIPT, SOUND, TOLD, Told, calls, run,
     run_in, words,
 };
-use alp_base::{MemSource, WriteSink};
+use alp_base::{MemSink, MemSource, WriteSink};
 use alp_bay::{Bay, HostBay, MemBay};
 use alp_disk::{Disk, MemDisk};
-use alp_top::run_alpine;
+use alp_top::{run_alpine, tell};
 use std::alloc::Global;
 use std::io::{self, Write};
 use std::path::PathBuf;
@@ -53,6 +53,35 @@ fn refuses_other_words_and_scripts(rt: HostRuntime) -> Result<(), Fail> {
     let told = run(rt.alloc(), &["play"], b"servers 9\n", &SOUND)?;
     let is_refused = told.is(2, "alpine: bad script line 1", b"");
     assert!(rt; is_refused && are_bad_words(rt.alloc())?);
+    Ok(())
+}
+
+// What the program says in the end, where there is room for so many bytes of it, and its exit code.
+fn end_of(alloc: Global, asked: &[&str], room: u32) -> Result<(u8, Vec<u8>), Fail> {
+    let words = words(alloc, asked)?;
+    let mut script = MemSource::new(Vec::from_slice(alloc, SCRIPT)?, Vec::new(alloc));
+    let mut out = MemSink::new(alloc, 4096, Vec::new(alloc))?;
+    let mut bay = MemBay::new(alloc)?;
+    let status = run_alpine(alloc, &words, &mut script, &mut out, &mut bay);
+    let mut err = MemSink::new(alloc, room, Vec::new(alloc))?;
+    let code = tell(alloc, &status, &mut err);
+    Ok((code, err.into_bytes()))
+}
+
+fn is_end(told: &(u8, Vec<u8>), code: u8, said: &[u8]) -> bool {
+    told.0 == code && told.1.as_slice() == said
+}
+
+#[test]
+fn says_in_the_end_how_a_run_ended(rt: HostRuntime) -> Result<(), Fail> {
+    let bad = end_of(rt.alloc(), &["Play"], 64)?;
+    let cut_off = end_of(rt.alloc(), &["Play"], 6)?;
+    let done = end_of(rt.alloc(), &["play"], 64)?;
+    assert!(rt;
+        is_end(&bad, 1, b"alpine: bad words\n")
+            && is_end(&cut_off, 1, b"")
+            && is_end(&done, 0, b"")
+    );
     Ok(())
 }
 

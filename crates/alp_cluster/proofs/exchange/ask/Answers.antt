@@ -1,29 +1,28 @@
 use Rattle.std.specs.Prelude.{Option}
 use Rattle.std.proofs.Common.{◌≡◌, ◌<◌, ◌^◌, ℕ, List, length, refl, sym, ◌∙◌, ap, subst, arith}
+use Rattle.std.proofs.lemmas.Result.{IfOk-weaker}
 use Rattle.alp_files.specs.declared.call.Call.{Call}
 use Rattle.alp_files.specs.declared.reply.Reply.{Reply}
 use Rattle.alp_journal.specs.declared.entry.Entry.{Entry}
 use Rattle.alp_journal.specs.declared.log.Sent.TheVariants as sent
+use Rattle.alp_session.specs.Frames.{told_by}
 use Rattle.alp_cluster.specs.Exchanges.{event_of, place_for}
 use Rattle.alp_course.specs.Happens.{handed_for}
 use Rattle.alp_cluster.specs.Servers.{Steps}
 use Rattle.alp_cluster.specs.declared.fault.RunFault.TheVariants as fault
-use Rattle.alp_cluster.proofs.AddsLemmas.{adds_none}
-use Rattle.alp_cluster.proofs.GoneLemmas.{one_nothing, one_memory, one_handed, one_ok, full_then, end_memory, handed_on}
+use Rattle.alp_cluster.proofs.GoneLemmas.{one_nothing, one_handed, one_ok, end_on, end_any, handed_on}
 use Rattle.alp_cluster.proofs.ReplyLemmas.{steps_epoch, steps_place, asked_sendable}
 use Rattle.alp_cluster.proofs.ServedLemmas.{request_served}
+use Rattle.alp_cluster.proofs.TakenLemmas.{untouched}
 use Rattle.alp_cluster.proofs.exchange.ask.Goals as goal
 
 pub returns-in_err-copied-clause-gone : goal.returns-in_err-copied-clause-gone
 returns-in_err-copied-clause-gone g c =
     rw (handed_on fault.OutOfMemory c.from_residual.result c.from_residual.ensures.0 c.from_residual.ensures.1) (one_nothing g.V.Vault (Unit {0}) c.args.node.now.kept.vault _ tt tt refl)
 
-pub returns-in_err-copied-clause-adds : goal.returns-in_err-copied-clause-adds
-returns-in_err-copied-clause-adds g c = adds_none c.args.node.now
-
-pub returns-in_err-copied-clause-filled : goal.returns-in_err-copied-clause-filled
-returns-in_err-copied-clause-filled g c =
-    end_memory c.from_residual.result _ (handed_on fault.OutOfMemory c.from_residual.result c.from_residual.ensures.0 c.from_residual.ensures.1)
+pub returns-in_err-copied-clause-ended : goal.returns-in_err-copied-clause-ended
+returns-in_err-copied-clause-ended g c =
+    end_any fault.OutOfMemory c.from_residual.result _ (handed_on fault.OutOfMemory c.from_residual.result c.from_residual.ensures.0 c.from_residual.ensures.1) (untouched g.V.Vault c.args.node.now)
 
 pub step-requires-clause-served : goal.step-requires-clause-served
 step-requires-clause-served g c = request_served c.args.request c.requires.fits c.requires.request
@@ -33,23 +32,14 @@ returns-in_err-reply-clause-gone g c =
     one_handed g.V.Vault (Unit {0}) c.args.node.now.kept.vault c.step.new.node.kept.vault c.in_err-reply.field-0.0 c.from_residual-in_err-reply.result c.in_err-reply.ensures.gone
     (handed_on c.in_err-reply.field-0.0 c.from_residual-in_err-reply.result c.from_residual-in_err-reply.ensures.0 c.from_residual-in_err-reply.ensures.1)
 
-pub returns-in_err-reply-clause-filled : goal.returns-in_err-reply-clause-filled
-returns-in_err-reply-clause-filled g c =
-    full_then _ _ c.in_err-reply.field-0.0 c.from_residual-in_err-reply.result c.in_err-reply.ensures.filled
-    (handed_on c.in_err-reply.field-0.0 c.from_residual-in_err-reply.result c.from_residual-in_err-reply.ensures.0 c.from_residual-in_err-reply.ensures.1) (λ room. room)
+pub returns-in_err-reply-clause-ended : goal.returns-in_err-reply-clause-ended
+returns-in_err-reply-clause-ended g c =
+    end_on c.in_err-reply.field-0.0 c.from_residual-in_err-reply.result _ _ (handed_on c.in_err-reply.field-0.0 c.from_residual-in_err-reply.result c.from_residual-in_err-reply.ensures.0 c.from_residual-in_err-reply.ensures.1)
+    (λ f ends. ends) c.in_err-reply.ensures.ended
 
-pub spelled-requires-clause-sendable : goal.spelled-requires-clause-sendable
-spelled-requires-clause-sendable g c =
+pub spell-bytes-requires-clause-sendable : goal.spell-bytes-requires-clause-sendable
+spell-bytes-requires-clause-sendable g c =
     asked_sendable g.V.Vault c.args.node.now c.step.new.node c.args.request c.in_ok-reply.reply c.requires.on c.in_ok-reply.ensures.steps
-
-pub returns-in_err-bytes-clause-gone : goal.returns-in_err-bytes-clause-gone
-returns-in_err-bytes-clause-gone g c =
-    rw (handed_on fault.OutOfMemory c.from_residual-in_err-bytes.result c.from_residual-in_err-bytes.ensures.0 c.from_residual-in_err-bytes.ensures.1)
-    (one_memory g.V.Vault (Unit {0}) c.args.node.now.kept.vault c.step.new.node.kept.vault c.in_ok-reply.reply c.in_ok-reply.ensures.gone)
-
-pub returns-in_err-bytes-clause-filled : goal.returns-in_err-bytes-clause-filled
-returns-in_err-bytes-clause-filled g c =
-    end_memory c.from_residual-in_err-bytes.result _ (handed_on fault.OutOfMemory c.from_residual-in_err-bytes.result c.from_residual-in_err-bytes.ensures.0 c.from_residual-in_err-bytes.ensures.1)
 
 pub place_of-requires : goal.place_of-requires
 place_of-requires g c down =
@@ -66,15 +56,14 @@ returns-clause-asked g c =
     let q = c.args.request in
     let n = c.args.node.now in
     let m = c.step.new.node in
-    let spelled = c.in_ok-bytes.ensures in
+    let spelled = c.spell-bytes.ensures in
     let is_down : c.is_down-is_down.result ≡ n.kept.is_down = c.is_down-is_down.ensures in
+    let epoch : c.epoch.result ≡ n.kept.epoch = c.epoch.ensures ∙ steps_epoch g.V.Vault n m n.kept.is_down (event_of q) c.in_ok-reply.reply c.in_ok-reply.ensures.steps in
     record {
       sent = ap (λ (x : Call). sent.Call q.client q.epoch q.number x) c.in_ok-copied.ensures;
       served = request_served q c.requires.fits c.requires.request;
       steps = subst (λ (r : Option Reply). Steps g.V.Vault n.kept.is_down n m (event_of q) r) (sym spelled.reply) c.in_ok-reply.ensures.steps;
-      bytes = spelled.bytes
-          ∙ ap (λ (e : ℕ). handed_for e q.client q.number c.in_ok-reply.reply) (c.epoch.ensures ∙ steps_epoch g.V.Vault n m n.kept.is_down (event_of q) c.in_ok-reply.reply c.in_ok-reply.ensures.steps)
-          ∙ ap (λ (r : Option Reply). handed_for n.kept.epoch q.client q.number r) (sym spelled.reply);
-      told = spelled.told ∙ sym spelled.reply;
+      bytes = IfOk-weaker c.spell-bytes.result.0 _ _ (λ b is. is ∙ (λ i. handed_for (epoch i) q.client q.number (sym spelled.reply i))) spelled.bytes;
+      told = (λ i. told_by (handed_for (sym epoch i) q.client q.number (spelled.reply i))) ∙ spelled.told ∙ sym spelled.reply;
       place = c.place_of.ensures ∙ (λ i. place_for (is_down i) (length ((c.entries-at.ensures ∙ c.journal.ensures) i)));
     }

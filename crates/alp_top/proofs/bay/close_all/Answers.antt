@@ -1,9 +1,9 @@
-use Rattle.std.specs.Prelude.{Bool, Option, IsTrue}
-use Rattle.std.proofs.Common.{rules, ◌≡◌, ◌≤◌, ◌<◌, ◌+◌, ℕ, List, length, length-append, refl, sym, ◌∙◌, ap, subst, arith}
+use Rattle.std.specs.Prelude.{Bool, Option}
+use Rattle.std.proofs.Common.{rules, ◌≡◌, ◌≤◌, ◌<◌, ◌+◌, ℕ, length, length-append, refl, sym, ◌∙◌, ap, subst, arith}
 use Rattle.alp_disk.specs.contracts.fuse.Fuse.{the_row}
 use Rattle.alp_disk.specs.contracts.fuse.FuseDisk.TheImpl as fuse_disk
 use Rattle.alp_store.specs.contracts.store.StoreVault.TheImpl as store_vault
-use Rattle.alp_cluster.specs.Fills.{OnEnd}
+use Rattle.alp_top.specs.Looks.{OnlyLooks}
 use Rattle.alp_top.specs.Disks.{IsAtRest, AreAtRest, IsElsewhere, IsClosedHere, GoesOn}
 use Rattle.alp_top.proofs.CloseLemmas.{rest_last, closing_none, closing_more, closed_ok, closed_err, all_kept}
 use Rattle.alp_top.proofs.bay.close_all.Goals as goal
@@ -11,7 +11,7 @@ use Rattle.alp_top.proofs.bay.close_all.Goals as goal
 pub loop-station-init : goal.loop-station-init
 loop-station-init g c = record {
   going = closing_none _ g.B.Device.Disk (g.B.Bay.tells c.args.bay.now) c.args.stations.items (g.B.Bay.at c.args.bay.now) _ c.new-rests.result c.requires.at_rest c.new-rests.ensures;
-  room = tt;
+  looks = tt;
   few = c.requires.few;
   tells = refl;
   chosen = refl;
@@ -41,8 +41,8 @@ close_one-ended-requires-clause-at_rest g c κs lives =
     let place : 1 + length c.pop.new.self.items ≡ c.len.result + 1 = omega (arith, c.len.ensures) in
     subst (λ (b : Bool). IsAtRest G b (c.len.result + 1) c.in-Some.station) (sym c.loop-station.invariant.tells) (subst (λ (k : ℕ). IsAtRest G tells k c.in-Some.station) place rest)
 
-pub close_one-ended-requires-clause-room : goal.close_one-ended-requires-clause-room
-close_one-ended-requires-clause-room g c κs lives = c.loop-station.invariant.room
+pub close_one-ended-requires-clause-looks : goal.close_one-ended-requires-clause-looks
+close_one-ended-requires-clause-looks g c κs lives = c.loop-station.invariant.looks
 
 pub loop-station-preserved : goal.loop-station-preserved
 loop-station-preserved g c =
@@ -63,7 +63,7 @@ loop-station-preserved g c =
           (subst (λ (b : Bool). IsClosedHere G h b many was now c.close_one-ended.result (c.len.result + 1) c.in-Some.station) c.loop-station.invariant.tells
           (c.close_one-ended.ensures.closed many (omega (arith, most, place)) (subst (λ (k : ℕ). IsElsewhere many k c.loop-station.ended) (sym place) away))))
           (λ most. subst (λ (k : ℕ). GoesOn many k c.loop-station.ended c.close_one-ended.result) place (c.close_one-ended.ensures.goes many (omega (arith, most, place)))) c.close_one-ended.ensures.rest;
-      room = c.close_one-ended.ensures.room;
+      looks = c.close_one-ended.ensures.looks;
       few = omega (arith, long, c.loop-station.invariant.few);
       tells = c.close_one-ended.ensures.tells ∙ c.loop-station.invariant.tells;
       chosen = c.close_one-ended.ensures.chosen ∙ c.loop-station.invariant.chosen;
@@ -79,5 +79,5 @@ returns-clause-closed g c = closed_err _ g.B.Device.Disk (g.B.Bay.tells c.args.b
 pub returns-in-Ok-clause-rests : goal.returns-in-Ok-clause-rests
 returns-in-Ok-clause-rests g c = all_kept _ g.B.Device.Disk (g.B.Bay.tells c.args.bay.now) c.args.stations.items (g.B.Bay.at c.args.bay.now) c.loop-station.stations.items (g.B.Bay.at c.loop-station.bay) c.loop-station.ended c.in-Ok.field-0 c.loop-station.rests c.loop-station.invariant.going (search rules) c.in-Ok.is
 
-pub returns-clause-room : goal.returns-clause-room
-returns-clause-room g c = subst (λ r. OnEnd r (λ f. ⊥)) c.in-Err.is c.loop-station.invariant.room
+pub returns-clause-looks : goal.returns-clause-looks
+returns-clause-looks g c = subst (λ r. OnlyLooks r) c.in-Err.is c.loop-station.invariant.looks

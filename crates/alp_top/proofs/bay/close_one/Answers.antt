@@ -5,7 +5,7 @@ use Rattle.alp_disk.specs.contracts.fuse.FuseDisk.TheImpl as fuse_disk
 use Rattle.alp_store.specs.contracts.store.StoreVault.TheImpl as store_vault
 use Rattle.alp_base.specs.declared.allowance.Allowance.TheVariants.{Free}
 use Rattle.alp_cluster.specs.Servers.{IsOn}
-use Rattle.alp_cluster.specs.Station.{HasVault, standing}
+use Rattle.alp_cluster.specs.Station.{HasVault}
 use Rattle.alp_cluster.specs.declared.server.Server.TheVariants.{Up}
 use Rattle.alp_top.specs.Disks.{IsElsewhere, GoesOn}
 use Rattle.alp_top.proofs.CloseOneLemmas.{closed_over, closed_now, goes_now, station_put}
@@ -76,8 +76,8 @@ returns-clause-goes g c servers most =
     (goes_now G g.B.Device.Disk (g.B.Bay.tells c.args.bay.now) servers c.args.server (g.B.Bay.at c.args.bay.now) (g.B.Bay.at c.give-2.new.bay) c.args.station c.requires.at_rest c.in-Up.node c.end_node-vault.result.0 c.end_node-vault.result.1 stands
     c.end_node-vault.ensures.gone c.end_node-vault.ensures.looked c.in_default.field-0 c.requires.server.0 most)
 
-pub returns-clause-room : goal.returns-clause-room
-returns-clause-room g c = c.end_node-vault.ensures.looked.room
+pub returns-clause-looks : goal.returns-clause-looks
+returns-clause-looks g c = c.end_node-vault.ensures.looked.ends
 
 pub returns-clause-rest : goal.returns-clause-rest
 returns-clause-rest g c =

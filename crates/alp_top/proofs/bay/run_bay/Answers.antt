@@ -1,11 +1,11 @@
-use Rattle.std.specs.Prelude.{Bool, IsTrue, Option, Err, Ok}
+use Rattle.std.specs.Prelude.{Bool, IsTrue, Option, Err}
 use Rattle.std.specs.Option.{option_map}
-use Rattle.std.proofs.Common.{inl, inr, ◌≡◌, ◌≤◌, ℕ, length, refl, sym, ◌∙◌, ap, subst, arith}
+use Rattle.std.proofs.Common.{inl, inr, ◌≡◌, ◌≤◌, ℕ, length, sym, ◌∙◌, ap, subst, arith}
 use Rattle.alp_disk.specs.contracts.fuse.Fuse.{the_row}
 use Rattle.alp_disk.specs.contracts.fuse.FuseDisk.TheImpl as fuse_disk
 use Rattle.alp_store.specs.contracts.store.StoreVault.TheImpl as store_vault
 use Rattle.alp_script.specs.Accepted.{servers_said}
-use Rattle.alp_top.specs.Disks.{HaveBegun, HaveBegunSome, AreClosed}
+use Rattle.alp_top.specs.Disks.{HaveBegun}
 use Rattle.alp_top.specs.Faults.{played}
 use Rattle.alp_top.specs.Limits.{IsEndTold}
 use Rattle.alp_top.specs.Endings.{shown_text}
@@ -13,7 +13,7 @@ use Rattle.alp_top.specs.Headline.{IsRunOf}
 use Rattle.alp_top.specs.Volumes.{HasRunCause, IsOfServers, IsBayFault}
 use Rattle.alp_top.specs.declared.fault.NoReport.TheVariants as fault
 use Rattle.alp_top.proofs.EndedLemmas.{bay_unended, start_unended}
-use Rattle.alp_top.proofs.GivenLemmas.{none_returned, bay_ended, start_ended}
+use Rattle.alp_top.proofs.GivenLemmas.{bay_ended, start_ended}
 use Rattle.alp_top.proofs.RefusedLemmas.{err_of, told_of, untaken, bay_counted, bay_folder, folder_taken}
 use Rattle.alp_top.proofs.RunLemmas.{bay_uncounted, play_still, start_counted, begins_new, close_unended, fell_few, fell_held, fell_counted, fell_told, fell_ended, rest_few, rest_all, close_counted, close_ended, wanting_ended, went_well, went_through, some_held, some_few, cause_moved, left_moved, closed_moved, held_moved, rest_moved, rests_moved, report_moved}
 use Rattle.alp_top.proofs.bay.run_bay.Goals as goal
@@ -130,7 +130,7 @@ returns-in-Err-play_out-clause-cause g c asked =
     (subst (λ (b : ℕ → Option g.row.B-Device.Denot). HasRunCause g.B.Device.Disk c.args.lines.now b three (g.B.Bay.faults c.args.bay.now) (g.B.Bay.faults c.leave_all-in-Err-play_out.new.bay) (played c.in-Err-play_out.fault)) c.choose.ensures.places
     (fell_ended G g.B.Device.Disk t c.args.lines.now c.requires.accepted.least c.requires.accepted.most one two three old begun c.play_out.new.self.parties.stations c.in-Err-play_out.fault c.in-Err-play_out.ensures.gone
     (left_moved G g.B.Device.Disk (g.B.Bay.tells c.start_all.new.bay) t c.into_parts-stations-in-Err-play_out.result.0.items c.play_out.new.self.parties.stations.all.items two three c.start_all.ensures.tells (ap (λ v. v.items) c.into_parts-stations-in-Err-play_out.ensures.stations) c.leave_all-in-Err-play_out.ensures.left)
-    told (g.B.Bay.faults c.args.bay.now) (g.B.Bay.faults c.leave_all-in-Err-play_out.new.bay) c.in-Err-play_out.ensures.ended c.in-Err-play_out.ensures.left c.in-Err-play_out.ensures.calm_left))
+    told (g.B.Bay.faults c.args.bay.now) (g.B.Bay.faults c.leave_all-in-Err-play_out.new.bay) c.play_out.new.self.lists.items c.in-Err-play_out.ensures.ended c.in-Err-play_out.ensures.left c.in-Err-play_out.ensures.calm_left))
 
 pub returns-in-Err-play_out-clause-counted : goal.returns-in-Err-play_out-clause-counted
 returns-in-Err-play_out-clause-counted g c =
@@ -157,7 +157,7 @@ returns-in-Err-play_out-clause-ended g c =
     subst (IsEndTold c.args.lines.now) (sym c.from.ensures)
     (fell_told G g.B.Device.Disk t c.args.lines.now c.requires.accepted.least c.requires.accepted.most one two three old begun c.play_out.new.self.parties.stations c.in-Err-play_out.fault c.in-Err-play_out.ensures.gone
     (left_moved G g.B.Device.Disk (g.B.Bay.tells c.start_all.new.bay) t c.into_parts-stations-in-Err-play_out.result.0.items c.play_out.new.self.parties.stations.all.items two three c.start_all.ensures.tells (ap (λ v. v.items) c.into_parts-stations-in-Err-play_out.ensures.stations) c.leave_all-in-Err-play_out.ensures.left)
-    c.in-Err-play_out.ensures.ended)
+    c.play_out.new.self.lists.items c.in-Err-play_out.ensures.ended)
 
 pub returns-in-Err-play_out-clause-chosen : goal.returns-in-Err-play_out-clause-chosen
 returns-in-Err-play_out-clause-chosen g c = folder_taken {U = Unit {0}} (Err c.from.result) _ _ _ (c.leave_all-in-Err-play_out.ensures.chosen ∙ c.start_all.ensures.chosen ∙ c.in_ok-choose.ensures.named)
@@ -209,7 +209,7 @@ returns-in_err-rests-clause-cause g c asked =
     (subst (λ (b : ℕ → Option g.row.B-Device.Denot). HasRunCause g.B.Device.Disk c.args.lines.now b three (g.B.Bay.faults c.args.bay.now) (g.B.Bay.faults c.close_all.new.bay) (played c.in_err-rests.field-0.0)) c.choose.ensures.places
     (close_ended G g.B.Device.Disk t c.args.lines.now c.requires.accepted.least c.requires.accepted.most one two three old begun c.play_out.new.self.parties.stations c.in_default-play_out.ensures.gone c.in_err-rests.field-0.0
     (closed_moved G g.B.Device.Disk (g.B.Bay.tells c.start_all.new.bay) t c.into_parts-stations-2.result.0.items c.play_out.new.self.parties.stations.all.items two three _ c.start_all.ensures.tells (ap (λ v. v.items) c.into_parts-stations-2.ensures.stations) c.in_err-rests.ensures.closed)
-    told _ _ c.in_err-rests.ensures.room))
+    told _ _ c.play_out.new.self.lists.items c.play_out.new.self.text.items c.in_default-play_out.ensures.played c.in_default-play_out.ensures.openings c.in_default-play_out.ensures.calm c.in_err-rests.ensures.looks))
 
 pub returns-in_err-rests-clause-counted : goal.returns-in_err-rests-clause-counted
 returns-in_err-rests-clause-counted g c =
@@ -226,7 +226,7 @@ returns-in_err-rests-clause-counted g c =
 
 pub returns-in_err-rests-clause-ended : goal.returns-in_err-rests-clause-ended
 returns-in_err-rests-clause-ended g c =
-    err_of _ _ c.from_residual-in_err-rests.result c.from_residual-in_err-rests.ensures.0 c.from_residual-in_err-rests.ensures.1 (close_unended c.args.lines.now c.in_err-rests.field-0.0 c.in_err-rests.ensures.room)
+    err_of _ _ c.from_residual-in_err-rests.result c.from_residual-in_err-rests.ensures.0 c.from_residual-in_err-rests.ensures.1 (close_unended c.args.lines.now c.in_err-rests.field-0.0 c.in_err-rests.ensures.looks)
 
 pub returns-in_err-rests-clause-chosen : goal.returns-in_err-rests-clause-chosen
 returns-in_err-rests-clause-chosen g c = folder_taken c.from_residual-in_err-rests.result _ _ _ (c.close_all.ensures.chosen ∙ c.start_all.ensures.chosen ∙ c.in_ok-choose.ensures.named)
@@ -253,7 +253,7 @@ returns-in_err-report-clause-cause g c asked =
     (subst (λ (b : ℕ → Option g.row.B-Device.Denot). HasRunCause g.B.Device.Disk c.args.lines.now b three (g.B.Bay.faults c.args.bay.now) (g.B.Bay.faults c.close_all.new.bay) fault.OutOfMemory) c.choose.ensures.places
     (wanting_ended G g.B.Device.Disk t c.args.lines.now c.requires.accepted.least c.requires.accepted.most one two three old begun c.play_out.new.self.parties.stations c.in_default-play_out.ensures.gone c.in_ok-rests.rests
     (closed_moved G g.B.Device.Disk (g.B.Bay.tells c.start_all.new.bay) t c.into_parts-stations-2.result.0.items c.play_out.new.self.parties.stations.all.items two three _ c.start_all.ensures.tells (ap (λ v. v.items) c.into_parts-stations-2.ensures.stations) c.in_ok-rests.ensures.closed)
-    told (g.B.Bay.faults c.args.bay.now) (g.B.Bay.faults c.close_all.new.bay)))
+    told (g.B.Bay.faults c.args.bay.now) (g.B.Bay.faults c.close_all.new.bay) c.play_out.new.self.lists.items c.play_out.new.self.text.items c.in_default-play_out.ensures.played c.in_default-play_out.ensures.openings c.in_default-play_out.ensures.calm))
 
 pub returns-in_err-report-clause-ended : goal.returns-in_err-report-clause-ended
 returns-in_err-report-clause-ended g c = err_of (IsEndTold c.args.lines.now) fault.OutOfMemory c.from_residual-in_err-report.result c.from_residual-in_err-report.ensures.0 c.from_residual-in_err-report.ensures.1 tt

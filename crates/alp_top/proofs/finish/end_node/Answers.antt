@@ -4,7 +4,7 @@ use Rattle.alp_base.specs.declared.allowance.Allowance.TheVariants.{Free}
 use Rattle.alp_cluster.specs.Servers.{HasGoneBy}
 use Rattle.alp_cluster.specs.declared.fault.RunFault.TheVariants as fault
 use Rattle.alp_cluster.proofs.GoneLemmas.{gone_ok, gone_err, gone_memory}
-use Rattle.alp_top.specs.Endings.{IsHeldOf, AreCellsOf, ArePutFirst}
+use Rattle.alp_top.specs.Endings.{AreCellsOf, ArePutFirst}
 use Rattle.alp_top.specs.Tallies.{tally_in}
 use Rattle.alp_top.specs.Logs.{ServerOfLog}
 use Rattle.alp_top.specs.Looks.{HasLooked}
@@ -40,7 +40,7 @@ returns-in-Ok-put-clause-gone g c =
 pub returns-in-Ok-put-clause-looked : goal.returns-in-Ok-put-clause-looked
 returns-in-Ok-put-clause-looked g c =
     let at = ap (λ p. p.1) c.into_parts-opening.ensures in
-    record { held = c.in-Ok.ensures.looked.held ∙ ap (λ v. g.V.Vault.held v) at; crash = λ x may. subst (λ v. g.V.Vault.may_leave v x) at (c.in-Ok.ensures.looked.crash x may); allowance = c.in-Ok.ensures.looked.allowance ∙ ap (λ v. g.V.Vault.allowance v) at; serves = c.in-Ok.ensures.looked.serves; room = tt }
+    record { held = c.in-Ok.ensures.looked.held ∙ ap (λ v. g.V.Vault.held v) at; crash = λ x may. subst (λ v. g.V.Vault.may_leave v x) at (c.in-Ok.ensures.looked.crash x may); allowance = c.in-Ok.ensures.looked.allowance ∙ ap (λ v. g.V.Vault.allowance v) at; serves = c.in-Ok.ensures.looked.serves; ends = tt }
 
 pub returns-in-Err-put-clause-gone : goal.returns-in-Err-put-clause-gone
 returns-in-Err-put-clause-gone g c =
@@ -51,7 +51,7 @@ returns-in-Err-put-clause-gone g c =
 pub returns-in-Err-put-clause-looked : goal.returns-in-Err-put-clause-looked
 returns-in-Err-put-clause-looked g c =
     let at = ap (λ p. p.1) c.into_parts-opening.ensures in
-    record { held = c.in-Ok.ensures.looked.held ∙ ap (λ v. g.V.Vault.held v) at; crash = λ x may. subst (λ v. g.V.Vault.may_leave v x) at (c.in-Ok.ensures.looked.crash x may); allowance = c.in-Ok.ensures.looked.allowance ∙ ap (λ v. g.V.Vault.allowance v) at; serves = tt; room = tt }
+    record { held = c.in-Ok.ensures.looked.held ∙ ap (λ v. g.V.Vault.held v) at; crash = λ x may. subst (λ v. g.V.Vault.may_leave v x) at (c.in-Ok.ensures.looked.crash x may); allowance = c.in-Ok.ensures.looked.allowance ∙ ap (λ v. g.V.Vault.allowance v) at; serves = tt; ends = tt }
 
 pub returns-in-Ok-put-clause-rest : goal.returns-in-Ok-put-clause-rest
 returns-in-Ok-put-clause-rest g c =

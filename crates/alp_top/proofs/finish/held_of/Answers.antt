@@ -21,7 +21,7 @@ pub returns-clause-gone : goal.returns-clause-gone
 returns-clause-gone g c = gone_ok g.V.Vault (λ (s : ℕ). s ≡ c.args.server) (Unit {0}) c.args.vault.now c.owner_records.new.vault c.in_ok-owners.owners _ c.in_ok-owners.ensures.gone
 
 pub returns-clause-looked : goal.returns-clause-looked
-returns-clause-looked g c = record { held = c.in_ok-owners.ensures.looked.held; crash = c.in_ok-owners.ensures.looked.crash; allowance = c.in_ok-owners.ensures.looked.allowance; serves = c.in_ok-owners.ensures.looked.serves; room = tt }
+returns-clause-looked g c = record { held = c.in_ok-owners.ensures.looked.held; crash = c.in_ok-owners.ensures.looked.crash; allowance = c.in_ok-owners.ensures.looked.allowance; serves = c.in_ok-owners.ensures.looked.serves; ends = tt }
 
 pub returns-clause-numbers : goal.returns-clause-numbers
 returns-clause-numbers g c = record { server = refl; epoch = refl; clock = refl }

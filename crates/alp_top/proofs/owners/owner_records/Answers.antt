@@ -95,7 +95,7 @@ pub returns-clause-gone : goal.returns-clause-gone
 returns-clause-gone g c = gone_ok g.V.Vault (λ (s : ℕ). s ≡ c.args.server) (Unit {0}) c.args.vault.now c.loop-name.vault 0 _ c.loop-name.invariant.gone
 
 pub returns-clause-looked : goal.returns-clause-looked
-returns-clause-looked g c = record { held = c.loop-name.invariant.held; crash = c.loop-name.invariant.crash; allowance = c.loop-name.invariant.allowance; serves = c.loop-name.invariant.serves; room = tt }
+returns-clause-looked g c = record { held = c.loop-name.invariant.held; crash = c.loop-name.invariant.crash; allowance = c.loop-name.invariant.allowance; serves = c.loop-name.invariant.serves; ends = tt }
 
 pub returns-clause-owners : goal.returns-clause-owners
 returns-clause-owners g c told =

@@ -1,5 +1,4 @@
 use Rattle.std.specs.Prelude.{Ok, Err, true, false}
-use Rattle.std.specs.List.{AllByRecursion}
 use Rattle.std.proofs.Common.{◌≡◌, ◌<◌, ◌≤◌, ◌+◌, ◌^◌, ℕ, List, [], ◌∷◌, ◌++◌, take, drop, length, sym, subst, ◌∙◌, refl, arith}
 use Rattle.std.proofs.lemmas.List.{take_all}
 use Rattle.alp_lines.specs.Forms.{IsForm}
@@ -10,9 +9,8 @@ use Rattle.alp_cluster.specs.Runs.{HasPlayed, StopNone, is_stop_line}
 use Rattle.alp_cluster.specs.Steps.{Adds, AddsSome}
 use Rattle.alp_cluster.proofs.DidLemmas.{calm_none, calm_both, gone_none, gone_both, all_where, all_on}
 use Rattle.alp_cluster.proofs.GoneLemmas.{end_on, handed_on}
-use Rattle.alp_cluster.proofs.LeftLemmas.{split_at, end_opened, end_calm}
+use Rattle.alp_cluster.proofs.LeftLemmas.{split_at, end_opened, end_calm, calm_then}
 use Rattle.alp_cluster.proofs.RunLemmas.{front_at, front_long, at_place, played_more, line_ended}
-use Rattle.alp_cluster.specs.Stations.{course_of}
 use Rattle.alp_cluster.proofs.cluster.Cluster.play.Goals as goal
 
 pub loop-line-init : goal.loop-line-init
@@ -57,8 +55,8 @@ returns-in_err-play_step-clause-ended g c =
     end_on c.in_err-play_step.field-0.0 c.from_residual.result _ _ (handed_on c.in_err-play_step.field-0.0 c.from_residual.result c.from_residual.ensures.0 c.from_residual.ensures.1)
     (λ f h.
     let (known, some) = h in
-    line_ended g.V.Vault (servers_said ls) (take i ls) q.parties.clients q.parties.stations z q.lists.items q.text.items c.loop-line.invariant.played ls l (drop (i + 1) ls) known f (split_at ls i l front) short
-    (subst (λ (n : ℕ). AddsSome g.V.Vault f n q.parties.clients known q.parties.stations z l) c.loop-line.invariant.played.count some))
+    line_ended g.V.Vault (servers_said ls) (take i ls) q.parties.clients q.parties.stations z q.lists.items q.text.items c.loop-line.invariant.played ls l (drop (i + 1) ls) known f c.play_step.new.self.lists.items (split_at ls i l front) short
+    (subst (λ (n : ℕ). AddsSome g.V.Vault f n q.parties.clients known q.parties.stations z l q.lists.items c.play_step.new.self.lists.items) c.loop-line.invariant.played.count some))
     c.in_err-play_step.ensures.ended
 
 pub returns-in_err-play_step-clause-left : goal.returns-in_err-play_step-clause-left
@@ -66,7 +64,7 @@ returns-in_err-play_step-clause-left g c =
     end_on c.in_err-play_step.field-0.0 c.from_residual.result _ _ (handed_on c.in_err-play_step.field-0.0 c.from_residual.result c.from_residual.ensures.0 c.from_residual.ensures.1)
     (λ f h.
     let (known, some) = h in
-    end_opened g.V.Vault f (course_of g.V.Vault some.at_end) some.due some.at_end c.play_step.new.self.parties.stations some.ends some.left ∙ some.goes.later.openings ∙ c.loop-line.invariant.openings)
+    end_opened g.V.Vault f some.due some.at_end c.play_step.new.self.parties.stations some.left ∙ some.goes.later.openings ∙ c.loop-line.invariant.openings)
     c.in_err-play_step.ensures.ended
 
 pub returns-in_err-play_step-clause-calm_left : goal.returns-in_err-play_step-clause-calm_left
@@ -77,8 +75,7 @@ returns-in_err-play_step-clause-calm_left g c =
     end_on c.in_err-play_step.field-0.0 c.from_residual.result _ _ (handed_on c.in_err-play_step.field-0.0 c.from_residual.result c.from_residual.ensures.0 c.from_residual.ensures.1)
     (λ f h.
     let (known, some) = h in
-    calm_both g.V.Vault a q z c.loop-line.invariant.calm
-    (calm_both g.V.Vault q some.at_end z some.goes.later.calm (end_calm g.V.Vault f (course_of g.V.Vault some.at_end) some.due some.at_end z some.ends some.left)))
+    calm_then g.V.Vault f a q z c.loop-line.invariant.calm (calm_then g.V.Vault f q some.at_end z some.goes.later.calm (end_calm g.V.Vault f some.due some.at_end z some.left)))
     c.in_err-play_step.ensures.ended
 
 pub loop-line-preserved : goal.loop-line-preserved

@@ -1,15 +1,14 @@
-use Rattle.std.specs.Prelude.{Ok, Vec}
+use Rattle.std.specs.Prelude.{Vec}
 use Rattle.std.specs.Global.{Global}
 use Rattle.std.proofs.Common.{◌<◌, ◌≤◌, ◌^◌, ℕ, length, sym, ◌∙◌, subst, arith}
 use Rattle.std.proofs.lemmas.Result.{on_ok_weaker}
 use Rattle.alp_journal.specs.declared.log.Item.{Item}
 use Rattle.alp_script.specs.Accepted.{servers_said}
 use Rattle.alp_course.specs.Settles.{IsSettling}
-use Rattle.alp_cluster.specs.Runs.{HasPlayedOut, StopNone}
-use Rattle.alp_cluster.specs.Stations.{course_of}
+use Rattle.alp_cluster.specs.Runs.{HasPlayedOut, HasEndedEarly, StopNone}
 use Rattle.alp_cluster.proofs.DidLemmas.{calm_both, gone_both, all_where, all_handed}
 use Rattle.alp_cluster.proofs.GoneLemmas.{end_on, end_map, handed_on}
-use Rattle.alp_cluster.proofs.LeftLemmas.{end_opened, end_calm}
+use Rattle.alp_cluster.proofs.LeftLemmas.{end_opened, end_calm, calm_then}
 use Rattle.alp_cluster.proofs.LoopLemmas.{did_count, some_count}
 use Rattle.alp_cluster.proofs.RunLemmas.{end_ended, played_out}
 use Rattle.alp_cluster.proofs.cluster.Cluster.play_out.Goals as goal
@@ -48,13 +47,14 @@ returns-clause-ended g c =
     let few : length c.args.lines.now ≤ 200000 = c.requires.accepted.few in
     let short : length c.args.lines.now < 2 ^ 29 = omega (arith, few) in
     end_map c.settle.result _ _
-    (λ f d. end_ended g.V.Vault (servers_said c.args.lines.now) c.args.lines.now q.parties.clients q.parties.stations c.settle.new.self.parties.stations q.lists.items q.text.items c.in_ok-play.ensures.played f short
-    (some_count g.V.Vault IsSettling (length q.parties.stations.all.items) (servers_said c.args.lines.now) f q.parties.stations c.settle.new.self.parties.stations c.in_ok-play.ensures.played.count d)) c.settle.ensures.ended
+    (λ f d. subst (λ (vs : Vec (Vec Item Global) Global). HasEndedEarly g.V.Vault (servers_said c.args.lines.now) c.args.lines.now f c.settle.new.self.parties.stations vs.items) (sym c.settle.ensures.lists)
+    (end_ended g.V.Vault (servers_said c.args.lines.now) c.args.lines.now q.parties.clients q.parties.stations c.settle.new.self.parties.stations q.lists.items q.text.items c.in_ok-play.ensures.played f short
+    (some_count g.V.Vault IsSettling (length q.parties.stations.all.items) (servers_said c.args.lines.now) f q.parties.stations c.settle.new.self.parties.stations c.in_ok-play.ensures.played.count d))) c.settle.ensures.ended
 
 pub returns-clause-left : goal.returns-clause-left
 returns-clause-left g c =
     end_map c.settle.result _ _
-    (λ f d. end_opened g.V.Vault f (course_of g.V.Vault d.at_end) d.due d.at_end c.settle.new.self.parties.stations d.ends d.left ∙ d.goes.later.openings ∙ c.in_ok-play.ensures.openings) c.settle.ensures.ended
+    (λ f d. end_opened g.V.Vault f d.due d.at_end c.settle.new.self.parties.stations d.left ∙ d.goes.later.openings ∙ c.in_ok-play.ensures.openings) c.settle.ensures.ended
 
 pub returns-clause-calm_left : goal.returns-clause-calm_left
 returns-clause-calm_left g c =
@@ -62,8 +62,7 @@ returns-clause-calm_left g c =
     let b = c.play.new.self.parties.stations in
     let z = c.settle.new.self.parties.stations in
     end_map c.settle.result _ _
-    (λ f d. calm_both g.V.Vault a b z c.in_ok-play.ensures.calm
-    (calm_both g.V.Vault b d.at_end z d.goes.later.calm (end_calm g.V.Vault f (course_of g.V.Vault d.at_end) d.due d.at_end z d.ends d.left))) c.settle.ensures.ended
+    (λ f d. calm_then g.V.Vault f a b z c.in_ok-play.ensures.calm (calm_then g.V.Vault f b d.at_end z d.goes.later.calm (end_calm g.V.Vault f d.due d.at_end z d.left))) c.settle.ensures.ended
 
 pub returns-clause-calm : goal.returns-clause-calm
 returns-clause-calm g c =

@@ -1,5 +1,4 @@
-use Rattle.std.specs.Prelude.{Ok, Err}
-use Rattle.std.proofs.Common.{rules, ◌<◌, ◌≤◌, List, [], ◌∷◌, ◌++◌, length, refl, sym, ◌∙◌, ap, subst, append-nil, append_assoc, arith}
+use Rattle.std.proofs.Common.{rules, ◌<◌, ◌≤◌, List, [], ◌∷◌, ◌++◌, length, sym, ◌∙◌, ap, subst, append-nil, append_assoc, arith}
 use Rattle.std.proofs.lemmas.Result.{on_ok_weaker}
 use Rattle.alp_journal.specs.declared.log.Item.{Item}
 use Rattle.alp_session.proofs.CallLemmas.{form_askable}
@@ -10,9 +9,9 @@ use Rattle.alp_cluster.specs.Clients.{InStep}
 use Rattle.alp_cluster.specs.Steps.{IsOwnNext, DidLine}
 use Rattle.alp_cluster.specs.declared.fault.RunFault.TheVariants as fault
 use Rattle.alp_cluster.proofs.DidLemmas.{gone_both, all_memory, all_handed, all_on}
-use Rattle.alp_cluster.proofs.GoneLemmas.{end_on, end_map, end_memory, handed_on}
+use Rattle.alp_cluster.proofs.GoneLemmas.{end_on, end_map, end_any, handed_on}
 use Rattle.alp_cluster.proofs.LineLemmas.{carry_some}
-use Rattle.alp_cluster.proofs.SendLemmas.{step_here, ready_here, line_over, line_timed, line_sends, less_behind, own_then, line_more, line_some}
+use Rattle.alp_cluster.proofs.SendLemmas.{step_here, ready_here, line_over, line_timed, line_asks, line_not, less_behind, own_then, line_more, line_some}
 use Rattle.alp_cluster.proofs.parties.Parties.+send_line.Goals as goal
 
 pub carry_before-requires : goal.carry_before-requires
@@ -27,7 +26,7 @@ pub returns-in_err-carry_before-clause-ended : goal.returns-in_err-carry_before-
 returns-in_err-carry_before-clause-ended g t c =
     let s = c.args.self.now in
     end_on c.in_err-carry_before.field-0.0 c.from_residual.result _ _ (handed_on c.in_err-carry_before.field-0.0 c.from_residual.result c.from_residual.ensures.0 c.from_residual.ensures.1)
-    (λ f d. ([], s.clients, omega arith, carry_some g.V.Vault (length s.stations.all.items) s.clients s.stations c.carry_before.new.self.stations c.args.client c.args.line.now c.args.next f d)) c.in_err-carry_before.ensures.ended
+    (λ f d. ([], s.clients, omega arith, sym (append-nil c.args.items.now.items), carry_some g.V.Vault (length s.stations.all.items) s.clients s.stations c.carry_before.new.self.stations c.args.client c.args.line.now c.args.next f d)) c.in_err-carry_before.ensures.ended
 
 pub asks-requires-clause-line : goal.asks-requires-clause-line
 asks-requires-clause-line g t c = form_askable c.args.line.now.line c.requires.form
@@ -43,7 +42,15 @@ returns-in_err-frame-clause-gone g t c =
     (all_memory g.V.Vault (Unit {0}) c.args.self.now.stations c.carry_before.new.self.stations _ c.in_ok-carry_before.ensures.gone)
 
 pub returns-in_err-frame-clause-ended : goal.returns-in_err-frame-clause-ended
-returns-in_err-frame-clause-ended g t c = end_memory c.from_residual-in_err-frame.result _ (handed_on fault.OutOfMemory c.from_residual-in_err-frame.result c.from_residual-in_err-frame.ensures.0 c.from_residual-in_err-frame.ensures.1)
+returns-in_err-frame-clause-ended g t c =
+    let s = c.args.self.now in
+    end_any fault.OutOfMemory c.from_residual-in_err-frame.result _ (handed_on fault.OutOfMemory c.from_residual-in_err-frame.result c.from_residual-in_err-frame.ensures.0 c.from_residual-in_err-frame.ensures.1) (
+      [],
+      s.clients,
+      omega arith,
+      sym (append-nil c.args.items.now.items),
+      line_asks g.V.Vault s.clients c.carry_before.new.self.clients c.in_ok-carry_before.ensures.clients s.stations c.carry_before.new.self.stations c.args.client c.args.line.now c.args.next c.requires.step c.in_ok-carry_before.ensures.did,
+    )
 
 pub time_out-requires : goal.time_out-requires
 time_out-requires g t c = record { on = c.in_ok-carry_before.ensures.did.goes.later.on }
@@ -61,6 +68,7 @@ returns-in_default-clause-ended g t c =
       [],
       s.clients,
       omega arith,
+      sym (append-nil c.args.items.now.items),
       line_timed g.V.Vault s.clients e.clients c.in_ok-carry_before.ensures.clients s.stations e.stations c.args.client c.args.line.now c.args.next c.requires.step c.in_ok-carry_before.ensures.did f c.time_out.new.self.stations c.due-due.result c.due-due.ensures d,
     ))
     c.time_out.ensures.ended
@@ -98,13 +106,10 @@ returns-in_err-behind-clause-ended g t c =
     let e = c.carry_before.new.self in
     end_on c.in_err-behind.field-0.0 c.from_residual-in_err-behind.result _ _
     (handed_on c.in_err-behind.field-0.0 c.from_residual-in_err-behind.result c.from_residual-in_err-behind.ensures.0 c.from_residual-in_err-behind.ensures.1)
-    (λ f none. (
-      [],
-      s.clients,
-      omega arith,
-      line_sends g.V.Vault s.clients e.clients c.in_ok-carry_before.ensures.clients s.stations e.stations c.args.client c.args.line.now c.args.next c.requires.step c.in_ok-carry_before.ensures.did f c.send.new.self.stations c.in-Some.frame
-          (sym c.in_ok-frame.ensures.frame ∙ c.in-Some.is) none,
-    ))
+    (λ f not.
+    let n = line_not g.V.Vault s.clients e.clients c.in_ok-carry_before.ensures.clients s.stations e.stations c.args.client c.args.line.now c.args.next c.requires.step c.in_ok-carry_before.ensures.did f c.send.new.self.stations c.in-Some.frame
+    c.args.items.now.items c.send.new.items.items c.requires.client.1 c.requires.way (sym c.in_ok-frame.ensures.frame ∙ c.in-Some.is) not in
+    (n.xs, n.known, n.few, n.items, n.did))
     c.in_err-behind.ensures.ended
 
 pub send_line-requires : goal.send_line-requires
@@ -142,10 +147,10 @@ returns-clause-ended g t c =
     let asked = sym c.in_ok-frame.ensures.frame ∙ c.in-Some.is in
     end_map c.send_line.result _ _
     (λ f rest.
-    let (xs, known, few, some) = rest in
+    let (xs, known, few, items, some) = rest in
     let (longer, did) = line_some g.V.Vault s.clients e.clients c.in_ok-carry_before.ensures.clients s.stations e.stations c.args.client c.args.line.now c.args.next c.requires.step c.in_ok-carry_before.ensures.did d.clients d.stations c.in-Some.frame
     c.in_ok-behind.behind x c.requires.client.1 c.requires.way asked done f known c.send_line.new.self.stations xs few some in
-    (x ∷ xs, known, longer, did))
+    (x ∷ xs, known, longer, items ∙ ap (λ (ys : List Item). ys ++ xs) is ∙ append_assoc c.args.items.now.items (x ∷ []) xs, did))
     c.send_line.ensures.ended
 
 pub returns-clause-did : goal.returns-clause-did

@@ -4,22 +4,22 @@ use Rattle.std.proofs.lemmas.Result.{IfOk-weaker}
 use Rattle.alp_fields.specs.Forms.{whole}
 use Rattle.alp_rpc.specs.Frames.{request}
 use Rattle.alp_node.specs.NodeStates.{NodeState}
-use Rattle.alp_cluster.specs.Exchanges.{IsHanded}
-use Rattle.alp_cluster.specs.Servers.{HasNoRoom}
+use Rattle.alp_cluster.specs.Exchanges.{IsHanded, EndsHanding}
 use Rattle.alp_cluster.specs.Station.{standing}
-use Rattle.alp_cluster.proofs.GoneLemmas.{full_map}
+use Rattle.alp_cluster.proofs.GoneLemmas.{end_map}
 use Rattle.alp_cluster.proofs.StationLemmas.{one_of, leaves_server}
 use Rattle.alp_cluster.proofs.station.Station.hand_here.Goals as goal
 
 pub returns-clause-gone : goal.returns-clause-gone
 returns-clause-gone g c =
     let is : c.args.self.now.server ≡ standing c.in-Some-Up.node = c.in-Some-Up.is ∙ ap Some c.in-Some-Up.field-0-is in
-    leaves_server g.V.Vault (Unit {0}) c.args.self.now (standing c.hand.new.node) c.in-Some-Up.node c.hand.new.node.kept.vault c.hand.result is refl c.hand.ensures.gone c.hand.ensures.adds
+    leaves_server g.V.Vault (Unit {0}) c.args.self.now (standing c.hand.new.node) c.in-Some-Up.node c.hand.new.node.kept.vault c.hand.result is refl c.hand.ensures.gone
 
-pub returns-clause-filled : goal.returns-clause-filled
-returns-clause-filled g c =
+pub returns-clause-ended : goal.returns-clause-ended
+returns-clause-ended g c =
     let is : c.args.self.now.server ≡ standing c.in-Some-Up.node = c.in-Some-Up.is ∙ ap Some c.in-Some-Up.field-0-is in
-    full_map _ _ c.hand.result (λ room n stood. (c.hand.new.node, refl, room.0, subst (λ (z : NodeState _). HasNoRoom z c.hand.new.node) (one_of c.args.self.now.server c.in-Some-Up.node n is stood) room.1)) c.hand.ensures.filled
+    end_map c.hand.result _ _
+    (λ f ends n stood. (c.hand.new.node, refl, subst (λ (z : NodeState _). EndsHanding g.V.Vault f z c.hand.new.node (whole request c.args.frame.now)) (one_of c.args.self.now.server c.in-Some-Up.node n is stood) ends)) c.hand.ensures.ended
 
 pub returns-clause-handed : goal.returns-clause-handed
 returns-clause-handed g c =

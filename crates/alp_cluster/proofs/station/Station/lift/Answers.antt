@@ -4,7 +4,6 @@ use Rattle.alp_node.specs.NodeStates.{NodeState}
 use Rattle.alp_course.specs.Happens.{Happens, lifts}
 use Rattle.alp_cluster.specs.Servers.{IsOn, IsLifted}
 use Rattle.alp_cluster.specs.Station.{standing, WentBy}
-use Rattle.alp_cluster.proofs.AddsLemmas.{adds_rest}
 use Rattle.alp_cluster.proofs.RestartLemmas.{lifted_gone, lifted_down}
 use Rattle.alp_cluster.proofs.StationLemmas.{one_of, leaves_server, lift_went}
 use Rattle.alp_cluster.proofs.station.Station.lift.Goals as goal
@@ -16,7 +15,7 @@ returns-clause-gone g c =
     let same : n ≡ c.in-Some-Up.node = one_of c.args.self.now.server n c.in-Some-Up.node keeps.stands is in
     let lifted : IsLifted g.V.Vault c.in-Some-Up.node c.stop_after.new.self = record { kept = c.knows.ensures; same = c.stop_after.ensures.same; faults = c.stop_after.ensures.faults; rest = c.stop_after.ensures.kept; free = c.stop_after.ensures.allowance } in
     leaves_server g.V.Vault {T = Unit {0}} (Unit {0}) c.args.self.now (standing c.stop_after.new.self) c.in-Some-Up.node c.stop_after.new.self.kept.vault (Ok tt) is refl
-    (lifted_gone g.V.Vault c.in-Some-Up.node c.stop_after.new.self (subst (λ (z : NodeState _). IsOn g.V.Vault z) same keeps.on) lifted (Unit {0}) tt) (adds_rest c.in-Some-Up.node c.stop_after.new.self c.stop_after.ensures.kept)
+    (lifted_gone g.V.Vault c.in-Some-Up.node c.stop_after.new.self (subst (λ (z : NodeState _). IsOn g.V.Vault z) same keeps.on) lifted (Unit {0}) tt)
 
 pub returns-clause-went : goal.returns-clause-went
 returns-clause-went g c = λ n keeps tells.

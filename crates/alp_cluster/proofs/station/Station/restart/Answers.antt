@@ -1,10 +1,9 @@
-use Rattle.std.specs.Prelude.{Ok, Err}
+use Rattle.std.specs.Prelude.{Err}
 use Rattle.std.proofs.Common.{◌≡◌, refl, sym, ◌∙◌, ap, subst}
 use Rattle.alp_cluster.specs.Servers.{HasGone}
-use Rattle.alp_cluster.specs.Station.{EndsHere}
+use Rattle.alp_cluster.specs.Station.{EndsRestart}
 use Rattle.alp_cluster.specs.declared.fault.RunFault.{RunFault}
 use Rattle.alp_cluster.specs.declared.fault.RunFault.TheVariants as fault
-use Rattle.alp_cluster.proofs.AddsLemmas.{adds_fallen}
 use Rattle.alp_cluster.proofs.GoneLemmas.{handed_on, end_any}
 use Rattle.alp_cluster.proofs.RestartLemmas.{stays_gone}
 use Rattle.alp_cluster.proofs.StationLemmas.{leaves_wanting, leaves_server, again_leaves, again_went}
@@ -26,7 +25,11 @@ returns-in_err-restart_here-clause-gone g c =
     let is = handed_on e c.from_residual-in_err-restart_here.result c.from_residual-in_err-restart_here.ensures.0 c.from_residual-in_err-restart_here.ensures.1 in
     leaves_server g.V.Vault (Unit {0}) c.args.self.now c.restart_here.new.self.server n d.vault c.from_residual-in_err-restart_here.result keeps.stands (rw left refl)
     (subst (λ r. HasGone g.V.Vault (Unit {0}) n.kept.vault d.vault r) (sym (is ∙ ap Err named)) (stays_gone g.V.Vault c.args.pick n keeps.on d (Unit {0}) f stays))
-    (adds_fallen n d c.restart_here.new.self.server left (stays.stays.opening ∙ stays.falls.opening) (stays.stays.journal ∙ stays.falls.journal))
+
+pub returns-in_err-push_rank-clause-ended : goal.returns-in_err-push_rank-clause-ended
+returns-in_err-push_rank-clause-ended g c =
+    end_any fault.OutOfMemory c.from_residual.result _ (handed_on fault.OutOfMemory c.from_residual.result c.from_residual.ensures.0 c.from_residual.ensures.1)
+    (λ n keeps. record { server = c.push_rank.ensures.server; ranks = c.in_err-push_rank.ensures.refused; fused = c.push_rank.ensures.fused })
 
 pub returns-in_err-restart_here-clause-ended : goal.returns-in_err-restart_here-clause-ended
 returns-in_err-restart_here-clause-ended g c =
@@ -34,7 +37,7 @@ returns-in_err-restart_here-clause-ended g c =
     end_any e c.from_residual-in_err-restart_here.result _ (handed_on e c.from_residual-in_err-restart_here.result c.from_residual-in_err-restart_here.ensures.0 c.from_residual-in_err-restart_here.ensures.1)
     (λ n keeps.
     let (d, f, left, named, stays) = c.in_err-restart_here.ensures.stays n (c.push_rank.ensures.server ∙ keeps.stands) in
-    subst (λ (x : RunFault). EndsHere g.V.Vault c.args.pick x n c.restart_here.new.self.server) (sym named) (d, left, refl, stays))
+    subst (λ (x : RunFault). EndsRestart g.V.Vault c.args.pick x c.args.self.now c.restart_here.new.self n) (sym named) (d, left, refl, stays))
 
 pub returns-clause-gone : goal.returns-clause-gone
 returns-clause-gone g c =

@@ -3,7 +3,6 @@ use Rattle.std.proofs.Common.{◌≡◌, refl, sym, ◌∙◌, ap, subst}
 use Rattle.alp_node.specs.NodeStates.{NodeState}
 use Rattle.alp_cluster.specs.Servers.{IsOn, HasStopSet}
 use Rattle.alp_cluster.specs.Station.{standing}
-use Rattle.alp_cluster.proofs.AddsLemmas.{adds_none, adds_rest}
 use Rattle.alp_cluster.proofs.RestartLemmas.{stop_gone}
 use Rattle.alp_cluster.proofs.StationLemmas.{one_of, leaves_server, stop_went}
 use Rattle.alp_cluster.proofs.station.Station.stop.Goals as goal
@@ -17,7 +16,6 @@ returns-then-is_down-clause-gone g c =
     let on : IsOn g.V.Vault c.in-Some-Up.node = subst (λ (z : NodeState _). IsOn g.V.Vault z) (one_of c.args.self.now.server n c.in-Some-Up.node keeps.stands is) keeps.on in
     let set : HasStopSet g.V.Vault c.args.calls c.in-Some-Up.node c.in-Some-Up.node = record { kept = on.kept; same = record { telling = refl; sizes = refl; number = refl; of_all = refl }; faults = refl; rest = refl; down = λ e. refl; allowance = λ up. (let wrong : true ≡ false = sym (sym c.is_down.ensures ∙ c.if-is_down.true) ∙ up in cc) } in
     leaves_server g.V.Vault {T = Unit {0}} ⊥ c.args.self.now (standing c.in-Some-Up.node) c.in-Some-Up.node c.in-Some-Up.node.kept.vault (Ok tt) is refl (stop_gone g.V.Vault c.args.calls c.in-Some-Up.node c.in-Some-Up.node on set ⊥ tt (λ p. p))
-    (adds_none c.in-Some-Up.node)
 
 pub returns-then-is_down-clause-went : goal.returns-then-is_down-clause-went
 returns-then-is_down-clause-went g c = λ n keeps tells.
@@ -45,7 +43,7 @@ returns-clause-gone g c =
       allowance = λ e. c.stop_after.ensures.allowance;
     } in
     leaves_server g.V.Vault {T = Unit {0}} ⊥ c.args.self.now (standing c.stop_after.new.self) c.in-Some-Up.node c.stop_after.new.self.kept.vault (Ok tt) is refl
-    (stop_gone g.V.Vault c.args.calls c.in-Some-Up.node c.stop_after.new.self (subst (λ (z : NodeState _). IsOn g.V.Vault z) (sym same) keeps.on) set ⊥ tt (λ p. p)) (adds_rest c.in-Some-Up.node c.stop_after.new.self c.stop_after.ensures.kept)
+    (stop_gone g.V.Vault c.args.calls c.in-Some-Up.node c.stop_after.new.self (subst (λ (z : NodeState _). IsOn g.V.Vault z) (sym same) keeps.on) set ⊥ tt (λ p. p))
 
 pub returns-clause-went : goal.returns-clause-went
 returns-clause-went g c = λ n keeps tells.

@@ -1,8 +1,9 @@
 use Rattle.std.proofs.Common.{refl}
 use Rattle.std.proofs.lemmas.Result.{on_ok_weaker}
+use Rattle.alp_journal.specs.declared.event.Event.TheVariants as event
 use Rattle.alp_cluster.proofs.AtLemmas.{at_there, at_keeps}
-use Rattle.alp_cluster.proofs.GoneLemmas.{full_map}
-use Rattle.alp_cluster.proofs.HandLemmas.{arrived, no_room_here}
+use Rattle.alp_cluster.proofs.GoneLemmas.{end_map}
+use Rattle.alp_cluster.proofs.HandLemmas.{arrived, event_ends}
 use Rattle.alp_cluster.proofs.StationsLemmas.{leaves_all}
 use Rattle.alp_cluster.proofs.stations.Stations.arrive.Goals as goal
 
@@ -20,10 +21,10 @@ returns-clause-came g c =
     let there = at_there s c.args.to c.requires.to x c.index_mut.ensures.value in
     on_ok_weaker c.happen.result (λ came. arrived g.V.Vault s _ c.requires.on c.args.to c.requires.to x c.happen.new.self there refl refl n keeps.stands c.args.from c.args.message c.args.seen (came n keeps)) c.happen.ensures.came
 
-pub returns-clause-filled : goal.returns-clause-filled
-returns-clause-filled g c =
+pub returns-clause-ended : goal.returns-clause-ended
+returns-clause-ended g c =
     let s = c.args.self.now in
     let x = c.index_mut.result.now in
     let (n, keeps) = at_keeps g.V.Vault s c.requires.on c.args.to c.requires.to x c.index_mut.ensures.value in
     let there = at_there s c.args.to c.requires.to x c.index_mut.ensures.value in
-    full_map _ _ c.happen.result (λ room. no_room_here g.V.Vault s _ c.requires.on c.args.to c.requires.to x c.happen.new.self there refl refl n keeps.stands (room n keeps).0 (room n keeps).1) c.happen.ensures.filled
+    end_map c.happen.result _ _ (λ f ends. event_ends g.V.Vault s _ c.requires.on c.args.to c.requires.to x c.happen.new.self there refl refl n keeps.stands c.args.seen (event.Arrive c.args.from c.args.message) f (ends n keeps)) c.happen.ensures.ended

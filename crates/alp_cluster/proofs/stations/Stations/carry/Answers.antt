@@ -1,10 +1,7 @@
 use Rattle.std.specs.Prelude.{slice_get}
-use Rattle.std.proofs.Common.{◌-◌, [], ◌∷◌, sym, ◌∙◌, ap, subst}
-use Rattle.alp_course.specs.Courses.{brings}
-use Rattle.alp_course.specs.Languages.{Just}
-use Rattle.alp_cluster.specs.Stations.{DidSome}
+use Rattle.std.proofs.Common.{◌-◌, sym, ◌∙◌, ap}
 use Rattle.alp_cluster.proofs.BringLemmas.{carried}
-use Rattle.alp_cluster.proofs.CarryLemmas.{none_brought, no_room_brought}
+use Rattle.alp_cluster.proofs.CarryLemmas.{none_brought, ends_brought}
 use Rattle.alp_cluster.proofs.DidLemmas.{gone_both, all_on}
 use Rattle.alp_cluster.proofs.GoneLemmas.{end_on, handed_on}
 use Rattle.alp_cluster.proofs.TakeLemmas.{gone_same, rank_is}
@@ -26,11 +23,10 @@ returns-in_err-arrive-clause-gone g c =
 pub returns-in_err-arrive-clause-ended : goal.returns-in_err-arrive-clause-ended
 returns-in_err-arrive-clause-ended g c =
     end_on c.in_err-arrive.field-0.0 c.from_residual.result _ _ (handed_on c.in_err-arrive.field-0.0 c.from_residual.result c.from_residual.ensures.0 c.from_residual.ensures.1)
-    (λ f at.
-    subst (λ z. DidSome g.V.Vault (Just (brings c.args.from c.args.to ∷ [])) z c.args.self.now c.arrive.new.self) (sym at.0)
-    (no_room_brought g.V.Vault c.args.self.now c.args.from c.args.to c.requires.apart c.next_message.new.self c.arrive.new.self c.requires.on c.next_message.ensures.all c.next_message.ensures.course c.in-Some.message
-    (sym c.next_message.ensures.message ∙ c.in-Some.is) at.1))
-    c.in_err-arrive.ensures.filled
+    (λ f ends.
+    ends_brought g.V.Vault c.args.self.now c.args.from c.args.to c.requires.apart c.next_message.new.self c.arrive.new.self c.requires.on c.next_message.ensures.all c.next_message.ensures.course c.in-Some.message (sym c.next_message.ensures.message ∙ c.in-Some.is)
+    c.last_rank-seen.result (c.last_rank-seen.ensures ∙ sym (rank_is g.V.Vault c.args.self.now c.requires.on c.args.from c.requires.apart.sender c.at.result.now c.at.ensures)) f ends)
+    c.in_err-arrive.ensures.ended
 
 pub returns-clause-gone : goal.returns-clause-gone
 returns-clause-gone g c =

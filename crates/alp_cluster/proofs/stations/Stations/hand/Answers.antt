@@ -1,8 +1,10 @@
 use Rattle.std.proofs.Common.{refl}
 use Rattle.std.proofs.lemmas.Result.{IfOk-weaker}
+use Rattle.alp_fields.specs.Forms.{whole}
+use Rattle.alp_rpc.specs.Frames.{request}
 use Rattle.alp_cluster.proofs.AtLemmas.{at_there, at_keeps}
-use Rattle.alp_cluster.proofs.GoneLemmas.{full_map}
-use Rattle.alp_cluster.proofs.HandLemmas.{handed_here, no_room_here}
+use Rattle.alp_cluster.proofs.GoneLemmas.{end_map}
+use Rattle.alp_cluster.proofs.HandLemmas.{handed_here, frame_ends}
 use Rattle.alp_cluster.proofs.StationsLemmas.{leaves_all}
 use Rattle.alp_cluster.proofs.stations.Stations.hand.Goals as goal
 
@@ -20,10 +22,10 @@ returns-clause-handed g c =
     let there = at_there s c.args.server c.requires.server x c.index_mut.ensures.value in
     IfOk-weaker c.hand.result _ _ (λ h was. handed_here g.V.Vault s _ c.requires.on c.args.server c.requires.server x c.hand.new.self there refl refl n keeps.stands c.args.client c.args.frame.now h (was n keeps)) c.hand.ensures.handed
 
-pub returns-clause-filled : goal.returns-clause-filled
-returns-clause-filled g c =
+pub returns-clause-ended : goal.returns-clause-ended
+returns-clause-ended g c =
     let s = c.args.self.now in
     let x = c.index_mut.result.now in
     let (n, keeps) = at_keeps g.V.Vault s c.requires.on c.args.server c.requires.server x c.index_mut.ensures.value in
     let there = at_there s c.args.server c.requires.server x c.index_mut.ensures.value in
-    full_map _ _ c.hand.result (λ room. ((room n keeps).0, no_room_here g.V.Vault s _ c.requires.on c.args.server c.requires.server x c.hand.new.self there refl refl n keeps.stands (room n keeps).1 (room n keeps).2)) c.hand.ensures.filled
+    end_map c.hand.result _ _ (λ f ends. frame_ends g.V.Vault s _ c.requires.on c.args.server c.requires.server x c.hand.new.self there refl refl n keeps.stands f (whole request c.args.frame.now) (ends n keeps)) c.hand.ensures.ended

@@ -1,8 +1,10 @@
 use Rattle.std.proofs.Common.{refl}
 use Rattle.std.proofs.lemmas.Result.{on_ok_weaker}
 use Rattle.alp_cluster.proofs.AtLemmas.{at_there, at_keeps}
-use Rattle.alp_cluster.proofs.EventLemmas.{event_makes, event_did}
-use Rattle.alp_cluster.proofs.FillLemmas.{full_end, no_room}
+use Rattle.alp_cluster.proofs.EventLemmas.{event_did}
+use Rattle.alp_cluster.proofs.FillLemmas.{ends_at}
+use Rattle.alp_cluster.proofs.GoneLemmas.{end_map}
+use Rattle.alp_cluster.proofs.HandLemmas.{event_ends}
 use Rattle.alp_cluster.proofs.StationsLemmas.{leaves_all}
 use Rattle.alp_cluster.proofs.stations.Stations.happen.Goals as goal
 
@@ -26,4 +28,5 @@ returns-clause-ended g c =
     let x = c.index_mut.result.now in
     let (n, keeps) = at_keeps g.V.Vault s c.requires.on c.args.server c.requires.server x c.index_mut.ensures.value in
     let there = at_there s c.args.server c.requires.server x c.index_mut.ensures.value in
-    full_end c.happen.result _ _ (λ room h is. no_room g.V.Vault s _ c.requires.on c.args.server c.requires.server x c.happen.new.self there refl h (event_makes h c.args.event is) n keeps.stands (room n keeps).0 refl (room n keeps).1) c.happen.ensures.filled
+    end_map c.happen.result _ _
+    (λ f ends h is. ends_at g.V.Vault s _ c.requires.on c.args.server h c.args.event is f (event_ends g.V.Vault s _ c.requires.on c.args.server c.requires.server x c.happen.new.self there refl refl n keeps.stands 0 c.args.event f (ends n keeps))) c.happen.ensures.ended

@@ -1,8 +1,9 @@
 use Rattle.std.proofs.Common.{refl}
 use Rattle.std.proofs.lemmas.Result.{on_ok_weaker}
-use Rattle.alp_cluster.proofs.AtLemmas.{at_there, at_keeps, at_number, ok_both, end_bind}
+use Rattle.alp_cluster.proofs.AtLemmas.{at_there, at_keeps, at_number, ok_both}
 use Rattle.alp_cluster.proofs.EventLemmas.{restart_did}
-use Rattle.alp_cluster.proofs.FillLemmas.{no_epoch}
+use Rattle.alp_cluster.proofs.FillLemmas.{no_restart}
+use Rattle.alp_cluster.proofs.GoneLemmas.{end_map}
 use Rattle.alp_cluster.proofs.StationsLemmas.{leaves_all}
 use Rattle.alp_cluster.proofs.stations.Stations.restart.Goals as goal
 
@@ -27,4 +28,5 @@ returns-clause-ended g c =
     let x = c.index_mut.result.now in
     let (n, keeps) = at_keeps g.V.Vault s c.requires.on c.args.server c.requires.server x c.index_mut.ensures.value in
     let there = at_there s c.args.server c.requires.server x c.index_mut.ensures.value in
-    end_bind c.restart.result _ _ (λ f ends. no_epoch g.V.Vault s _ c.requires.on c.args.server c.requires.server x c.restart.new.self there refl c.args.pick n keeps.stands (at_number g.V.Vault s c.requires.on c.args.server c.requires.server x there n keeps) f (ends n keeps)) c.restart.ensures.ended
+    end_map c.restart.result _ _
+    (λ f ends. no_restart g.V.Vault s _ c.requires.on c.args.server c.requires.server x c.restart.new.self there refl c.args.pick n keeps.stands (at_number g.V.Vault s c.requires.on c.args.server c.requires.server x there n keeps) refl f (ends n keeps)) c.restart.ensures.ended

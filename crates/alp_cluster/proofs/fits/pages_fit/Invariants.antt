@@ -1,0 +1,7 @@
+use Rattle.std.proofs.Common.{take}
+use Rattle.alp_fields.specs.Forms.{repeated}
+use Rattle.alp_fields.specs.Fields.{page}
+use Rattle.alp_cluster.proofs.fits.pages_fit.Given as goal
+
+abbrev pub invariant-loop-next : goal.invariant-loop-next
+invariant-loop-next l = (repeated page l.next-index).Fits (take l.next-index l.pages)
