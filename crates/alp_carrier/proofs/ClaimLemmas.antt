@@ -4,17 +4,17 @@ use Rattle.std.specs.List.{AllByRecursion}
 use Rattle.alp_journal.specs.declared.message.Message.{Message}
 use Rattle.alp_monitor.specs.History.{entries_in}
 use Rattle.alp_monitor.specs.Passes.{front, first_base}
-use Rattle.alp_monitor.specs.declared.monitor.Pass.{Pass}
 use Rattle.alp_carrier.specs.Sights.{Arrival, Sight, next_rank}
 use Rattle.alp_carrier.specs.Plans.{planned}
-use Rattle.alp_carrier.specs.Takes.{message_of, messages_up_to, sent_before, WasSeen}
+use Rattle.alp_carrier.specs.Takes.{message_of, messages_up_to, sent_before}
 use Rattle.alp_carrier.specs.Brings.{Came, AreBrought, nothing, one_came, one_missed}
 use Rattle.alp_carrier.specs.Claims.{message_in, messages_of, weight_of, WasSentBefore, BringsWhatWasSent, BringsTwiceAtMost}
+use Rattle.alp_carrier.specs.declared.carrying.Carried.{Carried}
 use Rattle.alp_carrier.specs.declared.route.Route.{Route}
 use Rattle.alp_carrier.specs.declared.taken.Taken.{Taken}
 use Rattle.alp_carrier.proofs.Fronts.{get_begins}
 use Rattle.alp_carrier.proofs.PlanLemmas.{all_planned, weigh, few_planned}
-use Rattle.alp_carrier.proofs.TakeLemmas.{all_other, sent_begins}
+use Rattle.alp_carrier.proofs.TakeLemmas.{WasSeenAmong, all_among, all_other, sent_begins}
 
 module _ {B E : Type 0} (sight : Sight B E) (b : B) (from : ℕ) (history : List (ℕ × E)) where
   -- each turn brought a message of which P holds
@@ -40,23 +40,25 @@ taken_weight w [] = refl
 taken_weight w (x ∷ xs) = ap (λ (n : ℕ). w x.message + n) (taken_weight w xs)
 
 module _ {S B E : Type 0} (base_of : S → B) (sight : Sight B E) where
-  sent_first : (r : Route S B E) (s : Pass S B E) (b : B) (history : List (ℕ × E)) (t : ℕ × E) (x : Taken) → WasSeen base_of sight r.from.now r.pair.to s x → Came sight b r.pair.from x history t → WasSentBefore base_of sight r s t
-  sent_first r s b history t x seen c = record {
+  sent_first : (r : Route S B E) (w : Carried S B E) (b : B) (history : List (ℕ × E)) (t : ℕ × E) (x : Taken) → WasSeenAmong base_of sight r.from.now r.pair.to r.pair.first w.next w.sender x → Came sight b r.pair.from x history t
+      → WasSentBefore base_of sight r w t
+  sent_first r w b history t x (seen, low, high) c = record {
     arrival = record { from = r.pair.from; message = x.message; rank = next_rank sight b (take t.0 (entries_in history)) x.seen };
     arrived_is = c.brought;
     from_is = refl;
     place = seen.place;
+    among = (low, high);
     rank = seen.shown.rank;
-    sent_is = get_begins (sight.sent (first_base base_of r.from.now) (take seen.after (entries_in (front s)))) (sent_before base_of sight r.from.now s) seen.place (seen.shown.rank, record { to = r.pair.to; message = x.message })
-        (sent_begins base_of sight r.from.now s seen.after) seen.shown.sent_is;
-    earlier = (let low = seen.shown.earlier in let same = seen.seen_is in omega (arith, low, same));
+    sent_is = get_begins (sight.sent (first_base base_of r.from.now) (take seen.after (entries_in (front w.sender)))) (sent_before base_of sight r.from.now w.sender) seen.place (seen.shown.rank, record { to = r.pair.to; message = x.message })
+        (sent_begins base_of sight r.from.now w.sender seen.after) seen.shown.sent_is;
+    earlier = (let up = seen.shown.earlier in let same = seen.seen_is in omega (arith, up, same));
   }
 
   pub brings_sent : BringsWhatWasSent base_of sight
   brings_sent r seed sender receiver c h =
-      let P : Taken → Type 0 = WasSeen base_of sight r.from.now r.pair.to c.sender in
-      all_other (λ (t : ℕ × E). (x : Taken) × P x × Came sight (first_base base_of r.to.now) r.pair.from x (front c.receiver) t) (WasSentBefore base_of sight r c.sender) h.brings.more (λ t y. sent_first r c.sender (first_base base_of r.to.now) (front c.receiver) t y.0 y.1 y.2)
-      (brought_of sight (first_base base_of r.to.now) r.pair.from (front c.receiver) P (length (front receiver)) (planned seed h.taken) h.brings.more (all_planned P seed h.taken h.are_taken.seen) h.brings.brought)
+      let P : Taken → Type 0 = WasSeenAmong base_of sight r.from.now r.pair.to r.pair.first c.next c.sender in
+      all_other (λ (t : ℕ × E). (x : Taken) × P x × Came sight (first_base base_of r.to.now) r.pair.from x (front c.receiver) t) (WasSentBefore base_of sight r c) h.brings.more (λ t y. sent_first r c (first_base base_of r.to.now) (front c.receiver) t y.0 y.1 y.2)
+      (brought_of sight (first_base base_of r.to.now) r.pair.from (front c.receiver) P (length (front receiver)) (planned seed h.taken) h.brings.more (all_planned P seed h.taken (all_among base_of sight r.from.now r.pair.to r.pair.first c.sender c.next r.pair.first h.taken (omega arith) h.are_taken.seen)) h.brings.brought)
 
   pub brings_twice : BringsTwiceAtMost base_of sight
   brings_twice r seed sender receiver c h w =

@@ -1,5 +1,5 @@
 -- What was taken, as the sender sends more and as one more is taken.
-use Rattle.std.proofs.Common.{◌≡◌, ◌≢◌, ℕ, zero, suc, ◌+◌, ◌≤◌, List, [], ◌∷◌, ◌++◌, length, take, drop, Some, None, Bool, true, false, refl, sym, ap, ◌∙◌, subst, arith, eq-eqb, ne_eqb, take-append-drop}
+use Rattle.std.proofs.Common.{◌≡◌, ◌≢◌, ℕ, zero, suc, ◌+◌, ◌<◌, ◌≤◌, List, [], ◌∷◌, ◌++◌, length, take, drop, Some, None, Bool, true, false, refl, sym, ap, ◌∙◌, subst, arith, eq-eqb, ne_eqb, take-append-drop}
 use Rattle.std.specs.Prelude.{slice_get, ◌==◌, if◌then◌else◌}
 use Rattle.std.specs.List.{AllByRecursion}
 use Rattle.std.proofs.lemmas.List.{take-append-le}
@@ -11,7 +11,7 @@ use Rattle.alp_monitor.specs.declared.monitor.Pass.{Pass}
 use Rattle.alp_journal.specs.declared.message.Envelope.{Envelope}
 use Rattle.alp_journal.specs.declared.message.Message.{Message}
 use Rattle.alp_carrier.specs.Sights.{Sight, IsShown}
-use Rattle.alp_carrier.specs.Takes.{addressed_to, message_of, sent_before, last_before, WasSeen, AreTaken}
+use Rattle.alp_carrier.specs.Takes.{addressed_to, message_of, sent_before, last_before, WasSeen, AreSeen, AreTaken}
 use Rattle.alp_carrier.specs.declared.route.Pair.{Pair}
 use Rattle.alp_carrier.specs.declared.taken.Taken.{Taken}
 use Rattle.alp_carrier.proofs.Fronts.{not_longer, same_entries, all_entries, get_within, same_some}
@@ -47,10 +47,6 @@ module _ {A : Type 0} where
       let n : length (take next xs) ≡ next = take_length xs next (omega (arith, w)) in
       ap (drop first) (take_one xs next x e) ∙ drop_front (take next xs) (x ∷ []) first (omega (arith, n, low))
 
-  all_after : (P : A → Type 0) (xs : List A) (x : A) → AllByRecursion P xs → P x → AllByRecursion P (xs ++ x ∷ [])
-  all_after P [] x all one = (one, tt)
-  all_after P (y ∷ xs) x all one = (all.0, all_after P xs x all.1 one)
-
   pub all_other : (P Q : A → Type 0) (xs : List A) → ((x : A) → P x → Q x) → AllByRecursion P xs → AllByRecursion Q xs
   all_other P Q [] f all = tt
   all_other P Q (x ∷ xs) f all = (f x all.0, all_other P Q xs f all.1)
@@ -84,7 +80,7 @@ module _ {S B E : Type 0} (base_of : S → B) (sight : Sight B E) (m : Monitor S
       let s = sight.stays (first_base base_of m) (take k es) (drop k es) in
       (s.0, s.1 ∙ ap (sight.sent (first_base base_of m)) (take-append-drop k es))
 
-  seen_longer : (to : ℕ) (p q : Pass S B E) → IsPrefix (front p) (front q) → (x : Taken) → WasSeen base_of sight m to p x → WasSeen base_of sight m to q x
+  abbrev seen_longer : (to : ℕ) (p q : Pass S B E) → IsPrefix (front p) (front q) → (x : Taken) → WasSeen base_of sight m to p x → WasSeen base_of sight m to q x
   seen_longer to p q begins x s =
       let same = same_entries (front p) (front q) s.after begins s.within in
       record {
@@ -95,6 +91,35 @@ module _ {S B E : Type 0} (base_of : S → B) (sight : Sight B E) (m : Monitor S
         seen_is = s.seen_is ∙ ap (sight.last (first_base base_of m)) same;
       }
 
+  are_seen_longer : (to : ℕ) (p q : Pass S B E) (next k : ℕ) → IsPrefix (front p) (front q) → (xs : List Taken) → AreSeen base_of sight m to p next k xs → AreSeen base_of sight m to q next k xs
+  are_seen_longer to p q next k begins [] low = low
+  are_seen_longer to p q next k begins (x ∷ xs) s = (seen_longer to p q begins x s.0, s.1, are_seen_longer to p q next (s.0.place + 1) begins xs s.2)
+
+  -- before a later place too
+  seen_before : (to : ℕ) (p : Pass S B E) (next later k : ℕ) (xs : List Taken) → next ≤ later → AreSeen base_of sight m to p next k xs → AreSeen base_of sight m to p later k xs
+  seen_before to p next later k [] low s = (let l : k ≤ next = s in omega (arith, low, l))
+  seen_before to p next later k (x ∷ xs) low s = (s.0, s.1, seen_before to p next later (s.0.place + 1) xs low s.2)
+
+  -- one more, which stands after them
+  seen_after : (to : ℕ) (p : Pass S B E) (next k : ℕ) (xs : List Taken) (y : Taken) (one : WasSeen base_of sight m to p y) → next ≤ one.place → AreSeen base_of sight m to p next k xs → AreSeen base_of sight m to p (one.place + 1) k (xs ++ y ∷ [])
+  seen_after to p next k [] y one low s = (one, (let l : k ≤ next = s in omega (arith, low, l)), omega arith)
+  seen_after to p next k (x ∷ xs) y one low s = (s.0, s.1, seen_after to p next (s.0.place + 1) xs y one low s.2)
+
+  seen_within : (to : ℕ) (p : Pass S B E) (next k : ℕ) (xs : List Taken) → AreSeen base_of sight m to p next k xs → k ≤ next
+  seen_within to p next k [] s = s
+  seen_within to p next k (x ∷ xs) s = (let l : k ≤ s.0.place = s.1 in let w : s.0.place + 1 ≤ next = seen_within to p next (s.0.place + 1) xs s.2 in omega (arith, l, w))
+
+  -- it was seen at one of these places
+  abbrev pub WasSeenAmong : ℕ → ℕ → ℕ → Pass S B E → Taken → Type 0
+  WasSeenAmong to first next p x = (s : WasSeen base_of sight m to p x) × (first ≤ s.place) × (s.place < next)
+
+  pub all_among : (to first : ℕ) (p : Pass S B E) (next k : ℕ) (xs : List Taken) → first ≤ k → AreSeen base_of sight m to p next k xs → AllByRecursion (WasSeenAmong to first next p) xs
+  all_among to first p next k [] low s = tt
+  all_among to first p next k (x ∷ xs) low s =
+      let l : k ≤ s.0.place = s.1 in
+      let w : s.0.place + 1 ≤ next = seen_within to p next (s.0.place + 1) xs s.2 in
+      ((s.0, omega (arith, low, l), omega (arith, w)), all_among to first p next (s.0.place + 1) xs (omega (arith, low, l)) s.2)
+
 module _ {S B E : Type 0} (base_of : S → B) (sight : Sight B E) (m : Monitor S B E) (pair : Pair) where
   pub taken_longer : (p q : Pass S B E) (next : ℕ) (xs : List Taken) → IsPrefix (front p) (front q) → AreTaken base_of sight m pair next p xs → AreTaken base_of sight m pair next q xs
   taken_longer p q next xs begins t =
@@ -104,7 +129,7 @@ module _ {S B E : Type 0} (base_of : S → B) (sight : Sight B E) (m : Monitor S
         from_first = t.from_first;
         within = not_longer (sent_before base_of sight m p) (sent_before base_of sight m q) next more t.within;
         are = t.are ∙ ap (λ l. addressed_to pair.to (drop pair.first l)) (sym same);
-        seen = all_other (WasSeen base_of sight m pair.to p) (WasSeen base_of sight m pair.to q) xs (seen_longer base_of sight m pair.to p q begins) t.seen;
+        seen = are_seen_longer base_of sight m pair.to p q next pair.first begins xs t.seen;
       }
 
   -- a message to another server stands at the next place
@@ -118,7 +143,7 @@ module _ {S B E : Type 0} (base_of : S → B) (sight : Sight B E) (m : Monitor S
         from_first = (let l = t.from_first in omega (arith, l));
         within = (let w = get_within all next x shown.sent_is in omega (arith, w));
         are = t.are ∙ sym (ap (addressed_to pair.to) one ∙ (addressed_both pair.to (drop pair.first (take next all)) (x ∷ []) ∙ (ap (λ l. before ++ l) (to_other pair.to x other) ∙ append-nil before)));
-        seen = t.seen;
+        seen = seen_before base_of sight m pair.to p next (next + 1) pair.first xs (omega arith) t.seen;
       }
 
   -- a message to the pair's receiver does
@@ -135,12 +160,12 @@ module _ {S B E : Type 0} (base_of : S → B) (sight : Sight B E) (m : Monitor S
         from_first = (let l = t.from_first in omega (arith, l));
         within = (let w = get_within all next x shown.sent_is in omega (arith, w));
         are = map-append message_of xs (y ∷ []) ∙ (ap (λ l. l ++ e.message ∷ []) t.are ∙ sym (ap (addressed_to pair.to) one ∙ (addressed_both pair.to (drop pair.first (take next all)) (x ∷ []) ∙ ap (λ l. before ++ l) (to_it pair.to x is))));
-        seen = all_after (WasSeen base_of sight m pair.to p) xs y t.seen (record {
+        seen = seen_after base_of sight m pair.to p next pair.first xs y (record {
           after = length (front p);
           within = omega arith;
           place = next;
           shown = subst (λ (es : List E). IsShown sight (first_base base_of m) es next (record { to = pair.to; message = e.message })) (sym whole)
               (subst (λ (n : ℕ). IsShown sight (first_base base_of m) (entries_in (front p)) next (record { to = n; message = e.message })) is shown);
           seen_is = seen_is ∙ ap (sight.last (first_base base_of m)) (sym whole);
-        });
+        }) (omega arith) t.seen;
       }

@@ -112,7 +112,7 @@ module _ {S B E : Type 0} (base_of : S → B) (sight : Sight B E) (r : Route S B
     looks = ap turns sender;
     taken = [];
     are_taken = subst (λ (y : Pass S B E × ℕ). AreTaken base_of sight r.from.now r.pair y.1 y.0 []) (λ i. (sym sender i, sym next_is i))
-        (record { from_first = omega arith; within = first; are = sym (ap (addressed_to r.pair.to) (drop_all (sent_before base_of sight r.from.now s) r.pair.first)); seen = tt });
+        (record { from_first = omega arith; within = first; are = sym (ap (addressed_to r.pair.to) (drop_all (sent_before base_of sight r.from.now s) r.pair.first)); seen = (let low : r.pair.first ≤ r.pair.first = omega arith in low) });
     brings = subst (λ d. Brings base_of sight r.to.now r.pair.from (unlost q) d []) (sym delivery) (brings_none base_of sight r.to.now r.pair.from (unlost q) hq);
     dice = dice;
     delayed = delayed;

@@ -24,20 +24,21 @@ weight_of w [] = 0
 weight_of w (m ∷ ms) = w m + weight_of w ms
 
 module _ {S B E : Type 0} (base_of : S → B) (sight : Sight B E) where
-  -- the turn brought a message of the pair, which the sender had sent, as its pass saw, by an entry with a smaller rank
-  pub record WasSentBefore (r : Route S B E) (sender : Pass S B E) (t : ℕ × E) : Type 0 where
+  -- The turn brought a message of the pair, which the sender had sent by an entry with a smaller rank. Its pass saw that, at a place that was taken.
+  pub record WasSentBefore (r : Route S B E) (c : Carried S B E) (t : ℕ × E) : Type 0 where
     pub arrival : Arrival
     pub arrived_is : sight.arrived t.1 ≡ Some arrival
     pub from_is : arrival.from ≡ r.pair.from
     pub place : ℕ
+    pub among : (r.pair.first ≤ place) × (place < c.next)
     pub rank : ℕ
-    pub sent_is : slice_get (sent_before base_of sight r.from.now sender) place ≡ Some (rank, record { to = r.pair.to; message = arrival.message })
+    pub sent_is : slice_get (sent_before base_of sight r.from.now c.sender) place ≡ Some (rank, record { to = r.pair.to; message = arrival.message })
     pub earlier : rank < arrival.rank
 
   -- each turn at the receiver did that
   abbrev pub BringsWhatWasSent : Type 0
   BringsWhatWasSent = (r : Route S B E) (seed : ℕ) (sender receiver : Pass S B E) (c : Carried S B E)
-      → (h : HasCarried base_of sight r seed sender receiver c) → AllByRecursion (WasSentBefore r c.sender) h.brings.more
+      → (h : HasCarried base_of sight r seed sender receiver c) → AllByRecursion (WasSentBefore r c) h.brings.more
 
   -- whatever messages weigh, those that were brought weigh at most twice those that were taken
   abbrev pub BringsTwiceAtMost : Type 0

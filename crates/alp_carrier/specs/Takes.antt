@@ -1,6 +1,5 @@
 -- What a carrier takes at the sender.
-use Rattle.std.specs.Prelude.{◌≡◌, ℕ, ◌≤◌, ◌==◌, List, [], ◌∷◌, length, take, drop, map as list_map, if◌then◌else◌}
-use Rattle.std.specs.List.{AllByRecursion}
+use Rattle.std.specs.Prelude.{◌≡◌, ℕ, ◌+◌, ◌≤◌, ◌==◌, List, [], ◌∷◌, length, take, drop, map as list_map, if◌then◌else◌}
 use mathlib.Core.List.{IsPrefix}
 use Rattle.alp_journal.specs.declared.message.Envelope.{Envelope}
 use Rattle.alp_journal.specs.declared.message.Message.{Message}
@@ -47,9 +46,14 @@ module _ {S B E : Type 0} (base_of : S → B) (sight : Sight B E) (m : Monitor S
     pub shown : IsShown sight (first_base base_of m) (take after (entries_in (front p))) place (record { to = to; message = x.message })
     pub seen_is : x.seen ≡ sight.last (first_base base_of m) (take after (entries_in (front p)))
 
+  -- they were seen one after the other, each at a place of its own: none before the place k, and all before the place `next`
+  abbrev pub AreSeen : ℕ → Pass S B E → ℕ → ℕ → List Taken → Type 0
+  AreSeen to p next k [] = k ≤ next
+  AreSeen to p next k (x ∷ xs) = (s : WasSeen to p x) × (k ≤ s.place) × AreSeen to p next (s.place + 1) xs
+
   -- these are just those messages
   pub record AreTaken (pair : Pair) (next : ℕ) (p : Pass S B E) (taken : List Taken) : Type 0 where
     pub from_first : pair.first ≤ next
     pub within : next ≤ length (sent_before p)
     pub are : list_map message_of taken ≡ messages_up_to pair next p
-    pub seen : AllByRecursion (WasSeen pair.to p) taken
+    pub seen : AreSeen pair.to p next pair.first taken

@@ -25,8 +25,8 @@ pub struct Carried<S: Station> {
     pub receiver: Pass<S>,
     /// The messages before this place of all that was sent were taken, and no later one.
     pub next: u32,
-    /// How often a message did not come that the plan let come. The count stays at its greatest
-    /// number.
+    /// How often a message did not come that the plan let come: a message that was to come twice may
+    /// count twice. The count stays at its greatest number.
     pub lost: u32,
 }
 

@@ -4,7 +4,7 @@ ghost use Rattle.alp_carrier.specs.Claims.{BringsWhatWasSent, BringsTwiceAtMost}
 use crate::station::Station;
 
 /// Each turn of a carrier at the receiver brought a message that the sender had sent to it, by an
-/// entry with a smaller rank. The carrier's pass saw that.
+/// entry with a smaller rank. The carrier's pass saw that, at one of the places that it took.
 pub fn brought_messages_were_sent<S: Station>()
     ensures { BringsWhatWasSent S.base S.sight }
 {}

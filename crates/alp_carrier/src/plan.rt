@@ -6,8 +6,8 @@ use rand_core::SeedableRng;
 use rand_core::utils::NextWord;
 use rand_pcg::Pcg32;
 
-/// What becomes of a message: it is lost, it is brought twice, it is delayed until the next one was
-/// brought, or it is brought once.
+/// What becomes of a message: it is lost, it is brought twice, it is delayed until the next one had
+/// its roll, or it is brought once.
 #[derive(Clone, Copy, PartialEq, Eq)]
 pub enum Fate {
     Lost,
