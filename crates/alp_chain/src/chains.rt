@@ -47,7 +47,7 @@ impl Model for Chains {
 }
 
 impl Chains {
-    /// No nodes. It takes no memory before the first is added.
+    /// Chains without nodes. They take no memory before room is made.
     pub fn new(alloc: Global) -> Chains
         ensures empty { result ≡ record { nodes = map.empty; on = map.empty; of = map.empty; spare = 0 } }
         ensures locks { AreLocks result.nodes }
@@ -60,7 +60,7 @@ impl Chains {
         }
     }
 
-    /// Makes room for so many more nodes, counted from now.
+    /// Makes room for so many more nodes than there are now, unless that is there.
     pub fn reserve(&mut self, more: u32) -> Result<(), OutOfMemory>
         ensures ok { OnOk result (self.new ≡ record self.old { spare = max self.old.spare more }) }
         ensures err { OnErr result (self.new ≡ self.old) }
@@ -105,7 +105,7 @@ impl Chains {
         Ok(self.add_reserved(view))
     }
 
-    // Adds any node where there is room to spare.
+    // Adds a node with or without a span, where there is room to spare.
     pub(crate) fn add_reserved(&mut self, view: NodeView) -> usize
         requires { 0 < self.old.spare }
         ensures new { map.get self.old.nodes result ≡ None }

@@ -11,7 +11,7 @@ use crate::links::{Ends, Links, ends_left};
 use crate::node::{Node, Way};
 use slab::Slab;
 
-// The neighbours of a node are these from now on.
+// Gives a node these neighbours on one of its lists.
 fn set_links(nodes: &mut Slab<Node>, way: Way, node: usize, links: Links)
     requires { ContainsKey nodes.old node }
     ensures changed { sides way nodes.new node ≡ links }
@@ -21,7 +21,7 @@ fn set_links(nodes: &mut Slab<Node>, way: Way, node: usize, links: Links)
     nodes[node] = nodes[node].with_links(way, links);
 }
 
-// Another node follows that one, if there is one.
+// Makes another node the next of that one, if there is one.
 fn set_next(nodes: &mut Slab<Node>, way: Way, node: Option<usize>, next: Option<usize>)
     requires { IsThere nodes.old node }
     ensures links { (n : ℕ) → sides way nodes.new n ≡ with_next (sides way nodes.old) node next n }
@@ -33,7 +33,7 @@ fn set_next(nodes: &mut Slab<Node>, way: Way, node: Option<usize>, next: Option<
     }
 }
 
-// Another node comes before that one, if there is one.
+// Makes another node the one before that one, if there is one.
 fn set_before(nodes: &mut Slab<Node>, way: Way, node: Option<usize>, before: Option<usize>)
     requires { IsThere nodes.old node }
     ensures links { (n : ℕ) → sides way nodes.new n ≡ with_before (sides way nodes.old) node before n }

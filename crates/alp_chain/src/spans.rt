@@ -83,7 +83,7 @@ impl Chains {
         Ok(self.add_span_reserved(resource, trans, span, mode))
     }
 
-    // The same where there is room to spare.
+    // Locks a run of pages for a transaction, where there is room to spare.
     fn add_span_reserved(&mut self, resource: u32, trans: u32, span: Span, mode: Mode) -> usize
         requires room { span.count + 2 ≤ self.old.spare }
         requires count { 1 ≤ span.count }

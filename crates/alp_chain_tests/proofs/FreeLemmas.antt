@@ -44,7 +44,7 @@ pub free-kept : (r t p : ℕ) (s : Span) (m : Mode) (c d : Chains) → is_among 
 free-kept r t p s m c d out l k free u = go (cases_eq u t) where
   go : (u ≡ t) ⊎ (u ≡ t → ⊥) → IsFree p (runs d.nodes r u)
   go (inl e) = subst (λ (x : ℕ). IsFree p (runs d.nodes r x)) (sym e) (l.free p out (free t))
-  go (inr other) n a e = free u n a (sym (others-runs r u r t c d k (λ g f. other f) n) ∙ e)
+  go (inr other) = λ n a e. free u n a (sym (others-runs r u r t c d k (λ g f. other f) n) ∙ e)
 
 -- ---- a node that was put
 

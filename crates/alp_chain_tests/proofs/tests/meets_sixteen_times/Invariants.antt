@@ -1,4 +1,4 @@
 use Rattle.alp_chain_tests.proofs.tests.meets_sixteen_times.Given as goal
 
 abbrev pub ghosts-release : goal.ghosts-release
-ghosts-release g a = record { name = a.blank.name; parts = a.blank.parts }
+ghosts-release a = record { name = a.blank.name; parts = a.blank.parts }
