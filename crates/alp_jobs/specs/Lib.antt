@@ -1,0 +1,4 @@
+pub mod Deeds
+pub mod Does
+pub mod States
+pub mod Jobs
