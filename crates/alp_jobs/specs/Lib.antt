@@ -2,3 +2,4 @@ pub mod Deeds
 pub mod Does
 pub mod States
 pub mod Jobs
+pub mod Ticks

@@ -4,11 +4,13 @@
 mod gate;
 mod items;
 mod job;
+mod laws;
 mod queues;
 mod stage;
 mod to_do;
 
 pub use gate::{Gate, OpenGate};
 pub use job::Job;
+pub use laws::ticks_follow_collects;
 pub use stage::{Stage, Way};
 pub use to_do::ToDo;
