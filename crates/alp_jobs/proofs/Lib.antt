@@ -1,0 +1,3 @@
+pub mod QueueLemmas
+pub mod RestLemmas
+pub mod TickLemmas

@@ -1,0 +1,5 @@
+pub mod Deeds
+pub mod Does
+pub mod States
+pub mod Jobs
+pub mod Ticks
