@@ -1,0 +1,6 @@
+mod OrderLemmas
+mod RunLemmas
+mod CourseLemmas
+mod ServedLemmas
+mod ClosedLemmas
+mod CarriedLemmas

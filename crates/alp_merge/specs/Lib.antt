@@ -1,0 +1,5 @@
+pub mod Turns
+pub mod Served
+pub mod Closed
+pub mod Carried
+pub mod Storms
