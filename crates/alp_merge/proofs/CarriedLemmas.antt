@@ -251,9 +251,9 @@ module _ {S B E : Type 0} (base_of : S → B) (sight : Sight B E) where
     done = d.done;
     are = subst (λ (us : List (ℕ × E)). AreTurnsOf t r.pair.to (all_read base_of sight base read here) d.done (list_map (read_turn base_of sight base read) us)) (sym turns_are) d.are;
     sent = d.sent;
+    taken = h.taken;
     carried = record {
       next = c.next;
-      taken = h.taken;
       from_first = h.are_taken.from_first;
       within =
           (let low : c.next ≤ length (sent_before base_of sight r.from.now c.sender) = h.are_taken.within in

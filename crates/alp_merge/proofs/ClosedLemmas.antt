@@ -17,7 +17,7 @@ use Rattle.alp_merge.proofs.CourseLemmas.{GoesBy, AreMerged, merge}
 use Rattle.alp_merge.proofs.RunLemmas.{Runs, runs_journal, runs_ranks}
 use Rattle.alp_merge.proofs.ServedLemmas.{IsOne, IsTold, served}
 
-all_in : (P : Occurrence → Type 0) (o : Occurrence) (os : List Occurrence) → AllByRecursion P os → IsIn o os → P o
+pub all_in : (P : Occurrence → Type 0) (o : Occurrence) (os : List Occurrence) → AllByRecursion P os → IsIn o os → P o
 all_in P o [] all i = absurd i
 all_in P o (x ∷ os) all (inl same) = subst P (sym same) all.0
 all_in P o (x ∷ os) all (inr i) = all_in P o os all.1 i

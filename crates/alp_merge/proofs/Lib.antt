@@ -1,6 +1,7 @@
-mod OrderLemmas
-mod RunLemmas
-mod CourseLemmas
-mod ServedLemmas
-mod ClosedLemmas
-mod CarriedLemmas
+pub mod OrderLemmas
+pub mod RunLemmas
+pub mod CourseLemmas
+pub mod ServedLemmas
+pub mod ClosedLemmas
+pub mod CarriedLemmas
+pub mod StormLemmas

@@ -196,10 +196,15 @@ module _ (s0 : Seat) (n passes : ℕ) (who : ℕ → Who) (all : List Ranked) wh
 
       -- what is left then was left before
       was_left : (y : Turn) → IsOne passes who left_now y → IsOne passes who left y
-      was_left y one = record { pass = one.pass; within = one.within; who_is = one.who_is; among = elim (cases_eq one.pass j) [
-        | inl same ↦ subst (λ (i : ℕ). IsIn y.occurrence (left i)) (sym same) (subst (IsIn y.occurrence) (sym are) (inr (subst (IsIn y.occurrence) (mine one.pass same) one.among)))
-        | inr away ↦ subst (IsIn y.occurrence) (theirs one.pass away) one.among
-      ] }
+      was_left y one = record {
+        pass = one.pass;
+        within = one.within;
+        who_is = one.who_is;
+        among = elim (cases_eq one.pass j) [
+          | inl same ↦ subst (λ (i : ℕ). IsIn y.occurrence (left i)) (sym same) (subst (IsIn y.occurrence) (sym are) (inr (subst (IsIn y.occurrence) (mine one.pass same) one.among)))
+          | inr away ↦ subst (IsIn y.occurrence) (theirs one.pass away) one.among
+        ];
+      }
 
       others_one : (ys : List Turn) → AllByRecursion (λ (y : Turn). IsOne passes who left_now y) ys → AllByRecursion (λ (y : Turn). IsOne passes who left y) ys
       others_one [] ones = tt

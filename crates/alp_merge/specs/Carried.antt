@@ -79,11 +79,10 @@ module _ (Starved : ℕ → Message → Type 0) (from to : ℕ) (base entries : 
     one_missed : (place behind : ℕ) (x : Taken) (xs : List Taken) (os : List Occurrence) → place ≤ behind → behind ≤ length entries → IsKeptOff (Starved behind x.message) x.seen (base ++ take behind entries)
         → AreBroughtTo behind xs os → AreBroughtTo place (x ∷ xs) os
 
--- The messages to a server, from this place of all that the sender sent up to the next one: they were taken, in order and each once. They
--- were brought as the plan of the seed says.
-pub record AreCarriedBy (Starved : ℕ → Message → Type 0) (seed first : ℕ) (from to : ℕ) (there here : List Ranked) (there_more here_more : List Ranked) (done : List Occurrence) : Type 0 where
+-- These are the messages to a server from this place of all that the sender sent up to some next one, in order and each once. They were
+-- brought as the plan of the seed says.
+pub record AreCarriedBy (Starved : ℕ → Message → Type 0) (seed first : ℕ) (from to : ℕ) (there here : List Ranked) (there_more here_more : List Ranked) (taken : List Taken) (done : List Occurrence) : Type 0 where
   pub next : ℕ
-  pub taken : List Taken
   pub from_first : first ≤ next
   pub within : next ≤ length (sent_in (there ++ there_more))
   pub are : list_map message_of taken ≡ addressed_to to (drop first (take next (sent_in (there ++ there_more))))
@@ -117,7 +116,8 @@ module _ {S B E : Type 0} (base_of : S → B) (sight : Sight B E) (base : B → 
     pub done : List Occurrence
     pub are : AreTurnsOf t r.pair.to (all_read here) done (list_map read_turn (turns c.receiver))
     pub sent : AllByRecursion (WasSentThere r s there) done
-    pub carried : AreCarriedBy (was_starved r here) seed r.pair.first r.pair.from r.pair.to (base_there r) (base_here r) (all_read there) (all_read here) done
+    pub taken : List Taken
+    pub carried : AreCarriedBy (was_starved r here) seed r.pair.first r.pair.from r.pair.to (base_there r) (base_here r) (all_read there) (all_read here) taken done
 
 module _ {S B E : Type 0} (base_of : S → B) (sight : Sight B E) where
   -- Each carrier that began with new passes did that.

@@ -3,3 +3,5 @@ pub mod Served
 pub mod Closed
 pub mod Carried
 pub mod Storms
+pub mod Threads
+pub mod Stormed

@@ -1,7 +1,7 @@
 -- A storm: client threads and carriers take turns at servers, and the turns of all are a course.
-use Rattle.std.specs.Prelude.{◌≡◌, ℕ, zero, suc, ◌+◌, ◌*◌, ◌%◌, ◌^◌, ◌==◌, ◌&&◌, Bool, true, false, List, [], ◌∷◌, length, filter, flat_map, map as list_map, if◌then◌else◌}
+use Rattle.std.specs.Prelude.{◌≡◌, ℕ, zero, suc, ◌+◌, ◌*◌, ◌%◌, ◌^◌, ◌==◌, ◌&&◌, Bool, true, false, IsTrue, List, [], ◌∷◌, ◌++◌, length, filter, flat_map, map as list_map, if◌then◌else◌}
 use Rattle.std.specs.List.{AllByRecursion}
-use Rattle.alp_base.specs.declared.ids.TransId.{TransId}
+use Rattle.alp_carrier.specs.declared.taken.Taken.{Taken}
 use Rattle.alp_jobs.specs.Deeds.{Deed, sends, gives_tick, gives_timeout}
 use Rattle.alp_jobs.specs.Does.{DoesJob}
 use Rattle.alp_journal.specs.Moves.{stops}
@@ -11,7 +11,7 @@ use Rattle.alp_journal.specs.declared.message.Message.{Message}
 use Rattle.alp_lines.specs.declared.line.Line.{Line}
 use Rattle.alp_session.specs.Crowd.{Crowd}
 use Rattle.alp_session.specs.Crowds.{lent_crowd}
-use Rattle.alp_course.specs.Courses.{Course, Seat, seat_at, AreTwo, Occurrence, at, comes, loses, AreCourse}
+use Rattle.alp_course.specs.Courses.{Course, seat_at, IsSeat, AreTwo, Occurrence, at, comes, loses, AreCourse}
 use Rattle.alp_course.specs.Happens.{Happening, sent_it, timed_out, ticked}
 use Rattle.alp_course.specs.Languages.{Language, Nothing, Just, Each}
 use Rattle.alp_merge.specs.Carried.{sent_in, AreCarriedBy}
@@ -70,9 +70,10 @@ abbrev pub entries_since : ℕ → List Turn → List Ranked
 entries_since n turns = list_map ranked_in (turns_at n turns)
 
 -- From the first message on that the sender had not sent as the storm began, the carrier of the pair took all up to some place, and brought them by its plan.
-abbrev pub IsCarriedPair : (Starved : ℕ → ℕ → ℕ → Message → Type 0) (plan : ℕ) → Course → List Turn → (from to : ℕ) → Type 0
-IsCarriedPair Starved plan r turns from to =
-    AreCarriedBy (Starved from to) (pair_seed plan from to) (length (sent_in (entries_at r from))) from to (entries_at r from) (entries_at r to) (entries_since from turns) (entries_since to turns) (done_by (is_carrier from to) (turns_at to turns))
+abbrev pub IsCarriedPair : (Starved : ℕ → ℕ → ℕ → Message → Type 0) (plan : ℕ) → Course → List Turn → (from to : ℕ) → List Taken → Type 0
+IsCarriedPair Starved plan r turns from to taken =
+    AreCarriedBy (Starved from to) (pair_seed plan from to) (length (sent_in (entries_at r from))) from to (entries_at r from) (entries_at r to) (entries_since from turns) (entries_since to turns) taken
+    (done_by (is_carrier from to) (turns_at to turns))
 
 -- ---- what was taken
 
@@ -85,32 +86,29 @@ IfOther true A = Nothing
 IfOther false A = A
 
 -- behind the threads, pair by pair: as many messages count as taken as its carrier took
-abbrev pub AreTakenFor : (servers : ℕ) (counts : ℕ → ℕ → ℕ) → Language
-AreTakenFor servers counts = Each (λ from. Each (λ to. IfOther (from == to) (Just (times (counts from to) (loses from to)))) servers) servers
+abbrev pub AreCounted : (servers : ℕ) (took : (from to : ℕ) → List Taken) → Language
+AreCounted servers took = Each (λ from. Each (λ to. IfOther (from == to) (Just (times (length (took from to)) (loses from to)))) servers) servers
 
 -- ---- the storm
 
 -- a turn of a job's client, or of the carrier that brought the message
-abbrev pub IsBy : (IsJob : ℕ → Type 0) → Who → Occurrence → Type 0
-IsBy IsJob (worker k) (at n h) = IsJob k
-IsBy IsJob (carrier from to) (comes f t m seen) = (f ≡ from) × (t ≡ to)
-IsBy IsJob w o = ⊥
+abbrev pub IsBy : (is_job : ℕ → Bool) → Who → Occurrence → Type 0
+IsBy is_job (worker k) (at n h) = IsTrue (is_job k)
+IsBy is_job (carrier from to) (comes f t m seen) = (f ≡ from) × (t ≡ to)
+IsBy is_job w o = ⊥
 
 -- From a course to another one. Each job's client does what its lines say by what it is handed, and its turns at each server are its deeds
 -- there, in its order. Carriers bring what was sent, by the plan. Nothing else happens, and no server stops. What was taken is counted behind.
 -- That memory was refused is no matter of the journals, so it is told of each pair, place and message.
-pub record IsStorm (plan : ℕ) (IsJob : ℕ → Type 0) (job : ℕ → List (List Line)) (Starved : ℕ → ℕ → ℕ → Message → Type 0) (c : Crowd) (r after : Course) (deeds : ℕ → List Deed) (knows : ℕ → Crowd) : Type 0 where
+pub record IsStorm (plan : ℕ) (is_job : ℕ → Bool) (job : ℕ → List (List Line)) (Starved : ℕ → ℕ → ℕ → Message → Type 0) (c : Crowd) (r after : Course) (deeds : ℕ → List Deed) (knows : ℕ → Crowd) : Type 0 where
   pub turns : List Turn
-  pub middle : Course
-  pub taken : List Occurrence
+  pub took : (from to : ℕ) → List Taken
+  pub counted : List Occurrence
   pub ordered : AreInOrder 0 turns
-  pub course : AreCourse r (list_map occurrence_in turns) middle
-  pub works : (k : ℕ) → IsJob k → DoesJob k (job k) (lent_crowd c k) (deeds k) (knows k)
-  pub own : (k n : ℕ) → IsJob k → done_by (is_worker k) (turns_at n turns) ≡ deeds_at k n (deeds k)
-  pub others : AllByRecursion (λ (x : Turn). IsBy IsJob x.who x.occurrence) turns
-  pub carried : (from to : ℕ) → AreTwo r from to → IsCarriedPair Starved plan r turns from to
+  pub works : (k : ℕ) → IsTrue (is_job k) → DoesJob k (job k) (lent_crowd c k) (deeds k) (knows k)
+  pub own : (k n : ℕ) → IsTrue (is_job k) → IsSeat r n → done_by (is_worker k) (turns_at n turns) ≡ deeds_at k n (deeds k)
+  pub carried : (from to : ℕ) → AreTwo r from to → IsCarriedPair Starved plan r turns from to (took from to)
+  pub others : AllByRecursion (λ (x : Turn). IsBy is_job x.who x.occurrence) turns
   pub calm : AllByRecursion (λ (x : Turn). stops x.entry ≡ false) turns
-  pub counts : ℕ → ℕ → ℕ
-  pub counted : (from to : ℕ) (two : AreTwo r from to) → counts from to ≡ length (carried from to two).taken
-  pub lost : AreTakenFor (length r.seats) counts taken
-  pub behind : AreCourse middle taken after
+  pub are_counted : AreCounted (length r.seats) took counted
+  pub course : AreCourse r (list_map occurrence_in turns ++ counted) after

@@ -3,4 +3,4 @@
 
 mod laws;
 
-pub use laws::{carriers_take_turns, storms_are_courses};
+pub use laws::{carriers_take_turns, storms_are_courses, threads_make_a_storm};
