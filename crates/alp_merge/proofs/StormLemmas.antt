@@ -127,6 +127,7 @@ storm_of plan is_job job Starved c r passes who history done deeds took knows mi
         counted = xs;
         ordered = a.ordered;
         works = works;
+        among = threads.among;
         own = own_deeds plan is_job Starved r passes who history done deeds took a threads;
         carried = carried_pair plan is_job Starved r passes who history done deeds took a threads;
         others = by_them plan is_job Starved r passes who history done deeds took a threads a.turns a.all;
