@@ -1,7 +1,7 @@
 -- What occurs in the run of a storm agrees with the clients' lists, server by server.
 use Rattle.std.specs.Prelude.{◌==◌, Bool, true, false, IsTrue, cond, filter, map as list_map, if◌then◌else◌}
 use Rattle.std.specs.List.{AllByRecursion}
-use Rattle.std.proofs.Common.{◌≡◌, ◌⊎◌, ℕ, zero, suc, ◌+◌, ◌<◌, ◌≤◌, List, [], ◌∷◌, ◌++◌, length, inl, inr, refl, sym, ◌∙◌, ap, subst, arith, eq-eqb, ne_eqb}
+use Rattle.std.proofs.Common.{◌≡◌, ◌⊎◌, ℕ, zero, suc, ◌<◌, ◌≤◌, List, [], ◌∷◌, ◌++◌, length, inl, inr, refl, sym, ◌∙◌, ap, subst, arith, eq-eqb, ne_eqb}
 use Rattle.std.proofs.lemmas.Bool.{cases_eq}
 use Rattle.std.proofs.lemmas.List.{append-nil}
 use Rattle.alp_carrier.specs.declared.taken.Taken.{Taken}
@@ -15,8 +15,8 @@ use Rattle.alp_script.specs.declared.numbered.NumberedLine.{NumberedLine}
 use Rattle.alp_session.specs.Crowd.{Crowd}
 use Rattle.alp_session.specs.Crowds.{new_crowd}
 use Rattle.alp_course.specs.Courses.{Course, IsOneOf, IsSeat, Occurrence, at, looks, brings, loses, repeats, comes, rests, Occurs, AreCourse}
-use Rattle.alp_course.specs.Happens.{Happening, sent_it, timed_out, ticked, forced, stop_set, restarted, lifts, finds}
-use Rattle.alp_course.specs.Languages.{Language, Nothing, Just, Then, Each}
+use Rattle.alp_course.specs.Happens.{sent_it, timed_out, ticked, forced, stop_set, restarted, lifts, finds}
+use Rattle.alp_course.specs.Languages.{Language, Just, Each}
 use Rattle.alp_course.specs.Plays.{sent_of}
 use Rattle.alp_course.specs.Turns.{Turn as LineTurn, turns_of, own_in, sent_in}
 use Rattle.alp_course.proofs.LanguageLemmas.{IsVia, course_split}
@@ -25,7 +25,7 @@ use Rattle.alp_course.proofs.RankLemmas.{below_or}
 use Rattle.alp_course.proofs.UpLemmas.{many_on}
 use Rattle.alp_merge.specs.Served.{done_by}
 use Rattle.alp_merge.specs.Stormed.{IsStormed, occurred_in}
-use Rattle.alp_merge.specs.Storms.{is_worker, place_of, happening_of, deeds_at, items_by, items_of, times, IfOther, AreCounted, IsBy, IsStorm}
+use Rattle.alp_merge.specs.Storms.{is_worker, place_of, happening_of, deeds_at, items_of, times, IfOther, AreCounted, IsBy, IsStorm}
 use Rattle.alp_merge.specs.Turns.{Who, worker, carrier, Turn, occurrence_in, server_of, turns_at}
 
 -- ---- the items of a client at a server

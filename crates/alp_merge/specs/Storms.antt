@@ -1,5 +1,5 @@
 -- A storm: client threads and carriers take turns at servers, and the turns of all are a course.
-use Rattle.std.specs.Prelude.{◌≡◌, ℕ, zero, suc, ◌+◌, ◌*◌, ◌%◌, ◌^◌, ◌==◌, ◌&&◌, Bool, true, false, IsTrue, List, [], ◌∷◌, ◌++◌, length, filter, flat_map, map as list_map, if◌then◌else◌}
+use Rattle.std.specs.Prelude.{◌≡◌, ℕ, zero, suc, ◌+◌, ◌*◌, ◌%◌, ◌^◌, ◌==◌, ◌&&◌, Bool, true, false, IsTrue, List, [], ◌∷◌, ◌++◌, length, filter, flat_map, map as list_map}
 use Rattle.std.specs.List.{AllByRecursion}
 use Rattle.alp_carrier.specs.declared.taken.Taken.{Taken}
 use Rattle.alp_jobs.specs.Deeds.{Deed, sends, gives_tick, gives_timeout}
