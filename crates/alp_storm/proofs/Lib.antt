@@ -1,3 +1,4 @@
+mod Fronts
 mod Lists
 mod Sets
 mod ToldLemmas
@@ -5,7 +6,3 @@ mod TurnLemmas
 mod RingLemmas
 mod WorkLemmas
 mod DeedLemmas
-mod Histories
-mod Closes
-mod Spreading
-mod TaskLemmas

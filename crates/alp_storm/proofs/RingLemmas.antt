@@ -7,7 +7,7 @@ use Rattle.alp_monitor.specs.Passes.{IsHeld, number}
 use Rattle.alp_monitor.specs.declared.monitor.Monitor.{Monitor}
 use Rattle.alp_monitor.specs.declared.monitor.Pass.{Pass}
 use Rattle.alp_carrier.specs.Takes.{IsLater}
-use Rattle.alp_carrier.proofs.Fronts.{begins_itself}
+use Rattle.alp_storm.proofs.Fronts.{begins_itself}
 use Rattle.alp_storm.specs.Rings.{IsRing, IsTurned}
 use Rattle.alp_storm.proofs.Lists.{same_some}
 use Rattle.alp_storm.proofs.Sets.{get_set}

@@ -1,5 +1,5 @@
 -- what one turn of a worker tells
-use Rattle.std.specs.Prelude.{◌⊎◌, Result, Ok, Err, IfOk, IfErr}
+use Rattle.std.specs.Prelude.{◌⊎◌, Some, Result, Ok, Err, IfOk, IfErr}
 use Rattle.std.specs.List.{list_any}
 use Rattle.std.proofs.Common.{inl, inr, ◌≡◌, ℕ, ◌+◌, ◌<◌, ◌≤◌, List, [], ◌∷◌, ◌++◌, length, take, true, refl, sym, ap, ◌∙◌, subst, arith, length-append}
 use mathlib.Core.List.{IsPrefix}
@@ -7,16 +7,27 @@ use lib.ListN.{length-map}
 use Rattle.alp_journal.specs.Answered.{entries_limit}
 use Rattle.alp_journal.specs.declared.event.Event.{Event}
 use Rattle.alp_monitor.specs.History.{entries_in, entry_of, turns_of, AddsAtMostOne}
-use Rattle.alp_monitor.specs.Passes.{number, front, turns, first_base}
+use Rattle.alp_monitor.specs.Passes.{IsHeld, IsSamePass, IsOutside, base_of_pass, number, front, turns, first_base}
 use Rattle.alp_monitor.specs.declared.monitor.Monitor.{Monitor}
 use Rattle.alp_monitor.specs.declared.monitor.Pass.{Pass}
 use Rattle.alp_carrier.specs.Takes.{IsLater}
-use Rattle.alp_carrier.proofs.Fronts.{same_entries, all_entries}
+use Rattle.alp_storm.proofs.Fronts.{begins_through, same_entries, all_entries, same_some}
 use Rattle.alp_storm.specs.Logs.{Log, IsMadeOf, HasAnswered, HasFailed, EndsStep, has_failed, shows_fault}
 use Rattle.alp_storm.specs.Turns.{WasMade, WasAnswered, IsIdle, IsBroken, HasTaken, EndsTurn, Took}
 use Rattle.alp_storm.specs.declared.fault.StormFault.{StormFault}
 use Rattle.alp_storm.specs.declared.fault.StormFault.TheVariants as fault
 use Rattle.alp_storm.specs.declared.host.Answer.{Answer}
+
+module _ {S B E : Type 0} (base_of : S → B) (m : Monitor S B E) where
+  -- a pass before, inside and after a turn
+  pub later_turn : (p q r : Pass S B E) → IsHeld base_of m (number p) p → IsSamePass p q → IsPrefix (front p) (front q) → IsSamePass q r → IsOutside r → IsPrefix (front q) (front r) → IsLater base_of m p r
+  later_turn p q r h one begins_one two outside begins_two = record {
+    held = record { ready = record { own = two.table ∙ (one.table ∙ h.ready.own); outside = outside; number_is = two.number ∙ one.number }; base = two.base ∙ (one.base ∙ h.base) };
+    begins = begins_through (front p) (front q) (front r) begins_one begins_two;
+  }
+
+  pub base_there : (p : Pass S B E) (y : S) → IsHeld base_of m (number p) p → base_of_pass p ≡ Some (base_of y) → base_of y ≡ first_base base_of m
+  base_there p y h e = same_some (base_of y) (first_base base_of m) (sym e ∙ h.base)
 
 module _ {B E : Type 0} (log : Log B E) (b : B) where
   -- a step adds one entry at most
@@ -79,10 +90,13 @@ module _ {S B E : Type 0} (base_of : S → B) (log : Log B E) (m : Monitor S B E
   seen is = was ∙ ap entries_in (sym (none (is ∙ was)))
 
   ends : (f : StormFault) → EndsStep log b before now e f → EndsTurn base_of log m e d q f
-  ends (fault.DiskFault server) h = (h.0 ∙ ap log.server base, elim h.1 [
-    | inl x ↦ inl (broken x)
-    | inr x ↦ inr (idle x.0, sym (λ i. has_failed log (base i) (seen x.0 i)) ∙ x.1)
-  ])
+  ends (fault.DiskFault server) h = (
+    h.0 ∙ ap log.server base,
+    elim h.1 [
+      | inl x ↦ inl (broken x)
+      | inr x ↦ inr (idle x.0, sym (λ i. has_failed log (base i) (seen x.0 i)) ∙ x.1)
+    ],
+  )
   ends (fault.JournalFull server) h = (
     h.0 ∙ ap log.server base,
     idle h.1,

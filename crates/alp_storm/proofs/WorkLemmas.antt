@@ -18,7 +18,7 @@ use Rattle.alp_monitor.specs.Passes.{IsHeld, front, turns, first_base}
 use Rattle.alp_monitor.specs.declared.monitor.Monitor.{Monitor}
 use Rattle.alp_monitor.specs.declared.monitor.Pass.{Pass}
 use Rattle.alp_carrier.specs.Takes.{IsLater}
-use Rattle.alp_carrier.proofs.Fronts.{begins_through, not_longer, same_entries, get_within}
+use Rattle.alp_storm.proofs.Fronts.{begins_through, not_longer, same_entries, get_within}
 use Rattle.alp_storm.specs.Logs.{Log, IsMadeOf}
 use Rattle.alp_storm.specs.Turns.{WasMade, WasAnswered, IsIdle, IsBroken, HasTaken, EndsTurn, Took}
 use Rattle.alp_storm.specs.Rings.{IsRing, IsTurned, StandsAt}
@@ -28,7 +28,7 @@ use Rattle.alp_storm.specs.declared.fault.StormFault.TheVariants as fault
 use Rattle.alp_storm.specs.declared.host.Answer.{Answer}
 use Rattle.alp_storm.proofs.Lists.{same_some}
 use Rattle.alp_storm.proofs.Sets.{get_set, set_same, set_other}
-use Rattle.alp_storm.proofs.RingLemmas.{eq_or, later_held, ring_set, ring_turned}
+use Rattle.alp_storm.proofs.RingLemmas.{eq_or, later_same, ring_turned}
 
 -- ---- deeds of one server
 
@@ -58,12 +58,12 @@ items_one xs d = items_both xs (d ∷ []) ∙ ap (λ l. items_of xs ++ l) (appen
 module _ {B E : Type 0} (log : Log B E) (b : B) (f g : List (ℕ × E)) (begins : IsPrefix f g) where
   made_longer : (e : Event) (t : ℕ × E) → WasMade log b f e t → WasMade log b g e t
   made_longer e t w = record {
-    within = not_longer f g (t.0 + 1) begins (let l = w.within in omega (arith, l));
+    within = (let l = w.within in let m = not_longer f g (t.0 + 1) begins (omega (arith, l)) in omega (arith, m));
     made = subst (λ (es : List E). IsMadeOf log b es e t.1) (same_entries f g t.0 begins (let l = w.within in omega (arith, l))) w.made;
   }
 
   turn_longer : (d : Deed) (t : ℕ × E) → IsTurnOf log b f d t → IsTurnOf log b g d t
-  turn_longer d t w = record { event = w.event; event_is = w.event_is; was = made_longer w.event t w.was; item = w.item; calm = w.calm }
+  turn_longer d t w = record { what = w.what; what_is = w.what_is; was = made_longer w.what t w.was; item = w.item; calm = w.calm }
 
   turns_longer : (ds : List Deed) (ts : List (ℕ × E)) → AreTurnsOf log b f ds ts → AreTurnsOf log b g ds ts
   turns_longer [] [] h = tt
@@ -92,8 +92,8 @@ module _ {S B E : Type 0} (base_of : S → B) (log : Log B E) (m : Monitor S B E
     more = old.more ++ h.turn ∷ [];
     turns_are = h.one ∙ (ap (λ l. l ++ h.turn ∷ []) old.turns_are ∙ append_assoc (turns p) old.more (h.turn ∷ []));
     deeds_are = turns_more log (first_base base_of m) (front r) ds old.more d h.turn (turns_longer log (first_base base_of m) (front q) (front r) h.later.begins ds old.more old.deeds_are) (record {
-      event = e;
-      event_is = subst (λ n. IsEventOf n d e) h.was.epoch_is event;
+      what = e;
+      what_is = subst (λ n. IsEventOf n d e) h.was.epoch_is event;
       was = h.was.was;
       item = item_as d a.reply (log.entry h.turn.1).reply a.place (log.since (first_base base_of m) + h.turn.0) item h.was.reply_is h.was.place_is;
       calm = h.was.calm;
@@ -147,6 +147,22 @@ module _ {S B E : Type 0} (base_of : S → B) (log : Log B E) (ms : List (Monito
       items_are = items ∙ w.items_are;
     }
 
+    -- a worker that did nothing yet
+    pub begun : (job : JobState) (ps : List (Pass S B E)) → IsRing base_of ms k ps → IsReady job.number (client_at job.crowd job.number) → HasWorked base_of log ms k job ps job ps
+    begun job ps ring ready = record {
+      ring_is = ring;
+      ready = ready;
+      deeds = [];
+      did = λ ds d rest. rest;
+      took = λ i m p q m_is p_is q_is. subst (λ (x : Pass S B E). Takes base_of log m [] p x) (same_some p q (sym p_is ∙ q_is)) (record {
+        later = later_same base_of m k p (ring.held i m p m_is p_is);
+        more = [];
+        turns_are = sym (append-nil (turns p));
+        deeds_are = tt;
+      });
+      items_are = sym (append-nil job.items);
+    }
+
     -- a worker that stops where it is
     pub stops_here : (f : StormFault) (job : JobState) (qs rs : List (Pass S B E)) → IsRing base_of ms k rs → EndsWork base_of log ms f qs rs → StopsIn base_of log ms k f job qs job rs
     stops_here f job qs rs ring why old first w = record { before = qs; worked = w; ring_is = ring; why = why }
@@ -175,29 +191,35 @@ module _ {S B E : Type 0} (base_of : S → B) (log : Log B E) (ms : List (Monito
   turn_ended (Ok a) f is t = cc
   turn_ended (Err (fault.DiskFault server)) f is t = subst (λ (x : StormFault). EndsWork base_of log ms x ps qs) (same_err (fault.DiskFault server) f is) (i, e, t)
   turn_ended (Err (fault.JournalFull server)) f is t = subst (λ (x : StormFault). EndsWork base_of log ms x ps qs) (same_err (fault.JournalFull server) f is) (i, e, t)
-  turn_ended (Err fault.OutOfMemory) f is t = subst (λ (x : StormFault). EndsWork base_of log ms x ps qs) (same_err fault.OutOfMemory f is) (inr (i, record {
-    monitor = t.monitor;
-    old = t.old;
-    new = t.new;
-    monitor_is = t.monitor_is;
-    old_is = t.old_is;
-    now_is = t.now_is;
-    went = (let w : IsIdle base_of log t.monitor t.old t.new = t.went in record { later = w.later; at_most = inl w.none });
-  }))
+  turn_ended (Err fault.OutOfMemory) f is t = subst (λ (x : StormFault). EndsWork base_of log ms x ps qs) (same_err fault.OutOfMemory f is) (inr (
+    i,
+    record {
+      monitor = t.monitor;
+      old = t.old;
+      new = t.new;
+      monitor_is = t.monitor_is;
+      old_is = t.old_is;
+      now_is = t.now_is;
+      went = (let w : IsIdle base_of log t.monitor t.old t.new = t.went in record { later = w.later; at_most = inl w.none });
+    },
+  ))
   turn_ended (Err (fault.NoServer server)) f is t = absurd t.went
   turn_ended (Err fault.BadFrame) f is t = absurd t.went
 
   -- memory was refused behind it
   pub turn_unheard : (a : Answer) (server : ℕ) → HasTurned base_of log ms server e ps qs a → EndsWork base_of log ms fault.OutOfMemory ps qs
-  turn_unheard a server h = inr (h.place, record {
-    monitor = h.turned.monitor;
-    old = h.turned.old;
-    new = h.turned.new;
-    monitor_is = h.turned.monitor_is;
-    old_is = h.turned.old_is;
-    now_is = h.turned.now_is;
-    went = record { later = h.turned.went.later; at_most = inr (h.turned.went.turn, h.turned.went.one) };
-  })
+  turn_unheard a server h = inr (
+    h.place,
+    record {
+      monitor = h.turned.monitor;
+      old = h.turned.old;
+      new = h.turned.new;
+      monitor_is = h.turned.monitor_is;
+      old_is = h.turned.old_is;
+      now_is = h.turned.now_is;
+      went = record { later = h.turned.went.later; at_most = inr (h.turned.went.turn, h.turned.went.one) };
+    },
+  )
 
 -- a turn at the server of a number that was answered, or was not
 module _ {S B E : Type 0} (base_of : S → B) (log : Log B E) (ms : List (Monitor S B E)) (server i : ℕ) (e : Event) (ps qs : List (Pass S B E)) where

@@ -73,9 +73,9 @@ IsItemOf (gives_timeout server t) r place = Unit {0}
 module _ {B E : Type 0} (log : Log B E) (b : B) (history : List (ℕ × E)) where
   -- the turn, which stands at its place of the history, is this deed's
   pub record IsTurnOf (d : Deed) (t : ℕ × E) : Type 0 where
-    pub event : Event
-    pub event_is : IsEventOf (log.epoch b) d event
-    pub was : WasMade log b history event t
+    pub what : Event
+    pub what_is : IsEventOf (log.epoch b) d what
+    pub was : WasMade log b history what t
     pub item : IsItemOf d (log.entry t.1).reply (log.since b + t.0)
     pub calm : shows_fault (log.entry t.1) ≡ false
 

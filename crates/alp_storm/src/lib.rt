@@ -1,20 +1,13 @@
 //! Storms: the threads of clients and of carriers, over servers that take turns at monitors.
 #![tactic(auto)]
 
-mod errand;
 mod exchange;
 mod fault;
 mod host;
-mod opening;
 mod ring;
-mod storm;
-
-mod threads;
 mod turn;
 mod worker;
 
-pub use errand::{Errand, Task};
 pub use fault::StormFault;
 pub use host::{Answer, Host};
-pub use storm::{Stormed, storm};
-
+pub use worker::Worker;

@@ -94,13 +94,12 @@ impl<S: Host> Worker<S> {
         ensures ok { IfOk result (λ over. (over ≡ false) × WorksOn S.base S.log monitors.now self.old.number self.old.job self.old.ring.items self.new.job self.new.ring.items) }
         ensures err { IfErr result (λ f. StopsIn S.base S.log monitors.now self.old.number f self.old.job self.old.ring.items self.new.job self.new.ring.items) }
     {
-        match self.turn(rt, monitors, server, Event::Tick) {
-            Ok(_) => {
-                self.job.ticked();
-                Ok(false)
-            }
-            Err(fault) => Err(fault),
-        }
+        let _answer = match self.turn(rt, monitors, server, Event::Tick) {
+            Ok(answer) => answer,
+            Err(fault) => return Err(fault),
+        };
+        self.job.ticked();
+        Ok(false)
     }
 
     // It gives the Timeout that is due.
@@ -117,13 +116,12 @@ impl<S: Host> Worker<S> {
         ensures ok { IfOk result (λ over. (over ≡ false) × WorksOn S.base S.log monitors.now self.old.number self.old.job self.old.ring.items self.new.job self.new.ring.items) }
         ensures err { IfErr result (λ f. StopsIn S.base S.log monitors.now self.old.number f self.old.job self.old.ring.items self.new.job self.new.ring.items) }
     {
-        match self.turn(rt, monitors, server, Event::Timeout { trans }) {
-            Ok(_) => {
-                self.job.timed_out();
-                Ok(false)
-            }
-            Err(fault) => Err(fault),
-        }
+        let _answer = match self.turn(rt, monitors, server, Event::Timeout { trans }) {
+            Ok(answer) => answer,
+            Err(fault) => return Err(fault),
+        };
+        self.job.timed_out();
+        Ok(false)
     }
 
     // It goes on without a deed.
@@ -249,7 +247,7 @@ impl<S: Host> Worker<S> {
     }
 
     /// Does its job. Each time it has left the monitor of a call's turn it comes by the gate, and then its client hears the reply.
-    pub(crate) fn work<R: Wait, G: Gate>(
+    pub fn work<R: Wait, G: Gate>(
         self,
         rt: &R,
         gate: &G,

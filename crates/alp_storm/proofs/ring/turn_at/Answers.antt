@@ -41,4 +41,15 @@ returns-clause-took g c =
 
 pub returns-clause-ring : goal.returns-clause-ring
 returns-clause-ring g c k ring =
-    ring_took g.S.Story.base g.S.Host.log c.args.monitors.now c.args.at c.args.event c.args.ring.now.items c.put.new.list.items k c.take_turn-pass.result.1 (returns-clause-took g (goal.at.returns-clause-ring g c).returns-clause-took) ring
+    let at = (goal.at.returns-clause-ring g c).After-index-monitors-at in
+    let l = c.requires.ring.1.long in
+    let m = c.requires.at in
+    ring_took g.S.Story.base g.S.Host.log c.args.monitors.now c.args.at c.args.event c.args.ring.now.items c.put.new.list.items k c.take_turn-pass.result.1 (record {
+      monitor = c.index-monitors-at.result;
+      old = c.remove-pass.result;
+      new = c.take_turn-pass.result.0;
+      monitor_is = at_monitor g at;
+      old_is = at_pass g at;
+      now_is = c.put.ensures.items ∙ (ap (λ x. insert x c.args.at c.take_turn-pass.result.0) c.remove-pass.ensures.items ∙ put_back c.args.ring.now.items c.args.at c.take_turn-pass.result.0 (omega (arith, l, m)));
+      went = c.take_turn-pass.ensures;
+    }) ring

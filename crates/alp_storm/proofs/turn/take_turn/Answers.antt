@@ -1,8 +1,7 @@
 use Rattle.std.proofs.Common.{rules, subst, List}
 use Rattle.alp_monitor.specs.History.{AddsAtMostOne}
-use Rattle.alp_carrier.proofs.TurnLemmas.{later_turn, base_there}
 use Rattle.alp_storm.specs.Logs.{HasAnswered, EndsStep}
-use Rattle.alp_storm.proofs.TurnLemmas.{adds_one, took, ok_of, err_of}
+use Rattle.alp_storm.proofs.TurnLemmas.{later_turn, base_there, adds_one, took, ok_of, err_of}
 use Rattle.alp_storm.proofs.turn.take_turn.Goals as goal
 
 pub leave-requires-clause-history : goal.leave-requires-clause-history
