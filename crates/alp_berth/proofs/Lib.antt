@@ -1,0 +1,5 @@
+mod SendLemmas
+mod CountLemmas
+mod DeskLemmas
+mod BerthLemmas
+mod EntryLemmas

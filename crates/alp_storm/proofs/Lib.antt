@@ -1,0 +1,14 @@
+mod Fronts
+mod Lists
+mod Sets
+mod ToldLemmas
+mod TurnLemmas
+mod RingLemmas
+mod WorkLemmas
+mod DeedLemmas
+mod Histories
+mod Closes
+mod Spreading
+mod TaskLemmas
+mod BackLemmas
+mod ErrandLemmas

@@ -1,0 +1,6 @@
+pub mod Logs
+pub mod Turns
+pub mod Rings
+pub mod Works
+pub mod Errands
+pub mod Storms
