@@ -1,15 +1,14 @@
 -- What carriers brought, as turns.
-use Rattle.std.specs.Prelude.{◌==◌, Bool, true, false, max, take, drop, flat_map, get_or, map as list_map, slice_get, Option, None, Some, if◌then◌else◌}
+use Rattle.std.specs.Prelude.{◌==◌, Bool, true, false, max, take, drop, flat_map, get_or, map as list_map, slice_get, None, Some, if◌then◌else◌}
 use Rattle.std.specs.List.{AllByRecursion}
 use Rattle.std.proofs.Common.{◌≡◌, ◌⊎◌, ℕ, zero, suc, ◌+◌, ◌<◌, ◌≤◌, List, [], ◌∷◌, ◌++◌, length, inl, inr, refl, sym, ◌∙◌, ap, subst, arith}
-use Rattle.std.proofs.lemmas.List.{append_assoc, length-append, map-append, take-append-le, get_or_append_left}
+use Rattle.std.proofs.lemmas.List.{append_assoc, length-append, map-append, take-append-le}
 use lib.ListN.{length-map}
 use mathlib.Core.List.{IsPrefix}
-use Rattle.alp_carrier.specs.Brings.{IsPrevented, shut as seen_shut, starved as seen_starved, ranks_end_here as seen_here, ranks_end_there as seen_there, Came, IsMissed, AreBrought, nothing as none_brought, one_came as brought_one, one_missed as missed_one}
-use Rattle.alp_carrier.specs.Carries.{HasCarried}
+use Rattle.alp_carrier.specs.Brings.{IsPrevented, shut as seen_shut, starved as seen_starved, ranks_end_here as seen_here, ranks_end_there as seen_there, Came, AreBrought, nothing as none_brought, one_came as brought_one, one_missed as missed_one}
 use Rattle.alp_carrier.specs.Plans.{planned}
 use Rattle.alp_carrier.specs.Sights.{Arrival, Sight, next_rank}
-use Rattle.alp_carrier.specs.Takes.{addressed_to, message_of, sent_before}
+use Rattle.alp_carrier.specs.Takes.{addressed_to, sent_before}
 use Rattle.alp_carrier.specs.declared.carrying.Carried.{Carried}
 use Rattle.alp_carrier.specs.declared.route.Route.{Route}
 use Rattle.alp_carrier.specs.declared.taken.Taken.{Taken}
@@ -25,11 +24,10 @@ use Rattle.alp_journal.specs.declared.message.Message.{Message}
 use Rattle.alp_history.specs.Log.{IsIn}
 use Rattle.alp_monitor.specs.History.{entries_in, entry_of as entry_there, turns_from}
 use Rattle.alp_monitor.specs.Passes.{front, turns, number, first_base}
-use Rattle.alp_monitor.specs.declared.monitor.Pass.{Pass}
 use Rattle.alp_course.specs.Courses.{Seat, last_rank, IsSentBy, Occurrence, comes}
 use Rattle.alp_course.proofs.LinkLemmas.{get_left}
 use Rattle.alp_course.proofs.RankLemmas.{get_below}
-use Rattle.alp_merge.specs.Carried.{sent_by, ranked_as, sent_at, sent_in, arrival_by, IsShutBehind, IsReadAs, IsBased, IsKeptOff, shut, starved, ranks_end_here, ranks_end_there, AreBroughtTo, nothing, one_came, one_missed, AreCarriedBy, base_there, base_here, all_read, read_turn, was_starved, WasSentThere, IsCarrying, CarriersTakeTurns}
+use Rattle.alp_merge.specs.Carried.{sent_by, ranked_as, sent_at, sent_in, arrival_by, IsShutBehind, IsReadAs, IsBased, IsKeptOff, shut, starved, ranks_end_here, ranks_end_there, AreBroughtTo, nothing, one_came, one_missed, base_there, base_here, all_read, read_turn, was_starved, WasSentThere, CarriersTakeTurns}
 use Rattle.alp_merge.specs.Served.{Ranked, entry_of, rank_of, entries_of, ranks_of, seat_behind, IsTurnOf, AreTurnsOf}
 
 -- ---- which entry sent it
