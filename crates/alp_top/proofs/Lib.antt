@@ -1,7 +1,5 @@
 pub mod AlikeLemmas
-pub mod AloneLemmas
 pub mod BackLemmas
-pub mod LonelyLemmas
 pub mod BeginLemmas
 pub mod BegunLemmas
 pub mod CommandLemmas
