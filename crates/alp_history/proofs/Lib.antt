@@ -85,5 +85,11 @@ pub mod Performed
 pub mod EffectiveActs
 pub mod RightNeighbours
 pub mod Shared
+pub mod CommittedActs
+pub mod SharesKept
+pub mod TellLemmas
+pub mod TellEntries
+pub mod PartsAgree
+pub mod OneThread
 pub mod RefusedAnswers
 pub mod RefusalLemmas
