@@ -148,8 +148,7 @@ module _ (log : Log) (proper : IsProper log) (answered : (n : ℕ) → Along nex
           let its : AreRight n (begun s) v.0.who v.0.calls = (subst (one.IsSerial n s) v.1 right).0 in
           let calls : AreRight n (begun t) v.0.who (list_map (λ (d : Done). d.call) (part_at log x n)) = subst (λ (cs : List PerformedCall). AreRight n (begun t) v.0.who cs) part.0 (subst (λ (z : Standing). AreRight n z v.0.who v.0.calls) (begun-same s t same) its) in
           let ends : steps n (begun s) v.0.who v.0.calls ≡ doing n (begun t) (part_at log x n) =
-          (λ i. steps n (begun-same s t same i) v.0.who (part.0 i)) ∙ sym (doing-steps n (begun t) v.0.who (part_at log x n) part.1) in
-          (
+          (λ i. steps n (begun-same s t same i) v.0.who (part.0 i)) ∙ sym (doing-steps n (begun t) v.0.who (part_at log x n) part.1) in (
             answered-right n (begun t) v.0.who (part_at log x n) part.1 calls,
             subst (λ (qs : List Decided). IsSame (one.serial_end n s qs) (doing n (begun t) (part_at log x n))) (sym v.1) (ap (λ (z : Standing). z.files) ends, ap (λ (z : Standing). z.made) ends),
           )
@@ -159,8 +158,7 @@ module _ (log : Log) (proper : IsProper log) (answered : (n : ℕ) → Along nex
       → ((n : ℕ) → one.IsSerial n (old n) (all_on log n ds)) → ((n : ℕ) → Ends n (one.serial_end n (old n) (all_on log n ds)).files) → Serial log at ds Ends
   serial-of Ends [] among old at same right ends = λ n. subst (Ends n) (same n).0 (ends n)
   serial-of Ends (d ∷ ds) among old at same right ends =
-      let here = λ (n : ℕ). stepped d.0 d.1 (among d (inl refl)) n (old n) (at n) (same n) (serial-append n (old n) (on n (shares_of log d)) (all_on log n ds) (right n)).0 in
-      (
+      let here = λ (n : ℕ). stepped d.0 d.1 (among d (inl refl)) n (old n) (at n) (same n) (serial-append n (old n) (on n (shares_of log d)) (all_on log n ds) (right n)).0 in (
         behind log d.0 at,
         λ n. does-so n (begun (at n)) (part_at log d.0 n) (here n).0,
         serial-of Ends ds (λ e i. among e (inr i)) (λ n. one.serial_end n (old n) (on n (shares_of log d))) (behind log d.0 at) (λ n. (here n).1)
@@ -172,8 +170,7 @@ module _ (log : Log) (proper : IsProper log) (answered : (n : ℕ) → Along nex
   charged-of [] among old at same right charged = tt
   charged-of (d ∷ ds) among old at same right charged =
       let here = λ (n : ℕ). stepped d.0 d.1 (among d (inl refl)) n (old n) (at n) (same n) (serial-append n (old n) (on n (shares_of log d)) (all_on log n ds) (right n)).0 in
-      let after : (n : ℕ) → IsSame (after_shares old (shares_of log d) n) (behind log d.0 at n) = λ n. subst (λ (z : Standing). IsSame z (behind log d.0 at n)) (sym (shares-end old (shares_of log d) n)) (here n).1 in
-      (
+      let after : (n : ℕ) → IsSame (after_shares old (shares_of log d) n) (behind log d.0 at n) = λ n. subst (λ (z : Standing). IsSame z (behind log d.0 at n)) (sym (shares-end old (shares_of log d) n)) (here n).1 in (
         behind log d.0 at,
         λ n. does-so n (begun (at n)) (part_at log d.0 n) (here n).0,
         λ n. subst AreSound (after n).0 (charged.0 n),

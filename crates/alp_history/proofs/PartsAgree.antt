@@ -365,15 +365,17 @@ module _ (log : Log) (proper : IsProper log) (answered : (n : ℕ) → Along nex
           let whos : AllByRecursion (λ (c : Done). c.who ≡ m.later.who) ds =
           all-append (λ (c : Done). c.who ≡ m.later.who) (L n i) (d ∷ []) (subst (λ (who : List ℕ). AllByRecursion (λ (c : Done). c.who ≡ who) (L n i)) (sym m.who_so) early.1) (who-so m.later m.stands_so, tt) in
           start log proper (B log proper x dx) (b-core log proper x dx) (b-step log proper x dx) (XP ds) (x-core log proper x dx (Starts ds) (starts-grow ds)) (x-step log proper x dx (Starts ds) (starts-grow ds)) n (state_at log n (suc i))
-          (quiet log proper x dx n d.call w) (bare-at log proper x dx n (suc i) low).0
-          ((bare-at log proper x dx n (suc i) low).0.beside, inl (record {
-            life = m.later;
-            lives = m.stands_so;
-            among = (([], calls), whos);
-            young = young log proper x dx n d.call w;
-            undecided = undecided log proper x dx n d.call w;
-            unapplied = unapplied log proper x dx n d.call w;
-          }))
+          (quiet log proper x dx n d.call w) (bare-at log proper x dx n (suc i) low).0 (
+            (bare-at log proper x dx n (suc i) low).0.beside,
+            inl (record {
+              life = m.later;
+              lives = m.stands_so;
+              among = (([], calls), whos);
+              young = young log proper x dx n d.call w;
+              undecided = undecided log proper x dx n d.call w;
+              unapplied = unapplied log proper x dx n d.call w;
+            }),
+          )
 
     came-at : (n i : ℕ) → i ≤ size log proper n → (L n i ≡ []) ⊎ Pl (L n i) n (state_at log n i)
     came-at n zero le = inl refl

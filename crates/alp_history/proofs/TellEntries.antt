@@ -366,8 +366,7 @@ module _ (n : ℕ) (σ : Told) (m : State) (h : Agrees n σ m) where
         go true e =
             let is : w.client ≡ client = eqb-true w.client client e in
             let low : w.number ≤ (k.1).last = k.3 in
-            let less : (k.1).last + 1 ≤ number = later k.1 (ap σ.sessions (sym is) ∙ k.2) in
-            (
+            let less : (k.1).last + 1 ≤ number = later k.1 (ap σ.sessions (sym is) ∙ k.2) in (
               ap (λ b. cond {A = Option Call} b (Some c) (σ.said w.client w.number)) (ap (λ b. b && w.number == number) e ∙ apart w.number number low less) ∙ k.0,
               one,
               ap (λ b. cond {A = Option Session} b (Some one) (σ.sessions w.client)) e,
@@ -438,7 +437,7 @@ module _ (n : ℕ) (σ : Told) (m : State) (h : Agrees n σ m) where
   -- another call
   calls : (client epoch number : ℕ) (c : Call) (r : Reply)
       → IsTold (cond {A = Told} (follows σ.epoch epoch number (σ.sessions client)) (with_call σ client number (who_is (σ.sessions client)) c r) σ)
-          (cond {A = Desk} (is_new m client epoch number) (counted m.desk (has_part m client) client number c r (m.desk.sessions client)) m.desk)
+      (cond {A = Desk} (is_new m client epoch number) (counted m.desk (has_part m client) client number c r (m.desk.sessions client)) m.desk)
   calls client epoch number c r = go (is_new m client epoch number) refl
     where
       same : is_new m client epoch number ≡ follows σ.epoch epoch number (σ.sessions client)
