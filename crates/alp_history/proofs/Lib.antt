@@ -84,9 +84,9 @@ pub mod LooksAt
 pub mod Performed
 pub mod EffectiveActs
 pub mod RightNeighbours
+pub mod SharesKept
 pub mod Shared
 pub mod CommittedActs
-pub mod SharesKept
 pub mod TellLemmas
 pub mod TellEntries
 pub mod PartsAgree
