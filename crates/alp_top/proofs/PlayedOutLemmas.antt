@@ -329,7 +329,7 @@ module _ {V D U : Type 0} (G : VaultGhosts V) (g : Ghosts D) (tells : Bool) (tol
     serial = λ begins.
         serial-all l (proper_of begins.sound) answered_so (λ n m. (here : IsOneOf (servers_said lines) n) → (returned_all.each n here).left.stored.held.cells ≡ m) (λ n here. (returned_all.each n here).left.ends begins);
     whole = λ begins x js j among has.
-        ((history_of begins).whole.listed.applies j.server j x.trans x ((rest_of begins).ends.applied x js j (subst (logs.IsIn (x, js)) (commits l (proper_of begins.sound)) among) has)).1;
+        ((history_of begins).whole.listed.applies j.server j x.trans x ((rest_of begins).ends.applied x js j (subst (λ (ds : List logs.Decision). logs.IsIn {A = logs.Decision} (x, js) ds) (commits l (proper_of begins.sound)) among) has)).1;
     kept = λ begins. (history_of begins).kept;
     charged = λ begins. (λ n. (begins.sound n).files_begun, charged-all l (proper_of begins.sound) answered_so);
   }
