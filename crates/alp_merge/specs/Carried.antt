@@ -1,6 +1,6 @@
 -- What carriers brought to a server, as turns of a storm.
-use Rattle.std.specs.Prelude.{◌≡◌, ℕ, ◌+◌, ◌≤◌, ◌^◌, true, List, [], ◌∷◌, ◌++◌, length, take, drop, flat_map, map as list_map, slice_get, Option, None, Some}
-use Rattle.std.specs.List.{AllByRecursion}
+use Rattle.std.specs.Prelude.{◌≡◌, ℕ, ◌+◌, ◌≤◌, ◌^◌, ◌||◌, Bool, true, false, List, [], ◌∷◌, ◌++◌, length, take, drop, flat_map, map as list_map, slice_get, Option, None, Some}
+use Rattle.std.specs.List.{AllByRecursion, list_any}
 use mathlib.Core.List.{IsPrefix}
 use Rattle.alp_carrier.specs.Carries.{HasCarried}
 use Rattle.alp_carrier.specs.Plans.{planned}
@@ -9,10 +9,11 @@ use Rattle.alp_carrier.specs.Takes.{addressed_to, message_of}
 use Rattle.alp_carrier.specs.declared.carrying.Carried.{Carried}
 use Rattle.alp_carrier.specs.declared.route.Route.{Route}
 use Rattle.alp_carrier.specs.declared.taken.Taken.{Taken}
-use Rattle.alp_journal.specs.Answered.{entries_limit}
+use Rattle.alp_journal.specs.Answered.{entries_limit, is_read_fault}
 use Rattle.alp_journal.specs.Moves.{stops}
 use Rattle.alp_journal.specs.declared.act.Act.{Act}
 use Rattle.alp_journal.specs.declared.act.Act.TheVariants as act
+use Rattle.alp_journal.specs.declared.entry.Entry.{Entry}
 use Rattle.alp_journal.specs.declared.event.Event.{Event}
 use Rattle.alp_journal.specs.declared.event.Event.TheVariants as event
 use Rattle.alp_journal.specs.declared.message.Envelope.{Envelope}
@@ -43,9 +44,18 @@ abbrev pub arrival_by : ℕ → Event → Option Arrival
 arrival_by rank (event.Arrive from m) = Some (record { from = from; message = m; rank = rank })
 arrival_by rank e = None
 
--- a server takes no entry more behind these: the last one stopped it, or it has no place left
+abbrev pub is_failed : Act → Bool
+is_failed act.Failed = true
+is_failed a = false
+
+-- the device failed in this entry: the server is down by it, or its reply tells that a read failed
+abbrev pub shows_failure : Entry → Bool
+shows_failure e = is_read_fault e.reply || list_any is_failed e.acts
+
+-- A server takes no entry more behind these: the last one stopped it, its device failed in one of them, or it has no place left.
 pub data IsShutBehind (xs : List Ranked) : Type 0 where
   stopped : (before : List Ranked) (x : Ranked) → xs ≡ before ++ x ∷ [] → stops x.entry ≡ true → IsShutBehind xs
+  failed : list_any (λ (x : Ranked). shows_failure x.entry) xs ≡ true → IsShutBehind xs
   full : entries_limit ≤ length xs → IsShutBehind xs
 
 -- What carriers see of a server is what its entries say, those of its base first.
