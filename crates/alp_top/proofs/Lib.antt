@@ -9,6 +9,7 @@ pub mod CalmAtLemmas
 pub mod CloseLemmas
 pub mod CloseOneLemmas
 pub mod KeptCourse
+pub mod KeptOwn
 pub mod KeptLemmas
 pub mod LeaveLemmas
 pub mod LookLemmas

@@ -1,0 +1,232 @@
+-- a worker on its way: one deed more, or none
+use Rattle.std.specs.Prelude.{slice_get, ◌⊎◌, ◌==◌, Bool, true, false, cond, Option, Some, Result, Ok, Err, IfOk, IfErr, IfSome, if◌then◌else◌}
+use Rattle.std.proofs.Common.{inl, inr, ◌≡◌, ◌≢◌, ℕ, ◌+◌, ◌≤◌, List, [], ◌∷◌, ◌++◌, length, take, set, refl, sym, ap, ◌∙◌, subst, arith, eq-eqb, ne_eqb}
+use mathlib.Core.List.{IsPrefix, append-nil, append_assoc}
+use Rattle.alp_files.specs.declared.reply.Reply.{Reply}
+use Rattle.alp_rpc.specs.Replies as replies
+use Rattle.alp_journal.specs.declared.entry.Entry.{Entry}
+use Rattle.alp_journal.specs.declared.event.Event.{Event}
+use Rattle.alp_journal.specs.declared.log.Item.{Item}
+use Rattle.alp_session.specs.Crowd.{Crowd}
+use Rattle.alp_session.specs.Crowds.{client_at}
+use Rattle.alp_session.specs.Frames.{IsReady}
+use Rattle.alp_jobs.specs.Deeds.{Deed, sends, gives_tick, gives_timeout}
+use Rattle.alp_jobs.specs.Jobs.{DoesRest, Does, GoesOn}
+use Rattle.alp_jobs.specs.States.{JobState}
+use Rattle.alp_monitor.specs.History.{entries_in}
+use Rattle.alp_monitor.specs.Passes.{IsHeld, front, turns, first_base}
+use Rattle.alp_monitor.specs.declared.monitor.Monitor.{Monitor}
+use Rattle.alp_monitor.specs.declared.monitor.Pass.{Pass}
+use Rattle.alp_carrier.specs.Takes.{IsLater}
+use Rattle.alp_storm.proofs.Fronts.{begins_through, not_longer, same_entries, get_within}
+use Rattle.alp_storm.specs.Logs.{Log, IsMadeOf}
+use Rattle.alp_storm.specs.Turns.{WasMade, WasAnswered, IsIdle, IsBroken, HasTaken, EndsTurn, Took}
+use Rattle.alp_storm.specs.Rings.{IsRing, IsTurned, StandsAt}
+use Rattle.alp_storm.specs.Works.{server_of, deeds_at, item_of, items_of, IsEventOf, IsItemOf, IsTurnOf, AreTurnsOf, Takes, TakeAll, HasWorked, HasTurned, IsLast, EndsWork, HasStopped, WorksOn, StopsIn}
+use Rattle.alp_storm.specs.declared.fault.StormFault.{StormFault}
+use Rattle.alp_storm.specs.declared.fault.StormFault.TheVariants as fault
+use Rattle.alp_storm.specs.declared.host.Answer.{Answer}
+use Rattle.alp_storm.proofs.Lists.{same_some}
+use Rattle.alp_storm.proofs.Sets.{get_set, set_same, set_other}
+use Rattle.alp_storm.proofs.RingLemmas.{eq_or, later_same, ring_turned}
+
+-- ---- deeds of one server
+
+if-deeds : (b : Bool) (d : Deed) (xs ys : List Deed) → (if b then d ∷ (xs ++ ys) else xs ++ ys) ≡ (if b then d ∷ xs else xs) ++ ys
+if-deeds true d xs ys = refl
+if-deeds false d xs ys = refl
+
+deeds_both : (n : ℕ) (xs ys : List Deed) → deeds_at n (xs ++ ys) ≡ deeds_at n xs ++ deeds_at n ys
+deeds_both n [] ys = refl
+deeds_both n (x ∷ xs) ys = ap (λ (l : List Deed). if server_of x == n then x ∷ l else l) (deeds_both n xs ys) ∙ if-deeds (server_of x == n) x (deeds_at n xs) (deeds_at n ys)
+
+deeds_here : (n : ℕ) (xs : List Deed) (d : Deed) → server_of d ≡ n → deeds_at n (xs ++ d ∷ []) ≡ deeds_at n xs ++ d ∷ []
+deeds_here n xs d is = deeds_both n xs (d ∷ []) ∙ ap (λ (b : Bool). deeds_at n xs ++ (if b then d ∷ [] else [])) (eq-eqb (server_of d) n is)
+
+deeds_away : (n : ℕ) (xs : List Deed) (d : Deed) → server_of d ≢ n → deeds_at n (xs ++ d ∷ []) ≡ deeds_at n xs
+deeds_away n xs d ne = deeds_both n xs (d ∷ []) ∙ (ap (λ (b : Bool). deeds_at n xs ++ (if b then d ∷ [] else [])) (ne_eqb (server_of d) n ne) ∙ append-nil (deeds_at n xs))
+
+items_both : (xs ys : List Deed) → items_of (xs ++ ys) ≡ items_of xs ++ items_of ys
+items_both [] ys = refl
+items_both (x ∷ xs) ys = ap (λ l. item_of x ++ l) (items_both xs ys) ∙ sym (append_assoc (item_of x) (items_of xs) (items_of ys))
+
+items_one : (xs : List Deed) (d : Deed) → items_of (xs ++ d ∷ []) ≡ items_of xs ++ item_of d
+items_one xs d = items_both xs (d ∷ []) ∙ ap (λ l. items_of xs ++ l) (append-nil (item_of d))
+
+-- ---- turns
+
+module _ {B E : Type 0} (log : Log B E) (b : B) (f g : List (ℕ × E)) (begins : IsPrefix f g) where
+  made_longer : (e : Event) (t : ℕ × E) → WasMade log b f e t → WasMade log b g e t
+  made_longer e t w = record {
+    within = (let l = w.within in let m = not_longer f g (t.0 + 1) begins (omega (arith, l)) in omega (arith, m));
+    made = subst (λ (es : List E). IsMadeOf log b es e t.1) (same_entries f g t.0 begins (let l = w.within in omega (arith, l))) w.made;
+  }
+
+  turn_longer : (d : Deed) (t : ℕ × E) → IsTurnOf log b f d t → IsTurnOf log b g d t
+  turn_longer d t w = record { what = w.what; what_is = w.what_is; was = made_longer w.what t w.was; item = w.item; calm = w.calm }
+
+  turns_longer : (ds : List Deed) (ts : List (ℕ × E)) → AreTurnsOf log b f ds ts → AreTurnsOf log b g ds ts
+  turns_longer [] [] h = tt
+  turns_longer (d ∷ ds) (t ∷ ts) h = (turn_longer d t h.0, turns_longer ds ts h.1)
+  turns_longer [] (t ∷ ts) h = absurd h
+  turns_longer (d ∷ ds) [] h = absurd h
+
+module _ {B E : Type 0} (log : Log B E) (b : B) (g : List (ℕ × E)) where
+  turns_more : (ds : List Deed) (ts : List (ℕ × E)) (d : Deed) (t : ℕ × E) → AreTurnsOf log b g ds ts → IsTurnOf log b g d t → AreTurnsOf log b g (ds ++ d ∷ []) (ts ++ t ∷ [])
+  turns_more [] [] d t h one = (one, tt)
+  turns_more (x ∷ ds) (y ∷ ts) d t h one = (h.0, turns_more ds ts d t h.1 one)
+  turns_more [] (y ∷ ts) d t h one = absurd h
+  turns_more (x ∷ ds) [] d t h one = absurd h
+
+-- the item of a deed, by what the server answered
+item_as : (d : Deed) (r s : Option Reply) (place at : ℕ) → IsItemOf d r place → s ≡ r → place ≡ at → IsItemOf d s at
+item_as (sends x) r s place at h same is = (h.0 ∙ sym same, h.1 ∙ ap Some is, h.2)
+item_as (gives_tick server) r s place at h same is = tt
+item_as (gives_timeout server t) r s place at h same is = tt
+
+module _ {S B E : Type 0} (base_of : S → B) (log : Log B E) (m : Monitor S B E) where
+  -- one deed more at this monitor
+  takes_more : (ds : List Deed) (d : Deed) (e : Event) (a : Answer) (p q r : Pass S B E) → IsEventOf a.epoch d e → IsItemOf d a.reply a.place → Takes base_of log m ds p q → HasTaken base_of log m e q r a → Takes base_of log m (ds ++ d ∷ []) p r
+  takes_more ds d e a p q r event item old h = record {
+    later = record { held = subst (λ n. IsHeld base_of m n r) old.later.held.ready.number_is h.later.held; begins = begins_through (front p) (front q) (front r) old.later.begins h.later.begins };
+    more = old.more ++ h.turn ∷ [];
+    turns_are = h.one ∙ (ap (λ l. l ++ h.turn ∷ []) old.turns_are ∙ append_assoc (turns p) old.more (h.turn ∷ []));
+    deeds_are = turns_more log (first_base base_of m) (front r) ds old.more d h.turn (turns_longer log (first_base base_of m) (front q) (front r) h.later.begins ds old.more old.deeds_are) (record {
+      what = e;
+      what_is = subst (λ n. IsEventOf n d e) h.was.epoch_is event;
+      was = h.was.was;
+      item = item_as d a.reply (log.entry h.turn.1).reply a.place (log.since (first_base base_of m) + h.turn.0) item h.was.reply_is h.was.place_is;
+      calm = h.was.calm;
+    });
+  }
+
+module _ {S B E : Type 0} (base_of : S → B) (log : Log B E) (ms : List (Monitor S B E)) where
+  -- and so at all
+  take_all_more : (ds : List Deed) (d : Deed) (e : Event) (a : Answer) (ps qs rs : List (Pass S B E)) → IsEventOf a.epoch d e → IsItemOf d a.reply a.place → HasTurned base_of log ms (server_of d) e qs rs a → TakeAll base_of log ms ds ps qs → TakeAll base_of log ms (ds ++ d ∷ []) ps rs
+  take_all_more ds d e a ps qs rs event item h all i m p r m_is p_is r_is = go (eq_or i h.place)
+    where
+      go : (i ≡ h.place) ⊎ (i ≢ h.place) → Takes base_of log m (deeds_at (i + 1) (ds ++ d ∷ [])) p r
+      go (inl is) =
+          let t = h.turned in
+          let m_same : t.monitor ≡ m = same_some t.monitor m (sym t.monitor_is ∙ (ap (λ x. slice_get ms x) (sym is) ∙ m_is)) in
+          let low = get_within qs h.place t.old t.old_is in
+          let r_same : t.new ≡ r = same_some t.new r (sym (ap (λ (l : List (Pass S B E)). slice_get l h.place) t.now_is ∙ set_same qs h.place t.new low) ∙ (ap (λ x. slice_get rs x) (sym is) ∙ r_is)) in
+          let went : HasTaken base_of log m e t.old r a = subst (λ (x : Monitor S B E × Pass S B E). HasTaken base_of log x.0 e t.old x.1 a) (λ j. (m_same j, r_same j)) t.went in
+          let before : Takes base_of log m (deeds_at (i + 1) ds) p t.old = all i m p t.old m_is p_is (ap (λ x. slice_get qs x) is ∙ t.old_is) in
+          subst (λ (x : List Deed). Takes base_of log m x p r) (sym (deeds_here (i + 1) ds d (h.stands.from_one ∙ ap (λ n. n + 1) (sym is))))
+          (takes_more base_of log m (deeds_at (i + 1) ds) d e a p t.old r event item before went)
+      go (inr ne) =
+          let t = h.turned in
+          let old : slice_get qs i ≡ Some r = sym (ap (λ (l : List (Pass S B E)). slice_get l i) t.now_is ∙ set_other qs h.place i t.new ne) ∙ r_is in
+          subst (λ (x : List Deed). Takes base_of log m x p r) (sym (deeds_away (i + 1) ds d (λ is. ne (let f = h.stands.from_one in omega (arith, f, is))))) (all i m p r m_is p_is old)
+
+  module _ (k : ℕ) where
+    taken_later : (e : Event) (a : Answer) (m : Monitor S B E) (p q : Pass S B E) → HasTaken base_of log m e p q a → IsLater base_of m p q
+    taken_later e a m p q h = h.later
+
+    -- a worker after one deed more
+    pub one_more : (d : Deed) (e : Event) (a : Answer) (job now : JobState) (qs rs : List (Pass S B E)) → IsEventOf a.epoch d e → IsItemOf d a.reply a.place → HasTurned base_of log ms (server_of d) e qs rs a → Does job d now → now.items ≡ job.items ++ item_of d
+        → (IsReady job.number (client_at job.crowd job.number) → IsReady now.number (client_at now.crowd now.number)) → WorksOn base_of log ms k job qs now rs
+    one_more d e a job now qs rs event item h does items ready old first w = record {
+      ring_is = ring_turned base_of ms k h.place (λ m p q. HasTaken base_of log m e p q a) qs rs (taken_later e a) h.turned w.ring_is;
+      ready = ready w.ready;
+      deeds = w.deeds ++ d ∷ [];
+      did = λ ds c rest. subst (λ (l : List Deed). DoesRest old l c) (sym (append_assoc w.deeds (d ∷ []) ds)) (w.did (d ∷ ds) c (does ds c rest));
+      took = take_all_more w.deeds d e a first qs rs event item h w.took;
+      items_are = items ∙ (ap (λ l. l ++ item_of d) w.items_are ∙ (append_assoc old.items (items_of w.deeds) (item_of d) ∙ ap (λ l. old.items ++ l) (sym (items_one w.deeds d))));
+    }
+
+    -- and after none
+    pub none_more : (job now : JobState) (qs : List (Pass S B E)) → GoesOn job now → now.items ≡ job.items → (IsReady job.number (client_at job.crowd job.number) → IsReady now.number (client_at now.crowd now.number)) → WorksOn base_of log ms k job qs now qs
+    none_more job now qs goes items ready old first w = record {
+      ring_is = w.ring_is;
+      ready = ready w.ready;
+      deeds = w.deeds;
+      did = λ ds c rest. w.did ds c (goes ds c rest);
+      took = w.took;
+      items_are = items ∙ w.items_are;
+    }
+
+    -- a worker that did nothing yet
+    pub begun : (job : JobState) (ps : List (Pass S B E)) → IsRing base_of ms k ps → IsReady job.number (client_at job.crowd job.number) → HasWorked base_of log ms k job ps job ps
+    begun job ps ring ready = record {
+      ring_is = ring;
+      ready = ready;
+      deeds = [];
+      did = λ ds d rest. rest;
+      took = λ i m p q m_is p_is q_is. subst (λ (x : Pass S B E). Takes base_of log m [] p x) (same_some p q (sym p_is ∙ q_is)) (record {
+        later = later_same base_of m k p (ring.held i m p m_is p_is);
+        more = [];
+        turns_are = sym (append-nil (turns p));
+        deeds_are = tt;
+      });
+      items_are = sym (append-nil job.items);
+    }
+
+    -- a worker that stops where it is
+    pub stops_here : (f : StormFault) (job : JobState) (qs rs : List (Pass S B E)) → IsRing base_of ms k rs → EndsWork base_of log ms f qs rs → StopsIn base_of log ms k f job qs job rs
+    stops_here f job qs rs ring why old first w = record { before = qs; worked = w; ring_is = ring; why = why }
+
+-- ---- how a turn ends a worker's way
+
+same_err : (f g : StormFault) → ◌≡◌ {A = Result Answer StormFault} (Err f) (Err g) → f ≡ g
+same_err f g e = cc
+
+module _ {S B E : Type 0} (base_of : S → B) (log : Log B E) (ms : List (Monitor S B E)) (i : ℕ) (e : Event) (ps qs : List (Pass S B E)) where
+  ended_later : (m : Monitor S B E) (f : StormFault) (p q : Pass S B E) → EndsTurn base_of log m e p q f → IsLater base_of m p q
+  ended_later m (fault.DiskFault server) p q h = elim h.1 [ inl x ↦ x.later | inr x ↦ x.0.later ]
+  ended_later m (fault.JournalFull server) p q h = h.1.later
+  ended_later m fault.OutOfMemory p q h = h.later
+  ended_later m (fault.NoServer server) p q h = absurd h
+  ended_later m fault.BadFrame p q h = absurd h
+
+  took_later : (r : Result Answer StormFault) (m : Monitor S B E) (p q : Pass S B E) → Took base_of log m e p q r → IsLater base_of m p q
+  took_later (Ok a) m p q h = h.later
+  took_later (Err f) m p q h = ended_later m f p q h
+
+  pub ring_took : (k : ℕ) (r : Result Answer StormFault) → IsTurned base_of ms i (λ m p q. Took base_of log m e p q r) ps qs → IsRing base_of ms k ps → IsRing base_of ms k qs
+  ring_took k r t ring = ring_turned base_of ms k i (λ m p q. Took base_of log m e p q r) ps qs (took_later r) t ring
+
+  pub turn_ended : (r : Result Answer StormFault) (f : StormFault) → r ≡ Err f → IsTurned base_of ms i (λ m p q. Took base_of log m e p q r) ps qs → EndsWork base_of log ms f ps qs
+  turn_ended (Ok a) f is t = cc
+  turn_ended (Err (fault.DiskFault server)) f is t = subst (λ (x : StormFault). EndsWork base_of log ms x ps qs) (same_err (fault.DiskFault server) f is) (i, e, t)
+  turn_ended (Err (fault.JournalFull server)) f is t = subst (λ (x : StormFault). EndsWork base_of log ms x ps qs) (same_err (fault.JournalFull server) f is) (i, e, t)
+  turn_ended (Err fault.OutOfMemory) f is t = subst (λ (x : StormFault). EndsWork base_of log ms x ps qs) (same_err fault.OutOfMemory f is) (inr (
+    i,
+    record {
+      monitor = t.monitor;
+      old = t.old;
+      new = t.new;
+      monitor_is = t.monitor_is;
+      old_is = t.old_is;
+      now_is = t.now_is;
+      went = (let w : IsIdle base_of log t.monitor t.old t.new = t.went in record { later = w.later; at_most = inl w.none });
+    },
+  ))
+  turn_ended (Err (fault.NoServer server)) f is t = absurd t.went
+  turn_ended (Err fault.BadFrame) f is t = absurd t.went
+
+  -- memory was refused behind it
+  pub turn_unheard : (a : Answer) (server : ℕ) → HasTurned base_of log ms server e ps qs a → EndsWork base_of log ms fault.OutOfMemory ps qs
+  turn_unheard a server h = inr (
+    h.place,
+    record {
+      monitor = h.turned.monitor;
+      old = h.turned.old;
+      new = h.turned.new;
+      monitor_is = h.turned.monitor_is;
+      old_is = h.turned.old_is;
+      now_is = h.turned.now_is;
+      went = record { later = h.turned.went.later; at_most = inr (h.turned.went.turn, h.turned.went.one) };
+    },
+  )
+
+-- a turn at the server of a number that was answered, or was not
+module _ {S B E : Type 0} (base_of : S → B) (log : Log B E) (ms : List (Monitor S B E)) (server i : ℕ) (e : Event) (ps qs : List (Pass S B E)) where
+  pub ok_turn : (r : Result Answer StormFault) → StandsAt (length ms) server i → IsTurned base_of ms i (λ m p q. Took base_of log m e p q r) ps qs → IfOk r (HasTurned base_of log ms server e ps qs)
+  ok_turn (Ok a) stands t = record { place = i; stands = stands; turned = t }
+  ok_turn (Err f) stands t = tt
+
+  pub err_turn : (r : Result Answer StormFault) → IsTurned base_of ms i (λ m p q. Took base_of log m e p q r) ps qs → IfErr r (λ f. EndsWork base_of log ms f ps qs)
+  err_turn (Ok a) t = tt
+  err_turn (Err f) t = turn_ended base_of log ms i e ps qs (Err f) f refl t

@@ -1,0 +1,15 @@
+use Rattle.std.proofs.Common.{rules}
+use Rattle.alp_storm.proofs.WorkLemmas.{ok_turn, err_turn}
+use Rattle.alp_storm.proofs.worker.Worker.turn.Goals as goal
+
+pub turn_at-requires-clause-ring : goal.turn_at-requires-clause-ring
+turn_at-requires-clause-ring g c = (c.args.self.now.number, c.requires.ring)
+
+pub returns-clause-ok : goal.returns-clause-ok
+returns-clause-ok g c = ok_turn g.S.Story.base g.S.Host.log c.args.monitors.now c.args.server c.in-Some.at c.args.event c.args.self.now.ring.items _ c.turn_at.result c.in-Some.ensures.some c.turn_at.ensures.took
+
+pub returns-clause-err : goal.returns-clause-err
+returns-clause-err g c = err_turn g.S.Story.base g.S.Host.log c.args.monitors.now c.args.server c.in-Some.at c.args.event c.args.self.now.ring.items _ c.turn_at.result c.turn_at.ensures.took
+
+pub returns-clause-ring : goal.returns-clause-ring
+returns-clause-ring g c = c.turn_at.ensures.ring c.args.self.now.number c.requires.ring

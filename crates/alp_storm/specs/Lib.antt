@@ -1,0 +1,4 @@
+pub mod Logs
+pub mod Turns
+pub mod Rings
+pub mod Works
