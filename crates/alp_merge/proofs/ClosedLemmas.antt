@@ -1,5 +1,5 @@
 -- What closed monitors give is one course.
-use Rattle.std.specs.Prelude.{◌==◌, Bool, false, get_or, slice_get, map as list_map, Some}
+use Rattle.std.specs.Prelude.{◌==◌, Bool, false, get_or, slice_get, map as list_map}
 use Rattle.std.specs.List.{AllByRecursion}
 use Rattle.std.proofs.Common.{◌≡◌, ◌⊎◌, ℕ, ◌<◌, ◌≤◌, List, [], ◌∷◌, ◌++◌, length, inl, inr, refl, sym, ◌∙◌, ap, subst, arith}
 use Rattle.alp_journal.specs.Moves.{stops}
@@ -8,11 +8,11 @@ use Rattle.alp_journal.specs.declared.message.Message.{Message}
 use Rattle.alp_history.specs.Log.{IsIn}
 use Rattle.alp_monitor.specs.History.{entries_in}
 use Rattle.alp_course.proofs.RankLemmas.{below_or}
-use Rattle.alp_course.specs.Courses.{Course, Seat, seat_at, IsOneOf, IsSeat, IsSentBy, Occurrence, comes}
+use Rattle.alp_course.specs.Courses.{Course, Seat, seat_at, IsSeat, IsSentBy, Occurrence, comes}
 use Rattle.alp_course.specs.Midway.{IsMidway}
 use Rattle.alp_merge.specs.Closed.{WasSentTo, last_of, AreServed, IsOfPass, HasGoneOn, AreOneCourse, StormsAreCourses}
-use Rattle.alp_merge.specs.Served.{Ranked, entries_of, ranks_of, seat_behind, done_by, ranked_in}
-use Rattle.alp_merge.specs.Turns.{Who, Turn, server_of, turns_at}
+use Rattle.alp_merge.specs.Served.{Ranked, entries_of, ranks_of, done_by, ranked_in}
+use Rattle.alp_merge.specs.Turns.{Who, Turn, server_of}
 use Rattle.alp_merge.proofs.CourseLemmas.{GoesBy, AreMerged, merge}
 use Rattle.alp_merge.proofs.RunLemmas.{Runs, runs_journal, runs_ranks}
 use Rattle.alp_merge.proofs.ServedLemmas.{IsOne, IsTold, served}

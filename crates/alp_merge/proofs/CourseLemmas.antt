@@ -1,13 +1,13 @@
 -- The turns of all servers in the order of their ranks are a course.
-use Rattle.std.specs.Prelude.{max, get_or, slice_get, slice_set, map as list_map, Some}
+use Rattle.std.specs.Prelude.{max, get_or, slice_set, map as list_map}
 use Rattle.std.specs.List.{AllByRecursion}
-use Rattle.std.proofs.Common.{◌≡◌, ◌≢◌, ◌⊎◌, ℕ, zero, suc, ◌+◌, ◌-◌, ◌<◌, ◌≤◌, List, [], ◌∷◌, ◌++◌, length, inl, inr, refl, sym, ◌∙◌, ap, subst, arith}
+use Rattle.std.proofs.Common.{◌≡◌, ℕ, ◌+◌, ◌-◌, ◌<◌, ◌≤◌, List, [], ◌∷◌, ◌++◌, length, inl, inr, refl, sym, ◌∙◌, ap, subst, arith}
 use Rattle.std.proofs.lemmas.List.{length-append}
 use Rattle.alp_journal.specs.declared.entry.Entry.{Entry}
 use Rattle.alp_journal.specs.declared.message.Message.{Message}
 use Rattle.alp_course.specs.Courses.{Course, Seat, seat_at, seat_after, last_rank, ranks_with, IsOneOf, IsSeat, IsSentBy, Occurrence, at, comes, Occurs, AreCourse}
 use Rattle.alp_course.specs.Happens.{Stand}
-use Rattle.alp_course.specs.Midway.{AreRising, IsMidway}
+use Rattle.alp_course.specs.Midway.{IsMidway}
 use Rattle.alp_course.proofs.LinkLemmas.{get_left}
 use Rattle.alp_course.proofs.MidwayLemmas.{midway_on}
 use Rattle.alp_course.proofs.RankLemmas.{get_below, below_or, all_many, old_rank, new_rank, last_with}

@@ -5,3 +5,4 @@ pub mod ServedLemmas
 pub mod ClosedLemmas
 pub mod CarriedLemmas
 pub mod StormLemmas
+pub mod AgreeLemmas

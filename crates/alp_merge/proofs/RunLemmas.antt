@@ -1,12 +1,12 @@
 -- A server goes on by turns.
 use Rattle.std.specs.Prelude.{max, map as list_map}
-use Rattle.std.proofs.Common.{◌≡◌, ℕ, ◌+◌, List, [], ◌∷◌, ◌++◌, refl, sym, ◌∙◌, ap}
+use Rattle.std.proofs.Common.{◌≡◌, ℕ, ◌+◌, List, [], ◌∷◌, ◌++◌, sym, ◌∙◌, ap}
 use Rattle.std.proofs.lemmas.List.{append-nil, append_assoc}
 use Rattle.alp_journal.specs.declared.entry.Entry.{Entry}
 use Rattle.alp_journal.specs.declared.event.Event.TheVariants as event
 use Rattle.alp_course.specs.Courses.{Seat, seat_after, last_rank, Occurrence, at, comes}
 use Rattle.alp_course.specs.Happens.{Stand, ComesTo, Happens}
-use Rattle.alp_merge.specs.Served.{Ranked, entries_of, ranks_of, ranked_in}
+use Rattle.alp_merge.specs.Served.{entries_of, ranks_of, ranked_in}
 use Rattle.alp_merge.specs.Turns.{Turn, seen_by}
 
 -- what comes of it at its server; nothing else is a turn

@@ -1,7 +1,7 @@
 -- A server whose passes made its entries goes on by turns.
-use Rattle.std.specs.Prelude.{◌==◌, max, take, drop, filter, map as list_map, slice_get, Some, if◌then◌else◌}
+use Rattle.std.specs.Prelude.{◌==◌, max, take, filter, map as list_map, slice_get, Some, if◌then◌else◌}
 use Rattle.std.specs.List.{AllByRecursion}
-use Rattle.std.proofs.Common.{◌≡◌, ◌≢◌, ◌⊎◌, ℕ, zero, suc, ◌+◌, ◌<◌, ◌≤◌, Bool, true, false, List, [], ◌∷◌, ◌++◌, length, inl, inr, refl, sym, ◌∙◌, ap, subst, arith, eq-eqb, ne_eqb}
+use Rattle.std.proofs.Common.{◌≡◌, ◌≢◌, ◌⊎◌, ℕ, suc, ◌+◌, ◌<◌, ◌≤◌, Bool, true, false, List, [], ◌∷◌, ◌++◌, length, inl, inr, refl, sym, ◌∙◌, ap, subst, arith, eq-eqb, ne_eqb}
 use Rattle.std.proofs.lemmas.Bool.{cases_eq}
 use Rattle.std.proofs.lemmas.List.{append-nil, append_assoc, length-append, map-append}
 use Rattle.alp_journal.specs.Answered.{entries_limit}
@@ -11,9 +11,8 @@ use Rattle.alp_journal.specs.declared.event.Event.{Event}
 use Rattle.alp_journal.specs.declared.event.Event.TheVariants as event
 use Rattle.alp_journal.specs.declared.log.Item.{Item}
 use Rattle.alp_journal.specs.declared.log.Sent.{Sent}
-use Rattle.alp_journal.specs.declared.log.Sent.TheVariants as sent_as
 use Rattle.alp_history.specs.Log.{IsIn}
-use Rattle.alp_monitor.specs.History.{entries_in, turns_from, turns_of}
+use Rattle.alp_monitor.specs.History.{entries_in, turns_from}
 use Rattle.alp_session.specs.Frames.{told_by}
 use Rattle.alp_course.specs.Courses.{Seat, seat_after, last_rank, Occurrence, at, comes}
 use Rattle.alp_course.specs.Happens.{sent_it, timed_out, ticked, handed_for, Stand, stand_after, IsEntryOf, ComesTo, IsTaken, Takes}

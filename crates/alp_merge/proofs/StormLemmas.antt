@@ -1,7 +1,7 @@
 -- What threads did is a storm.
 use Rattle.std.specs.Prelude.{◌==◌, Bool, true, false, IsTrue, map as list_map, Option, None, Some}
 use Rattle.std.specs.List.{AllByRecursion}
-use Rattle.std.proofs.Common.{◌≡◌, ◌⊎◌, ℕ, zero, suc, ◌+◌, ◌<◌, ◌≤◌, List, [], ◌∷◌, ◌++◌, length, inl, inr, refl, sym, ◌∙◌, ap, subst, arith}
+use Rattle.std.proofs.Common.{◌≡◌, ◌⊎◌, ℕ, zero, suc, ◌≤◌, List, [], ◌∷◌, ◌++◌, length, inl, inr, refl, sym, ◌∙◌, ap, subst, arith}
 use Rattle.std.proofs.lemmas.Bool.Decides.{eqb_tells}
 use Rattle.alp_carrier.specs.Sights.{Sight}
 use Rattle.alp_carrier.specs.declared.taken.Taken.{Taken}
@@ -15,8 +15,8 @@ use Rattle.alp_script.specs.declared.numbered.NumberedLine.{NumberedLine}
 use Rattle.alp_session.specs.Crowd.{Crowd}
 use Rattle.alp_session.specs.Crowds.{lent_crowd}
 use Rattle.alp_monitor.specs.History.{entries_in}
-use Rattle.alp_course.specs.Courses.{Course, Seat, seat_at, IsOneOf, IsSeat, AreTwo, Occurrence, loses, next_message, taking, IsLost, AreCourse}
-use Rattle.alp_course.specs.Languages.{Language, Nothing, Just, Then, Each}
+use Rattle.alp_course.specs.Courses.{Course, Seat, seat_at, IsSeat, AreTwo, Occurrence, loses, next_message, taking, IsLost, AreCourse}
+use Rattle.alp_course.specs.Languages.{Language, Just, Each}
 use Rattle.alp_course.specs.Midway.{IsMidway}
 use Rattle.alp_course.proofs.LanguageLemmas.{course_append}
 use Rattle.alp_course.proofs.MidwayLemmas.{midway_on}
@@ -127,6 +127,7 @@ storm_of plan is_job job Starved c r passes who history done deeds took knows mi
         counted = xs;
         ordered = a.ordered;
         works = works;
+        among = threads.among;
         own = own_deeds plan is_job Starved r passes who history done deeds took a threads;
         carried = carried_pair plan is_job Starved r passes who history done deeds took a threads;
         others = by_them plan is_job Starved r passes who history done deeds took a threads a.turns a.all;

@@ -1,6 +1,6 @@
 -- What carriers brought to a server, as turns of a storm.
-use Rattle.std.specs.Prelude.{◌≡◌, ℕ, ◌+◌, ◌<◌, ◌≤◌, ◌^◌, true, List, [], ◌∷◌, ◌++◌, length, take, drop, flat_map, map as list_map, slice_get, Option, None, Some}
-use Rattle.std.specs.List.{AllByRecursion}
+use Rattle.std.specs.Prelude.{◌≡◌, ℕ, ◌+◌, ◌≤◌, ◌^◌, ◌||◌, Bool, true, false, List, [], ◌∷◌, ◌++◌, length, take, drop, flat_map, map as list_map, slice_get, Option, None, Some}
+use Rattle.std.specs.List.{AllByRecursion, list_any}
 use mathlib.Core.List.{IsPrefix}
 use Rattle.alp_carrier.specs.Carries.{HasCarried}
 use Rattle.alp_carrier.specs.Plans.{planned}
@@ -9,10 +9,11 @@ use Rattle.alp_carrier.specs.Takes.{addressed_to, message_of}
 use Rattle.alp_carrier.specs.declared.carrying.Carried.{Carried}
 use Rattle.alp_carrier.specs.declared.route.Route.{Route}
 use Rattle.alp_carrier.specs.declared.taken.Taken.{Taken}
-use Rattle.alp_journal.specs.Answered.{entries_limit}
+use Rattle.alp_journal.specs.Answered.{entries_limit, is_read_fault}
 use Rattle.alp_journal.specs.Moves.{stops}
 use Rattle.alp_journal.specs.declared.act.Act.{Act}
 use Rattle.alp_journal.specs.declared.act.Act.TheVariants as act
+use Rattle.alp_journal.specs.declared.entry.Entry.{Entry}
 use Rattle.alp_journal.specs.declared.event.Event.{Event}
 use Rattle.alp_journal.specs.declared.event.Event.TheVariants as event
 use Rattle.alp_journal.specs.declared.message.Envelope.{Envelope}
@@ -43,17 +44,26 @@ abbrev pub arrival_by : ℕ → Event → Option Arrival
 arrival_by rank (event.Arrive from m) = Some (record { from = from; message = m; rank = rank })
 arrival_by rank e = None
 
--- a server takes no entry more behind these: the last one stopped it, or it has no place left
+abbrev pub is_failed : Act → Bool
+is_failed act.Failed = true
+is_failed a = false
+
+-- the device failed in this entry: the server is down by it, or its reply tells that a read failed
+abbrev pub shows_failure : Entry → Bool
+shows_failure e = is_read_fault e.reply || list_any is_failed e.acts
+
+-- A server takes no entry more behind these: the last one stopped it, its device failed in one of them, or it has no place left.
 pub data IsShutBehind (xs : List Ranked) : Type 0 where
   stopped : (before : List Ranked) (x : Ranked) → xs ≡ before ++ x ∷ [] → stops x.entry ≡ true → IsShutBehind xs
+  failed : list_any (λ (x : Ranked). shows_failure x.entry) xs ≡ true → IsShutBehind xs
   full : entries_limit ≤ length xs → IsShutBehind xs
 
--- What carriers see of a server is what its entries say, those of its base first.
-pub record IsReadAs {B E : Type 0} (sight : Sight B E) (base : B → List Ranked) (read : E → Ranked) : Type 0 where
-  pub sent_is : (b : B) (es : List E) → sight.sent b es ≡ sent_in (base b ++ list_map read es)
-  pub last_is : (b : B) (es : List E) → sight.last b es ≡ last_rank (ranks_of (base b ++ list_map read es))
+-- What carriers see of a server with this base is what its entries say, those of the base first.
+pub record IsReadAs {B E : Type 0} (sight : Sight B E) (base : B → List Ranked) (read : E → Ranked) (b : B) : Type 0 where
+  pub sent_is : (es : List E) → sight.sent b es ≡ sent_in (base b ++ list_map read es)
+  pub last_is : (es : List E) → sight.last b es ≡ last_rank (ranks_of (base b ++ list_map read es))
   pub arrived_is : (e : E) → sight.arrived e ≡ arrival_by (read e).rank (read e).entry.event
-  pub shut_is : (b : B) (es : List E) → sight.is_shut b es → IsShutBehind (base b ++ list_map read es)
+  pub shut_is : (es : List E) → sight.is_shut b es → IsShutBehind (base b ++ list_map read es)
 
 -- the server stood as these entries say
 pub record IsBased (s : Seat) (base : List Ranked) : Type 0 where
@@ -122,6 +132,6 @@ module _ {S B E : Type 0} (base_of : S → B) (sight : Sight B E) (base : B → 
 module _ {S B E : Type 0} (base_of : S → B) (sight : Sight B E) where
   -- Each carrier that began with new passes did that.
   abbrev pub CarriersTakeTurns : Type 0
-  CarriersTakeTurns = (base : B → List Ranked) (read : E → Ranked) → IsReadAs sight base read → (r : Route S B E) (seed : ℕ) (sender receiver : Pass S B E) (c : Carried S B E) → HasCarried base_of sight r seed sender receiver c
+  CarriersTakeTurns = (base : B → List Ranked) (read : E → Ranked) (r : Route S B E) → IsReadAs sight base read (first_base base_of r.from.now) → IsReadAs sight base read (first_base base_of r.to.now) → (seed : ℕ) (sender receiver : Pass S B E) (c : Carried S B E) → HasCarried base_of sight r seed sender receiver c
       → turns receiver ≡ [] → front receiver ≡ [] → (s t : Seat) → IsBased s (base_there base_of sight base read r) → IsBased t (base_here base_of sight base read r)
       → (there here : List (ℕ × E)) → IsPrefix (front c.sender) there → IsPrefix (front c.receiver) here → IsCarrying base_of sight base read r seed s t there here c

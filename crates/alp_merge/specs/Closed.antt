@@ -1,5 +1,5 @@
 -- What all servers' monitors give once they are closed, and the one course that it is.
-use Rattle.std.specs.Prelude.{◌≡◌, ◌+◌, ◌<◌, ◌==◌, ℕ, Bool, false, List, ◌++◌, length, map as list_map}
+use Rattle.std.specs.Prelude.{◌≡◌, ◌<◌, ◌==◌, ℕ, Bool, false, List, ◌++◌, length, map as list_map}
 use Rattle.std.specs.List.{AllByRecursion}
 use Rattle.alp_journal.specs.Moves.{stops}
 use Rattle.alp_monitor.specs.History.{entries_in}

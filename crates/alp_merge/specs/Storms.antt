@@ -1,5 +1,5 @@
 -- A storm: client threads and carriers take turns at servers, and the turns of all are a course.
-use Rattle.std.specs.Prelude.{◌≡◌, ℕ, zero, suc, ◌+◌, ◌*◌, ◌%◌, ◌^◌, ◌==◌, ◌&&◌, Bool, true, false, IsTrue, List, [], ◌∷◌, ◌++◌, length, filter, flat_map, map as list_map, if◌then◌else◌}
+use Rattle.std.specs.Prelude.{◌≡◌, ℕ, zero, suc, ◌+◌, ◌*◌, ◌%◌, ◌^◌, ◌==◌, ◌&&◌, Bool, true, false, IsTrue, List, [], ◌∷◌, ◌++◌, length, filter, flat_map, map as list_map}
 use Rattle.std.specs.List.{AllByRecursion}
 use Rattle.alp_carrier.specs.declared.taken.Taken.{Taken}
 use Rattle.alp_jobs.specs.Deeds.{Deed, sends, gives_tick, gives_timeout}
@@ -97,8 +97,8 @@ IsBy is_job (worker k) (at n h) = IsTrue (is_job k)
 IsBy is_job (carrier from to) (comes f t m seen) = (f ≡ from) × (t ≡ to)
 IsBy is_job w o = ⊥
 
--- From a course to another one. Each job's client does what its lines say by what it is handed, and its turns at each server are its deeds
--- there, in its order. Carriers bring what was sent, by the plan. Nothing else happens, and no server stops. What was taken is counted behind.
+-- From a course to another one. Each job's client does what its lines say by what it is handed, all at servers of the run, and its turns at
+-- each server are its deeds there, in its order. Carriers bring what was sent, by the plan. Nothing else happens, and no server stops. What was taken is counted behind.
 -- That memory was refused is no matter of the journals, so it is told of each pair, place and message.
 pub record IsStorm (plan : ℕ) (is_job : ℕ → Bool) (job : ℕ → List (List Line)) (Starved : ℕ → ℕ → ℕ → Message → Type 0) (c : Crowd) (r after : Course) (deeds : ℕ → List Deed) (knows : ℕ → Crowd) : Type 0 where
   pub turns : List Turn
@@ -106,6 +106,7 @@ pub record IsStorm (plan : ℕ) (is_job : ℕ → Bool) (job : ℕ → List (Lis
   pub counted : List Occurrence
   pub ordered : AreInOrder 0 turns
   pub works : (k : ℕ) → IsTrue (is_job k) → DoesJob k (job k) (lent_crowd c k) (deeds k) (knows k)
+  pub among : (k : ℕ) → IsTrue (is_job k) → AllByRecursion (λ (d : Deed). IsSeat r (place_of d)) (deeds k)
   pub own : (k n : ℕ) → IsTrue (is_job k) → IsSeat r n → done_by (is_worker k) (turns_at n turns) ≡ deeds_at k n (deeds k)
   pub carried : (from to : ℕ) → AreTwo r from to → IsCarriedPair Starved plan r turns from to (took from to)
   pub others : AllByRecursion (λ (x : Turn). IsBy is_job x.who x.occurrence) turns

@@ -15,7 +15,7 @@ use Rattle.alp_course.specs.Midway.{IsMidway}
 use Rattle.alp_merge.specs.Carried.{sent_in, AreCarriedBy}
 use Rattle.alp_merge.specs.Closed.{AreServed, HasGoneOn}
 use Rattle.alp_merge.specs.Served.{Ranked}
-use Rattle.alp_merge.specs.Storms.{is_worker, is_carrier, deeds_at, pair_seed, entries_at, IsBy, IsStorm}
+use Rattle.alp_merge.specs.Storms.{is_worker, is_carrier, place_of, deeds_at, pair_seed, entries_at, IsBy, IsStorm}
 use Rattle.alp_merge.specs.Turns.{Who}
 
 module _ (plan : ℕ) (is_job : ℕ → Bool) (Starved : ℕ → ℕ → ℕ → Message → Type 0) (r : Course) (passes : ℕ → ℕ) (who : (server pass : ℕ) → Who) (history : ℕ → List (ℕ × Ranked)) (done : (server pass : ℕ) → List Occurrence) (deeds : ℕ → List Deed) (took : (from to : ℕ) → List Taken) where
@@ -35,6 +35,7 @@ module _ (plan : ℕ) (is_job : ℕ → Bool) (Starved : ℕ → ℕ → ℕ →
 
   -- So it is with each client of a job and with each pair. Whoever has a pass did by it what it may.
   pub record AreByThreads : Type 0 where
+    pub among : (k : ℕ) → IsTrue (is_job k) → AllByRecursion (λ (d : Deed). IsSeat r (place_of d)) (deeds k)
     pub workers : (k n : ℕ) → IsTrue (is_job k) → IsSeat r n → HasOwnPass k n
     pub carriers : (from to : ℕ) → AreTwo r from to → HasCarrierPass from to
     pub others : (n j : ℕ) → IsSeat r n → j < passes n → AllByRecursion (IsBy is_job (who n j)) (done n j)

@@ -6,3 +6,9 @@ mod TurnLemmas
 mod RingLemmas
 mod WorkLemmas
 mod DeedLemmas
+mod Histories
+mod Closes
+mod Spreading
+mod TaskLemmas
+mod BackLemmas
+mod ErrandLemmas

@@ -2,3 +2,5 @@ pub mod Logs
 pub mod Turns
 pub mod Rings
 pub mod Works
+pub mod Errands
+pub mod Storms

@@ -1,13 +1,17 @@
 //! Storms: the threads of clients and of carriers, over servers that take turns at monitors.
 #![tactic(auto)]
 
+mod errand;
 mod exchange;
 mod fault;
 mod host;
+mod opening;
 mod ring;
+mod threads;
 mod turn;
 mod worker;
 
+pub use errand::{Errand, Task};
 pub use fault::StormFault;
 pub use host::{Answer, Host};
 pub use worker::Worker;

@@ -227,8 +227,15 @@ in_server n x (y ∷ xs) (inr i) is = go (y.server == n) (in_server n x xs i is)
 abbrev IsPut : Log → items.Item → Type 0
 IsPut log x = ((x.place ≡ None) × IsOfNone x.reply) ⊎ ((at : ℕ) × (x.place ≡ Some at) × IsOfEntry log x at)
 
-module _ {V : Type 0} (s : States V) (c : Crowd) (first after : Course) (hs : List Occurrence) (list : ℕ → List Item) (h : Handed) (begins : IsFirst first) (course : AreCourse first hs after) (agrees : DoesAgree hs list)
-    (said : (k : ℕ) → HasSaid s k (client_at c k) (list_map item_of (list k))) (handed_is : (k : ℕ) → h k ≡ list_map item_of (list k))
+-- What is asked of a client's list alone: its own calls come in turn at each server, their begins carry what it was told, and it asks of
+-- what it was told.
+pub record IsInOrder (k : ℕ) (xs : List items.Item) : Type 0 where
+  pub numbered : (n : ℕ) → AreNumbered k none_come (at_server n xs)
+  pub seen : HaveSeen [] xs
+  pub outcomes : AllByRecursion (λ (x : items.Item). SentOfTold xs x.mark x.sent) xs
+
+module _ (first after : Course) (hs : List Occurrence) (list : ℕ → List Item) (h : Handed) (begins : IsFirst first) (course : AreCourse first hs after) (agrees : DoesAgree hs list)
+    (said : (k : ℕ) → IsInOrder k (list_map item_of (list k))) (handed_is : (k : ℕ) → h k ≡ list_map item_of (list k))
     (lawful : (n : ℕ) → IsSeat after n → IsLawful (seat_at after n).opening (seat_at after n).journal) where
   abbrev log : Log
   log = log_of after h
@@ -309,7 +316,7 @@ module _ {V : Type 0} (s : States V) (c : Crowd) (first after : Course) (hs : Li
       nobody_there i e is = cc
 
   numbered : (n k : ℕ) → AreNumbered k none_come (at_server n (h k))
-  numbered n k = subst (λ (xs : List items.Item). AreNumbered k none_come (at_server n xs)) (sym (handed_is k)) ((said k).to n).numbered
+  numbered n k = subst (λ (xs : List items.Item). AreNumbered k none_come (at_server n xs)) (sym (handed_is k)) ((said k).numbered n)
 
   rising : (n k : ℕ) → IsSeat after n → AreRising 0 (at_server n (h k))
   rising n k here =
@@ -372,4 +379,4 @@ module _ {V : Type 0} (s : States V) (c : Crowd) (first after : Course) (hs : Li
     (said : (k : ℕ) → HasSaid s k (client_at c k) (list_map item_of (own_in k turns))) (handed_is : (k : ℕ) → h k ≡ list_map item_of (own_in k turns))
     (lawful : (n : ℕ) → IsSeat after n → IsLawful (seat_at after n).opening (seat_at after n).journal) where
   pub clients_kept : AreOfClients (log_of after h)
-  clients_kept = clients_agree s c first after hs (λ (k : ℕ). own_in k turns) h begins course (agree_in_turn hs turns sent_is) said handed_is lawful
+  clients_kept = clients_agree first after hs (λ (k : ℕ). own_in k turns) h begins course (agree_in_turn hs turns sent_is) (λ k. record { numbered = λ n. ((said k).to n).numbered; seen = (said k).seen; outcomes = (said k).outcomes }) handed_is lawful

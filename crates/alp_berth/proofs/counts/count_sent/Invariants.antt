@@ -1,0 +1,6 @@
+use Rattle.std.proofs.Common.{◌≡◌, ◌≤◌, length, take}
+use Rattle.alp_berth.specs.Sends.{sent_by}
+use Rattle.alp_berth.proofs.counts.count_sent.Given as goal
+
+abbrev pub invariant-loop-act : goal.invariant-loop-act
+invariant-loop-act l = (l.count ≡ length (sent_by (take l.act-index l.acts))) × (l.count ≤ l.act-index)
