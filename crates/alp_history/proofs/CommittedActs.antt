@@ -1,9 +1,9 @@
 -- the transactions that committed by the acts that took effect are those that the machine decides
-use Rattle.std.specs.Prelude.{Bool, true, false, cond, not, ◌||◌, nat_le, filter, flat_map, take, slice_get, Option, None, Some, T, length}
-use Rattle.std.specs.List.{list_any, AllByRecursion}
+use Rattle.std.specs.Prelude.{Bool, true, false, cond, not, ◌||◌, nat_le, filter, flat_map, take, slice_get, Option, None, Some, T}
+use Rattle.std.specs.List.{list_any}
 use Rattle.std.specs.FinMap.Entries.{is_sorted, same_entries}
 use Rattle.std.specs.declared.cmp.Ordering.TheVariants.{Less, Equal}
-use Rattle.std.proofs.Common.{◌≡◌, ℕ, zero, suc, ◌≤◌, ◌<◌, List, [], ◌∷◌, ◌++◌, refl, sym, ap, subst, ◌∙◌, ◌⊎◌, inl, inr, arith}
+use Rattle.std.proofs.Common.{◌≡◌, ℕ, zero, suc, ◌≤◌, List, [], ◌∷◌, refl, sym, ap, subst, ◌∙◌, ◌⊎◌, inl, inr, arith}
 use Rattle.std.proofs.lemmas.Bool.Decides.{nat_tests}
 use Rattle.alp_base.specs.declared.ids.JoinNo.{JoinNo}
 use Rattle.alp_base.specs.declared.ids.Stamp.{Stamp}
@@ -14,13 +14,12 @@ use Rattle.alp_journal.specs.declared.event.Event.TheVariants as event
 use Rattle.alp_journal.specs.declared.entry.Entry.{Entry}
 use Rattle.alp_journal.specs.Ids.{stamp_cmp}
 use Rattle.alp_journal.specs.Moves.{stops}
-use Rattle.alp_history.specs.Log.{ServerLog, Log, of, nobody, journal_of, opening_of, IsIn, Decision, all_put, decided}
-use Rattle.alp_history.specs.Theorems.{IsProper, IsFoundSo, TakesEffect, DecidedThere}
+use Rattle.alp_history.specs.Log.{ServerLog, Log, of, journal_of, IsIn, Decision, decided}
+use Rattle.alp_history.specs.Theorems.{IsProper, DecidedThere}
 use Rattle.alp_history.proofs.BegunOrder.{in-left, in-right}
 use Rattle.alp_history.proofs.CommitEntries.{append-in}
 use Rattle.alp_history.proofs.Decisions.{at_key, Has, find-in, all_put-in, all_put-has, all_put-sorted, in-filter, decided-sorted}
 use Rattle.alp_history.proofs.EffectiveActs.{listing}
-use Rattle.alp_history.proofs.Logs.{opening-server}
 use Rattle.alp_history.proofs.Merged.{head-low, rest-sorted, sorted-find}
 use Rattle.alp_history.proofs.HeldAlong.{exact_stamps}
 use Rattle.alp_history.proofs.Places.{some-same}

@@ -1,7 +1,7 @@
 -- one thread does the transactions that committed, with the calls that were performed
-use Rattle.std.specs.Prelude.{Bool, true, false, cond, ◌==◌, filter, flat_map, Option, None, Some, map as list_map}
+use Rattle.std.specs.Prelude.{Bool, true, false, cond, ◌==◌, flat_map, Option, None, Some, map as list_map}
 use Rattle.std.specs.List.{AllByRecursion}
-use Rattle.std.proofs.Common.{◌≡◌, ℕ, List, [], ◌∷◌, ◌++◌, refl, sym, ap, subst, ◌∙◌, ◌⊎◌, inl, inr, eq-eqb}
+use Rattle.std.proofs.Common.{◌≡◌, ℕ, List, [], ◌∷◌, ◌++◌, refl, sym, ap, subst, ◌∙◌, inl, inr, eq-eqb}
 use Rattle.std.proofs.lemmas.Bool.{eqb-true}
 use Rattle.alp_base.specs.declared.ids.JoinNo.{JoinNo}
 use Rattle.alp_base.specs.declared.ids.Stamp.{Stamp}
@@ -12,12 +12,10 @@ use Rattle.alp_files.specs.Sound.{AreSound}
 use Rattle.alp_journal.specs.Along.{Along}
 use Rattle.alp_journal.specs.Answered.{IsAnsweredSo}
 use Rattle.alp_journal.specs.Holder.{Life}
-use Rattle.alp_journal.specs.Ids.{has_server}
 use Rattle.alp_journal.specs.Moves.{next}
-use Rattle.alp_journal.specs.State.{State, opened}
+use Rattle.alp_journal.specs.State.{opened}
 use Rattle.alp_history.specs.Log.{Log, journal_of, opening_of, final, IsIn, Decision, decided, Share, share_at, of_life, shares_on, shares_of, servers_in, Standings, starting_all, after_shares, IsChargedAfterEach, finish_of}
 use Rattle.alp_history.specs.Theorems.{IsProper, IsDecided, HasShare}
-use Rattle.alp_history.proofs.BegunOrder.{in-left, in-right}
 use Rattle.alp_history.proofs.CommitEntries.{append-in}
 use Rattle.alp_history.proofs.Decisions.{at_key, map-in, decided-in}
 use Rattle.alp_history.proofs.Merged.{short-mine, thread-here, history}

@@ -4,44 +4,41 @@ use Rattle.std.specs.List.{AllByRecursion}
 use Rattle.std.specs.FinMap.Entries.{put}
 use Rattle.std.specs.declared.cmp.Ordering.{Ordering}
 use Rattle.std.specs.declared.cmp.Ordering.TheVariants.{Less, Equal, Greater}
-use Rattle.std.proofs.Common.{◌≡◌, ℕ, zero, suc, ◌+◌, ◌≤◌, ◌<◌, List, [], ◌∷◌, ◌++◌, take, slice_get, length, refl, sym, ap, subst, ◌∙◌, ◌⊎◌, inl, inr, arith, append-nil}
+use Rattle.std.proofs.Common.{◌≡◌, ℕ, zero, suc, ◌+◌, ◌≤◌, List, [], ◌∷◌, ◌++◌, take, slice_get, length, refl, sym, ap, subst, ◌∙◌, ◌⊎◌, inl, inr, arith, append-nil}
 use Rattle.std.proofs.lemmas.List.{length-append}
 use Rattle.alp_base.specs.declared.ids.JoinNo.{JoinNo}
 use Rattle.alp_base.specs.declared.ids.TransId.{TransId}
 use Rattle.alp_base.specs.declared.ids.Stamp.{Stamp}
-use Rattle.alp_files.specs.declared.call.Call.{Call}
 use Rattle.alp_files.specs.History.{PerformedCall, Decided}
 use Rattle.alp_journal.specs.declared.entry.Entry.{Entry}
 use Rattle.alp_journal.specs.Along.{Along, Where, state_after}
 use Rattle.alp_journal.specs.Answered.{IsAnsweredSo}
 use Rattle.alp_journal.specs.Answers.{AnswersCall}
-use Rattle.alp_journal.specs.Coordinator.{Fate, Committed, Undrawn, fate_noted, is_running, decision_in}
+use Rattle.alp_journal.specs.Coordinator.{Committed, fate_noted, is_running, decision_in}
 use Rattle.alp_journal.specs.Deeds.{Deed, Performs}
 use Rattle.alp_journal.specs.Holder.{Holder, Life, new_life, held_for, after_done, answer_in, holder_after}
 use Rattle.alp_journal.specs.Ids.{same_trans, same_join, stamp_cmp}
-use Rattle.alp_journal.specs.Moves.{event_deeds, act_deeds, done_deeds, stops, tried, did, told, halted, next}
+use Rattle.alp_journal.specs.Moves.{event_deeds, act_deeds, done_deeds, stops, tried, told, halted, next}
 use Rattle.alp_journal.specs.Opening.{ReadyNote, DecisionNote}
-use Rattle.alp_journal.specs.Participant.{Phase, Unseen, Joining, Active, Ready, Applied, Over, phase_noted}
+use Rattle.alp_journal.specs.Participant.{Joining, Active, Ready, Applied, phase_noted}
 use Rattle.alp_journal.specs.State.{State, state_deed, opened}
-use Rattle.alp_history.specs.Log.{Log, journal_of, opening_of, state_at, final, IsIn, share_at, of_life, shares_on}
+use Rattle.alp_history.specs.Log.{Log, journal_of, opening_of, state_at, final, IsIn, share_at, of_life}
 use Rattle.alp_history.specs.Theorems.{IsProper, IsDecided, PerformedThere, HasShare}
 use Rattle.alp_journal.proofs.IdLemmas.{same_trans-true, same_trans-itself}
 use Rattle.alp_journal.proofs.Origins.{event-from, IsEventFrom}
 use Rattle.alp_journal.proofs.StampLemmas.{itself}
 use Rattle.alp_history.proofs.Agreed.{size, all-of, at-end, from-end, decided-from, Nothing, nothing}
-use Rattle.alp_history.proofs.BegunOrder.{in-left, in-right}
 use Rattle.alp_history.proofs.CommitEntries.{append-in, NotPerforming, event-performs-not, acts-perform-not, all-from}
-use Rattle.alp_history.proofs.Decisions.{at_key, find-in, put-find, put-same, tied-end}
+use Rattle.alp_history.proofs.Decisions.{at_key, find-in, put-find, put-same}
 use Rattle.alp_history.proofs.EachServer.{Place, place-from, plain-at}
-use Rattle.alp_history.proofs.Fates.{IsOver}
 use Rattle.alp_history.proofs.HeldAlong.{exact_stamps}
-use Rattle.alp_history.proofs.LifeMoves.{IsCommit, left_of, life-cases, ready-was, applied-keeps}
+use Rattle.alp_history.proofs.LifeMoves.{left_of, life-cases, ready-was, applied-keeps}
 use Rattle.alp_history.proofs.Linked.{IsTied}
 use Rattle.alp_history.proofs.LockEnds.{start, opened-none, not-over, not-lost, its-stamp}
 use Rattle.alp_history.proofs.Logs.{opening-server, lawful-at, state-suc, stands-from}
 use Rattle.alp_history.proofs.Places.{some-same, take-all, take-one, past-end, in-list, at-suc, along-at, all-in, state-append}
 use Rattle.alp_history.specs.Committed.{Told, Done, done_at, told_by, done_from, part_at}
-use Rattle.alp_history.proofs.SharesKept.{applied-cases, IsLive, Goes, X, x-core, x-step, B, b-core, b-step, bare-at, inside, more_of, undecided, unapplied, young, quiet}
+use Rattle.alp_history.proofs.SharesKept.{applied-cases, Goes, X, x-core, x-step, B, b-core, b-step, bare-at, more_of, undecided, unapplied, young, quiet}
 use Rattle.alp_history.proofs.TellLemmas.{made_by, told_next, done_next, first_told, Agrees}
 use Rattle.alp_history.proofs.TellEntries.{IsNamedDone, done-same, entry-tells, entry-does}
 

@@ -1,55 +1,45 @@
 -- what holds of the calls of a decided transaction's part at some place holds of its share at the end
-use Rattle.std.specs.Prelude.{Bool, true, false, cond, filter, ◌==◌, Option, None, Some, is_some, map as list_map, T, flat_map}
-use Rattle.std.specs.List.{AllByRecursion}
-use Rattle.std.specs.FinMap.Entries.{put, is_sorted}
-use Rattle.std.specs.declared.cmp.Ordering.{Ordering}
-use Rattle.std.specs.declared.cmp.Ordering.TheVariants.{Less, Equal, Greater}
-use Rattle.std.proofs.Common.{◌≡◌, ℕ, zero, suc, ◌<◌, ◌≤◌, List, [], ◌∷◌, ◌++◌, slice_get, length, refl, sym, ap, subst, ◌∙◌, ◌⊎◌, inl, inr, arith, eq-eqb}
+use Rattle.std.specs.Prelude.{Bool, true, false, cond, ◌==◌, Option, None, Some, is_some}
+use Rattle.std.specs.FinMap.Entries.{put}
+use Rattle.std.specs.declared.cmp.Ordering.TheVariants.{Equal}
+use Rattle.std.proofs.Common.{◌≡◌, ℕ, suc, ◌≤◌, List, [], ◌∷◌, ◌++◌, refl, sym, ap, subst, ◌∙◌, ◌⊎◌, inl, inr, arith, eq-eqb}
 use Rattle.std.proofs.lemmas.Bool.{eqb-true}
 use Rattle.alp_base.specs.declared.ids.JoinNo.{JoinNo}
 use Rattle.alp_base.specs.declared.ids.TransId.{TransId}
 use Rattle.alp_base.specs.declared.ids.Stamp.{Stamp}
 use Rattle.alp_files.specs.declared.call.Call.{Call}
 use Rattle.alp_files.specs.History.{PerformedCall, Decided}
-use Rattle.alp_journal.specs.declared.entry.Entry.{Entry}
-use Rattle.alp_journal.specs.Along.{state_after}
-use Rattle.alp_journal.specs.Ids.{same_trans, same_join, has_join, has_server, stamp_cmp}
-use Rattle.alp_journal.specs.Opening.{ReadyNote}
+use Rattle.alp_journal.specs.Ids.{same_trans, same_join, stamp_cmp}
 use Rattle.alp_journal.specs.Deeds.{Deed, Begins, Joins, Enters, Quits, Aborts, Grants, Performs, Releases, Readies, Applies, Registers, Finishes, Hears, Decides, Ends, Acknowledges, Forgets, Restarts}
 use Rattle.alp_journal.specs.Coordinator.{Fate, Undrawn, Running, Finishing, Committed, Forgotten, Ended, fate_after, decision_in, is_running}
 use Rattle.alp_journal.specs.Participant.{Phase, Unseen, Joining, Active, Ready, Applied, Over, phase_after, aborted}
 use Rattle.alp_journal.specs.Holder.{Holder, Life, new_life, held_for, after_done, answer_in, grants, performs, readies, commits, is_part, if_ready, holder_after}
 use Rattle.alp_journal.specs.State.{State, state_deed}
-use Rattle.alp_journal.specs.Moves.{next_trans, stops, tried, told, halted, next}
+use Rattle.alp_journal.specs.Moves.{next_trans}
 use Rattle.alp_journal.specs.Holding.{MayDo}
-use Rattle.alp_journal.specs.Laws.{IsHolding, HasEnded, IsOpenPart}
-use Rattle.alp_history.specs.Log.{Log, Decision, journal_of, opening_of, state_at, final, IsIn, decided, share_at, of_life, shares_on, servers_in, shares_of}
-use Rattle.alp_history.specs.Theorems.{IsProper, IsDecided, IsWhole, PerformedThere, HasShare, AreRising, AreShared, Sharing}
+use Rattle.alp_journal.specs.Laws.{IsHolding, HasEnded}
+use Rattle.alp_history.specs.Log.{Log, journal_of, state_at}
+use Rattle.alp_history.specs.Theorems.{IsProper, IsDecided, PerformedThere}
 use Rattle.alp_journal.proofs.IdLemmas.{same_trans-true, same_trans-itself, same_join-true}
-use Rattle.alp_history.proofs.Places.{in-list, past-end, some-same, all-in}
-use Rattle.alp_history.proofs.BegunOrder.{in-left, in-right, beyond-next}
+use Rattle.alp_history.proofs.Places.{in-list, some-same, all-in}
+use Rattle.alp_history.proofs.BegunOrder.{beyond-next}
 use Rattle.alp_history.proofs.Fates.{IsOver, over-stays}
-use Rattle.alp_history.proofs.Phases.{IsSeen}
 use Rattle.alp_history.proofs.Logs.{state-suc}
 use Rattle.alp_history.proofs.LifeMoves.{IsCommit, left_of, life-cases, ready-was, over-keeps}
 use Rattle.alp_journal.proofs.StampLemmas.{itself}
 use Rattle.alp_history.proofs.Linked.{IsLinkedUp, IsAway, HasPart, IsKeptAt, same_join-self}
-use Rattle.alp_history.proofs.Turned.{is_left, Began, in-flat, decision-back}
+use Rattle.alp_history.proofs.Turned.{is_left, Began, decision-back}
 use Rattle.alp_journal.proofs.OneServer.{IsHeld, own-life}
-use Rattle.alp_history.proofs.HeldAlong.{IsSameCore, Knows, exact_stamps}
-use Rattle.alp_history.proofs.EachServer.{Place, place-at, place-from, plain-at}
+use Rattle.alp_history.proofs.HeldAlong.{IsSameCore, Knows}
+use Rattle.alp_history.proofs.EachServer.{Place, place-at, plain-at}
 use Rattle.alp_history.proofs.LockOrder.{LetIn, IsRight, OwnLink, JoinLink, Linked, linked-next, linked-core}
-use Rattle.alp_history.proofs.LockEnds.{IsStep, linked-at, start, opened-none, not-over, not-lost, its-stamp}
-use Rattle.alp_history.proofs.LetIn.{let-in, told-pending}
-use Rattle.alp_history.proofs.Agreed.{size, all-of, at-end, from-end, decided-from, committed-parts, home-at}
-use Rattle.alp_history.proofs.Decisions.{at_key, find-in, put-find, put-same, linked-end, decided-in, decided-sorted, in-filter, IsDecision, tied-end}
-use Rattle.alp_history.proofs.Merged.{head-low, rest-sorted, in-eight}
-use Rattle.alp_history.proofs.Votes.{joined-server}
-use Rattle.alp_history.proofs.Wholes.{are-whole}
+use Rattle.alp_history.proofs.LockEnds.{IsStep, linked-at, opened-none, its-stamp}
+use Rattle.alp_history.proofs.LetIn.{told-pending}
+use Rattle.alp_history.proofs.Agreed.{size, all-of, at-end, decided-from, committed-parts}
+use Rattle.alp_history.proofs.Decisions.{at_key, find-in, put-find, put-same}
 use Rattle.alp_history.proofs.LatestThere.{open-new, noted-other}
 use Rattle.alp_history.proofs.LatestFound.{commit-new}
-use Rattle.alp_history.proofs.EffectiveActs.{applied-new, came}
-use Rattle.alp_history.proofs.CommitEntries.{all-from, append-in}
+use Rattle.alp_history.proofs.EffectiveActs.{applied-new}
 use Rattle.alp_history.proofs.Performed.{IsDoneMore, done-more}
 
 -- ---- what a deed makes of what is applied

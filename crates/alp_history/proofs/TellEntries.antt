@@ -1,5 +1,5 @@
 -- an entry of a server tells what the machine comes to know by it
-use Rattle.std.specs.Prelude.{Bool, true, false, cond, not, ◌==◌, ◌&&◌, ◌||◌, filter, find, flat_map, Option, None, Some, is_some, is_none, map as list_map}
+use Rattle.std.specs.Prelude.{Bool, true, false, cond, not, ◌==◌, ◌&&◌, ◌||◌, find, flat_map, Option, None, Some, is_some, is_none, map as list_map}
 use Rattle.std.specs.List.{AllByRecursion, list_any}
 use Rattle.std.specs.Option.{option_to_list}
 use Rattle.std.proofs.Common.{◌≡◌, ℕ, ◌+◌, ◌≤◌, List, [], ◌∷◌, ◌++◌, refl, sym, ap, subst, ◌∙◌, ◌⊎◌, inl, inr, arith, append-nil, eq-eqb}
@@ -17,7 +17,6 @@ use Rattle.alp_files.specs.declared.refusal.Cause.{Cause}
 use Rattle.alp_files.specs.declared.refusal.Cause.TheVariants as cause
 use Rattle.alp_files.specs.Act.{id_in}
 use Rattle.alp_files.specs.Cells.{has_file}
-use Rattle.alp_files.specs.History.{PerformedCall}
 use Rattle.alp_files.specs.Passing.{is_passing}
 use Rattle.alp_journal.specs.declared.act.Act.{Act}
 use Rattle.alp_journal.specs.declared.act.Act.TheVariants as act
@@ -28,21 +27,21 @@ use Rattle.alp_journal.specs.declared.message.Message.TheVariants as msg
 use Rattle.alp_journal.specs.declared.entry.Entry.{Entry}
 use Rattle.alp_journal.specs.Along.{Along, Where, state_after}
 use Rattle.alp_journal.specs.Answers.{AnswersCall, IsCollected, IsAnswer}
-use Rattle.alp_journal.specs.Deeds.{Deed, Begins, Joins, Enters, Quits, Aborts, Grants, Performs, Releases, Readies, Applies, Registers, Finishes, Hears, Decides, Ends, Acknowledges, Forgets, Restarts}
+use Rattle.alp_journal.specs.Deeds.{Deed, Begins, Joins, Enters, Quits, Aborts, Performs, Finishes, Hears, Ends, Acknowledges, Restarts}
 use Rattle.alp_journal.specs.Coordinator.{Fate, Running, Finishing, Committed, client_of, restarted, is_running, Undrawn, Forgotten, Ended}
 use Rattle.alp_journal.specs.Participant as participant
 use Rattle.alp_journal.specs.Participant.{Phase, Unseen, Joining, Active, Ready, Applied, Over, live_in, open_in}
-use Rattle.alp_journal.specs.Holder.{Holder, Life, performs, after_done, answer_in, if_ready}
-use Rattle.alp_journal.specs.Desk.{Desk, Session, Waiting, is_of_part, file_trans, is_called, is_not_yet, is_unknown, is_aborted, waiting_of, waiting_at, without, with_session, waits_after, with_dead, without_waits, finished, collected, is_dead_call, is_call_on, is_dead, buried, begins_if, begins_waiting, part_trans}
+use Rattle.alp_journal.specs.Holder.{Life, performs, after_done, answer_in}
+use Rattle.alp_journal.specs.Desk.{Desk, Session, Waiting, is_of_part, file_trans, is_called, is_not_yet, is_unknown, is_aborted, waiting_of, waiting_at, with_session, waits_after, with_dead, without_waits, finished, collected, is_dead_call, is_call_on, is_dead, buried, begins_if, begins_waiting, part_trans}
 use Rattle.alp_journal.specs.Ids.{same_trans, has_join, is_drawn}
 use Rattle.alp_journal.specs.State.{State, state_deed, has_part}
-use Rattle.alp_journal.specs.Moves.{follows, is_new, who_is, principal, next_join, joins_here, ends_by, finishes, call_deeds, abort_in, no_in, first_sent, ends_for, quits_for, enters, refused_join, if_its, hears, refuses, acknowledges, message_deeds, times_out_here, times_out_join, event_deeds, asks_for, grants_to, begins_at, act_deeds, is_effective, resolved, call_of, answered, is_of_no_file, done_deeds, done_of, stops, is_stop, tried, greeted, counted, desk_told, did, told, halted, next}
+use Rattle.alp_journal.specs.Moves.{follows, is_new, who_is, principal, next_join, joins_here, ends_by, finishes, call_deeds, abort_in, no_in, first_sent, ends_for, quits_for, enters, refused_join, if_its, hears, refuses, acknowledges, message_deeds, times_out_here, times_out_join, event_deeds, asks_for, grants_to, begins_at, act_deeds, is_effective, resolved, call_of, answered, is_of_no_file, done_deeds, done_of, stops, tried, greeted, counted, desk_told, did, told, halted, next}
 use Rattle.alp_journal.specs.Moves as moves
-use Rattle.alp_journal.specs.Laws.{drawn_by, begun_in, begun_new, DrawsAsTold, Regains, StartsRight, SeesView, IsPerformed, regained_by}
+use Rattle.alp_journal.specs.Laws.{drawn_by, begun_in, begun_new, Regains, StartsRight, IsPerformed, regained_by}
 use Rattle.alp_journal.specs.Laws as laws
 use Rattle.alp_journal.proofs.IdLemmas.{all-append, same_trans-true, same_trans-itself}
 use Rattle.alp_journal.proofs.Origins.{all-flat, all-cond}
-use Rattle.alp_history.proofs.CommitEntries.{append-in, filter-in, all-from, plain-deeds, plain-calm, IsRegained, regained, restart-or}
+use Rattle.alp_history.proofs.CommitEntries.{filter-in, all-from, plain-deeds, plain-calm, IsRegained, regained, restart-or}
 use Rattle.alp_history.proofs.Entries.{is_open, effective-open}
 use Rattle.alp_history.proofs.FoundActs.{along-mid}
 use Rattle.alp_history.proofs.Logs.{server-stays}

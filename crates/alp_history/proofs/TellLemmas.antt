@@ -1,27 +1,25 @@
 -- what the calls so far tell is what the machine knows of sessions, of files that were made, and of the principals of parts
-use Rattle.std.specs.Prelude.{Bool, true, false, cond, not, ◌==◌, ◌&&◌, ◌||◌, filter, flat_map, Option, None, Some, is_some, map as list_map, if◌then◌else◌}
+use Rattle.std.specs.Prelude.{Bool, true, false, cond, not, filter, flat_map, Option, None, Some, map as list_map, if◌then◌else◌}
 use Rattle.std.specs.List.{AllByRecursion}
 use Rattle.std.specs.Option.{option_to_list}
-use Rattle.std.proofs.Common.{◌≡◌, ℕ, ◌+◌, ◌≤◌, List, [], ◌∷◌, ◌++◌, refl, sym, ap, subst, ◌∙◌, ◌⊎◌, inl, inr, arith}
+use Rattle.std.proofs.Common.{◌≡◌, ℕ, ◌+◌, ◌≤◌, List, [], ◌∷◌, ◌++◌, refl, sym, ap, subst, ◌∙◌, ◌⊎◌, inl, inr}
 use Rattle.alp_base.specs.declared.ids.FileId.{FileId}
 use Rattle.alp_base.specs.declared.ids.JoinNo.{JoinNo}
 use Rattle.alp_base.specs.declared.ids.TransId.{TransId}
 use Rattle.alp_base.specs.declared.ids.Stamp.{Stamp}
 use Rattle.alp_files.specs.declared.call.Call.{Call}
 use Rattle.alp_files.specs.Act.{id_in}
-use Rattle.alp_files.specs.History.{PerformedCall}
 use Rattle.alp_journal.specs.declared.entry.Entry.{Entry}
 use Rattle.alp_journal.specs.Moves.{stops}
 use Rattle.alp_journal.specs.Deeds.{Deed, Begins, Joins, Enters, Quits, Aborts, Grants, Performs, Releases, Readies, Applies, Registers, Finishes, Hears, Decides, Ends, Acknowledges, Forgets, Restarts}
 use Rattle.alp_journal.specs.Coordinator.{Fate, Undrawn, Running, Finishing, Committed, Forgotten, Ended, fate_after, begun, registered, finishing, heard, decided, ended, acknowledged, forgotten, is_running, has_all}
-use Rattle.alp_journal.specs.Ids.{same_trans, same_join, has_server}
+use Rattle.alp_journal.specs.Ids.{same_trans, same_join}
 use Rattle.alp_journal.specs.Participant.{Phase, Unseen, Joining, Active, Ready, Applied, Over, phase_after, drawn, entered, readied, applied, quit, aborted}
-use Rattle.alp_journal.specs.Holder.{Holder, Life, new_life, held_for, after_done, answer_in, grants, performs, readies, commits, holder_after}
-use Rattle.alp_journal.specs.Desk.{Desk, Session, Waiting, grant_in, is_of, file_trans, is_of_part, without, desk_after}
-use Rattle.alp_journal.specs.State.{State, Ids, ids_after, state_deed}
-use Rattle.alp_journal.specs.Along.{state_after}
+use Rattle.alp_journal.specs.Holder.{Holder, Life, new_life, held_for, after_done, answer_in, grants, readies, commits, holder_after}
+use Rattle.alp_journal.specs.Desk.{Session, Waiting, grant_in, is_of, file_trans, is_of_part, desk_after}
+use Rattle.alp_journal.specs.State.{State, ids_after, state_deed}
 use Rattle.alp_journal.proofs.IdLemmas.{same_trans-true, same_trans-itself, same_join-true}
-use Rattle.alp_history.proofs.LifeMoves.{IsCommit, left_of, life-cases}
+use Rattle.alp_history.proofs.LifeMoves.{left_of, life-cases}
 use Rattle.alp_history.proofs.Logs.{server-stays}
 use Rattle.alp_history.proofs.Places.{some-same}
 use Rattle.alp_history.specs.Committed.{Told, Done, done_at, told_by}

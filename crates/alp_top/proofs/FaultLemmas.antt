@@ -1,9 +1,9 @@
 -- where no device failed no entry says so
-use Rattle.std.specs.Prelude.{Bool, true, false, cond, not, ◌==◌, ◌&&◌, ◌||◌, filter, flat_map, map as list_map, Option, None, Some, is_some, is_none, nat_lt, nat_le, length, IsSome}
+use Rattle.std.specs.Prelude.{Bool, true, false, cond, not, ◌==◌, ◌&&◌, ◌||◌, flat_map, Option, None, Some, is_some, is_none, nat_lt, nat_le, length, IsSome}
 use Rattle.std.specs.List.{list_any, AllByRecursion}
 use Rattle.std.specs.Option.{option_or}
-use Rattle.std.proofs.Common.{◌≡◌, ℕ, ◌+◌, ◌-◌, List, [], ◌∷◌, ◌++◌, refl, sym, ◌∙◌, ap, subst, inl, inr, ◌⊎◌}
-use Rattle.std.proofs.lemmas.Bool.{or_parts, eqb-true}
+use Rattle.std.proofs.Common.{◌≡◌, ℕ, ◌+◌, ◌-◌, List, [], ◌∷◌, ◌++◌, refl, sym, ◌∙◌, ap, subst, inl, inr}
+use Rattle.std.proofs.lemmas.Bool.{or_parts}
 use Rattle.alp_base.specs.declared.ids.JoinNo.{JoinNo}
 use Rattle.alp_base.specs.declared.ids.Stamp.{Stamp}
 use Rattle.alp_base.specs.declared.ids.TransId.{TransId}
@@ -27,19 +27,17 @@ use Rattle.alp_journal.specs.declared.event.Event.TheVariants as event
 use Rattle.alp_journal.specs.declared.message.Message.{Message}
 use Rattle.alp_journal.specs.declared.message.Message.TheVariants as msg
 use Rattle.alp_journal.specs.declared.entry.Entry.{Entry}
-use Rattle.alp_journal.specs.Along.{Along, Where, state_after}
+use Rattle.alp_journal.specs.Along.{Along, Where}
 use Rattle.alp_journal.specs.Answered.{IsAnsweredEntry, is_read_fault, is_fault_act}
-use Rattle.alp_journal.specs.Answers as answers
-use Rattle.alp_journal.specs.Answers.{Part, NoPart, AtEnd, AtFinish, AtReady, AtJoining, AtWork, at_part, part_refusal, part_at, if_over, open_reply, open_refusal, shape_refusal, lock_refusal, many_refusal, count_refusal, locks_then, left_places, rise, is_past_limit, unless_counts, IsThreads, IsLocked, conflict, waits, performed, OrFault, First, IsFileAnswer, voted_reply, finish_reply, IsFinishAnswer, too_many, count_of_transactions, join_reply, is_no_part, IsJoinAnswer, finish_collected, join_collected, IsFileCollected, IsFileCollectedOf, IsCollectedOf, IsCollected, IsFileOf, IsAnswer, AnswersCall}
-use Rattle.alp_journal.specs.Coordinator.{Fate, Undrawn, Running, Finishing, Committed, Forgotten, Ended, Vote}
+use Rattle.alp_journal.specs.Answers.{Part, NoPart, AtEnd, AtFinish, AtReady, AtJoining, AtWork, at_part, part_at, if_over, open_reply, shape_refusal, lock_refusal, many_refusal, count_refusal, locks_then, left_places, rise, is_past_limit, unless_counts, IsThreads, IsLocked, conflict, waits, performed, OrFault, First, IsFileAnswer, voted_reply, finish_reply, too_many, count_of_transactions, join_reply, is_no_part, finish_collected, join_collected, IsFileCollected, IsFileCollectedOf, IsCollectedOf, IsCollected, IsFileOf, IsAnswer, AnswersCall}
+use Rattle.alp_journal.specs.Coordinator.{Fate, Undrawn, Running, Finishing, Committed, Forgotten, Ended}
 use Rattle.alp_journal.specs.Desk.{Session, Waiting, file_trans, waiting_of, waiting_at}
 use Rattle.alp_journal.specs.Holder.{Life, answer_in}
 use Rattle.alp_journal.specs.Ids.{same_trans, has_join}
-use Rattle.alp_journal.specs.Laws.{ending_of, Greets, CallsOn, Repeats, stale, KeepsSessions, IsStopped, TellsStop, IsLawfulEntry, IsLawful, is_written}
-use Rattle.alp_journal.specs.Messages as messages
-use Rattle.alp_journal.specs.Messages.{Mail, sent_by, to_each, on_finish, on_call, asks_to_join, no_room, full_or, first_why, why_not, vote_on, on_register, may_join, unknown_join, on_ask, on_votes, own_vote, on_ready, on_no, on_commit, commit_to, on_inquire, on_message, on_timeout, register_again, inquire_again, ask_again, commit_again, on_tick, to_others, due, has_all_votes}
+use Rattle.alp_journal.specs.Laws.{ending_of, Greets, CallsOn, Repeats, stale, KeepsSessions, IsStopped, TellsStop, IsLawfulEntry, IsLawful}
+use Rattle.alp_journal.specs.Messages.{Mail, to_each, on_finish, on_call, asks_to_join, no_room, full_or, first_why, why_not, vote_on, on_register, may_join, unknown_join, on_ask, on_votes, own_vote, on_ready, on_no, on_commit, commit_to, on_inquire, on_message, on_timeout, register_again, inquire_again, ask_again, commit_again, on_tick, to_others, due, has_all_votes}
 use Rattle.alp_journal.specs.Counts.{log_need}
-use Rattle.alp_journal.specs.Moves.{next_trans, is_new, is_of_no_file, follows, call_deeds, stops, is_stop, next}
+use Rattle.alp_journal.specs.Moves.{next_trans, is_new, is_of_no_file, follows, call_deeds, stops, next}
 use Rattle.alp_files.specs.Counts.{file_count_of, owner_count_of}
 use Rattle.alp_files.specs.Needs.{changed, is_leader, is_owner}
 use Rattle.alp_journal.specs.Opening.{Start}
