@@ -96,3 +96,14 @@ found_last cs low high place below within near here there =
     let x = get_at cs low (omega (arith, below, within)) in
     let is : low + 1 ≡ high = omega (arith, below, near) in
     (x.0, x.1, here x.0 x.1, λ m e. there m (ap (λ k. slice_get cs k) (sym is) ∙ e))
+
+module _ {A : Type 0} where
+  pub get_of_or : (xs : List A) (i : ℕ) (x : A) → i < length xs → x ≡ slice_index_or xs i x → slice_get xs i ≡ Some x
+  get_of_or [] i x low is = absurd (omega (arith, low))
+  get_of_or (y ∷ ys) zero x low is = ap (λ (z : A). Some z) (sym is)
+  get_of_or (y ∷ ys) (suc i) x low is = get_of_or ys i x (omega (arith, low)) is
+
+  pub get_or_there : (xs : List A) (i : ℕ) (d : A) → i < length xs → slice_get xs i ≡ Some (slice_index_or xs i d)
+  get_or_there [] i d low = absurd (omega (arith, low))
+  get_or_there (y ∷ ys) zero d low = refl
+  get_or_there (y ∷ ys) (suc i) d low = get_or_there ys i d (omega (arith, low))

@@ -82,7 +82,7 @@ module _ {V : Type 0} (G : Ghosts V) (made : Made V) (n : NodeState V) (ranks : 
       let l = h.long in
       omega (arith, a, b, c, s, l)
 
-  abbrev es : List Ranked
+  abbrev pub es : List Ranked
   es = ranked (further_of made n) (drop since ranks)
 
   pub entries_long : length es + since ≡ length n.journal

@@ -1,5 +1,8 @@
 mod SendLemmas
 mod CountLemmas
 mod DeskLemmas
+mod ServedLemmas
 mod BerthLemmas
 mod EntryLemmas
+mod StepLemmas
+mod ShownLemmas

@@ -24,7 +24,7 @@ module _ {A : Type 0} where
   get_first (z ∷ zs) ys (suc i) x e = get_first zs ys i x e
 
   pub get_second : (xs ys : List A) (i : ℕ) → slice_get (xs ++ ys) (length xs + i) ≡ slice_get ys i
-  get_second [] ys i = refl
+  get_second [] ys i = (let e : 0 + i ≡ i = omega arith in ap (λ n. slice_get ys n) e)
   get_second (x ∷ xs) ys i = (let e : suc (length xs) + i ≡ suc (length xs + i) = omega arith in ap (λ n. slice_get (x ∷ (xs ++ ys)) n) e) ∙ get_second xs ys i
 
   pub same_some : (x y : A) → Some x ≡ Some y → x ≡ y
@@ -39,7 +39,7 @@ module _ {A B : Type 0} (f : A → B) where
 -- ---- counts
 
 count_both : (xs ys : List Entry) → count_in (xs ++ ys) ≡ count_in xs + count_in ys
-count_both [] ys = refl
+count_both [] ys = omega arith
 count_both (x ∷ xs) ys = let r = count_both xs ys in omega (arith, r)
 
 pub count_more : (js : List Entry) (e : Entry) → count_in (js ++ e ∷ []) ≡ count_in js + length (sent_by e.acts)

@@ -1,5 +1,6 @@
 //! A berth: a server of a storm, with the ranks of its entries.
 ghost use Rattle.std.specs.Prelude.{◌≡◌, ◌≤◌, ◌<◌, ◌^◌, ◌∷◌, ◌++◌, [], true, false, length, min, IfOk, IfErr, IfSome, IfNone, OnErr, Ok, Some};
+ghost use Rattle.std.specs.List.{list_any};
 ghost use Rattle.alp_journal.specs.Answered.{is_read_fault};
 ghost use Rattle.alp_storm.specs.Logs.{is_failure, shows_fault};
 ghost use Rattle.alp_node.specs.Nodes.{HasRoom};
@@ -7,7 +8,7 @@ ghost use Rattle.alp_node.specs.Served.{IsServed};
 ghost use Rattle.alp_berth.specs.Berths.{IsBerthState, MayBerth, HasStepped, IsUnstepped, entries_of, last_in, IsShut};
 ghost use Rattle.alp_berth.specs.Sends.{sent_by, counts_from, count_in, capped};
 
-use crate::counts::{count_sent, find, sent_at};
+use crate::counts::{count_at, count_sent, entry_at, find, sent_at};
 use crate::made::{Made, Ranked};
 use alp_base::OutOfMemory;
 use alp_carrier::Station;
@@ -105,11 +106,19 @@ fn is_failed(act: &Act) -> bool
     matches!(act, Act::Failed)
 }
 
+// Whether one of the acts says that the device failed.
+fn any_failed(acts: &[Act]) -> bool
+    ensures { result ≡ list_any is_failure acts.now }
+{
+    acts.iter().any(|act| is_failed(act))
+}
+
 // Whether an entry shows that the device failed in it.
 fn has_failed(entry: &Entry) -> bool
     ensures { result ≡ shows_fault entry.now }
 {
-    shows_read_fault(&entry.reply) || entry.acts.as_slice().iter().any(|act| is_failed(act))
+    let failed = any_failed(entry.acts.as_slice());
+    shows_read_fault(&entry.reply) || failed
 }
 
 // The same of the last entry.
@@ -156,7 +165,7 @@ impl<V: Vault> Berth<V> {
     pub fn knows(&self)
         ensures { IsBerthState V.Vault self.now }
     {
-        let _ = self.since;
+        let _ = &self.made;
     }
 
     /// Its server.
@@ -198,6 +207,7 @@ impl<V: Vault> Berth<V> {
         self.ranks.reserve(1)?;
         self.counts.reserve(1)?;
         let rank = last_of(&self.ranks).max(seen) + 1;
+        self.node.knows();
         let reply = self.node.step(event)?;
         self.node.knows();
         let sent = count_last(self.node.journal().entries());
@@ -230,10 +240,13 @@ impl<V: Vault> Station for Berth<V> {
     ghost sight = { sight_of };
 
     fn emitted(&self, place: u32) -> Option<Envelope> {
-        let at = find(self.counts.as_slice(), u64::from(place))?;
-        let entry = &self.node.journal().entries()[at];
+        let Some(at) = find(self.counts.as_slice(), u64::from(place)) else {
+            return None;
+        };
+        let entry = entry_at(self.node.journal().entries(), at);
+        let before = count_at(self.counts.as_slice(), at);
         self.node.knows();
-        sent_at(entry.acts.as_slice(), u64::from(place) - self.counts[at])
+        sent_at(entry.acts.as_slice(), u64::from(place) - before)
     }
 
     fn last_rank(&self) -> u64 {
@@ -241,6 +254,7 @@ impl<V: Vault> Station for Berth<V> {
     }
 
     fn deliver(&mut self, from: u8, message: Message, seen: u64) -> Result<(), OutOfMemory> {
+        self.knows();
         if self.is_shut() {
             return Ok(());
         }
@@ -255,6 +269,7 @@ impl<V: Vault> Host for Berth<V> {
     ghost log = { log_of };
 
     fn step(&mut self, event: Event) -> Result<Answer, StormFault> {
+        self.knows();
         let server = self.node.server();
         if self.node.is_down() {
             return Err(StormFault::DiskFault { server });

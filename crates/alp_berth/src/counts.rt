@@ -65,3 +65,19 @@ pub(crate) fn find(counts: &[u64], place: u64) -> Option<usize>
     }
     Some(low)
 }
+
+/// The entry at that place.
+pub(crate) fn entry_at(entries: &[Entry], at: usize) -> &Entry
+    requires { at < length entries.now }
+    ensures { slice_get entries.now at ≡ Some result.now }
+{
+    &entries[at]
+}
+
+/// The count at that place.
+pub(crate) fn count_at(counts: &[u64], at: usize) -> u64
+    requires { at < length counts.now }
+    ensures { slice_get counts.now at ≡ Some result }
+{
+    counts[at]
+}
