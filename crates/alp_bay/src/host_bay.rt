@@ -1,12 +1,14 @@
 //! A bay whose disks are files of a folder, or in memory.
-ghost use Rattle.std.specs.Prelude.{◌≡◌, ℕ, IfOk, IfSome, OnOk, None, string_bytes};
+ghost use Rattle.std.specs.Prelude.{◌≡◌, ℕ, IfOk, IfSome, None};
 
 use crate::fault_count::FaultCount;
-use crate::volume_file::{FileFault, open_volume};
+use crate::folder::Folder;
+use crate::open::{FileFault, open_volume};
 use crate::{Bay, BayFault, HostDisk, MemBay};
 use alp_base::OutOfMemory;
+use alp_disk::Disk;
 use std::alloc::Global;
-use std::fs::{self, File, Files};
+use std::fs::{File, Files};
 
 /// Files `server1.vol` to `server8.vol` of the folder that was chosen, or disks in memory where none was. It tells what
 /// stands in memory alone, since no contract can say what a file gives.
@@ -15,7 +17,7 @@ pub struct HostBay<R: Files<File = File> + Drop> {
     alloc: Global,
     files: R,
     memory: MemBay,
-    folder: Option<String>,
+    folder: Option<Folder>,
     faults: FaultCount,
 }
 
@@ -39,32 +41,10 @@ impl<R: Files<File = File> + Drop> HostBay<R> {
     }
 }
 
-// A folder that is there, by its name.
-fn folder_named<R: Files>(
-    alloc: Global,
-    files: &R,
-    name: &str,
-) -> Result<Option<String>, OutOfMemory>
-    ensures { IfOk result (λ found. IfSome found (λ copy. string_bytes copy ≡ name.now)) }
-{
-    if name.is_empty() {
-        return Ok(None);
-    }
-    let Ok(found) = fs::metadata(files, name) else {
-        return Ok(None);
-    };
-    if !found.is_dir() {
-        return Ok(None);
-    }
-    let mut copy = String::new(alloc);
-    copy.push_str(name)?;
-    Ok(Some(copy))
-}
-
 impl<R: Files<File = File> + Drop> Bay for HostBay<R> {
-    ghost use Rattle.std.specs.Prelude.{not, is_some, option_map, OnErr};
-    ghost use Rattle.alp_bay.specs.Bays.{HasBayCause, folder_name};
-    ghost use Rattle.alp_bay.specs.HostBays.{host_disk_at, unnamed_tells};
+    ghost use Rattle.std.specs.Prelude.{◌≤◌, not, is_some, option_map, OnOk, OnErr, IsTrue};
+    ghost use Rattle.alp_bay.specs.Bays.{HasBayCause, IsTaken, IsEmptied, IsFilled};
+    ghost use Rattle.alp_bay.specs.HostBays.{host_disk_at, host_folder, unnamed_tells, IsOfServer, IsBackAt};
 
     type Device = HostDisk;
 
@@ -72,7 +52,7 @@ impl<R: Files<File = File> + Drop> Bay for HostBay<R> {
 
     ghost at = { λ b server. host_disk_at b.memory server };
 
-    ghost chosen = { λ b. folder_name b.folder };
+    ghost chosen = { λ b. host_folder b.folder };
 
     ghost faults = { λ b. b.faults.count };
 
@@ -81,7 +61,7 @@ impl<R: Files<File = File> + Drop> Bay for HostBay<R> {
     ghost faults_end = { λ b. b.faults.end };
 
     fn choose(&mut self, folder: Option<&str>) -> Result<(), BayFault>
-        ensures named { OnOk result (folder_name self.new.folder ≡ option_map (λ name. name.now) folder.entry) }
+        ensures named { OnOk result (host_folder self.new.folder ≡ option_map (λ name. name.now) folder.entry) }
         ensures refused { OnErr result (self.new.folder ≡ self.old.folder) }
         ensures places { self.new.memory ≡ self.old.memory }
         ensures cause { HasBayCause self.old.faults.count self.new.faults.count result }
@@ -90,7 +70,7 @@ impl<R: Files<File = File> + Drop> Bay for HostBay<R> {
             self.folder = None;
             return Ok(());
         };
-        let Some(found) = folder_named(self.alloc, &self.files, name)? else {
+        let Some(found) = Folder::find(self.alloc, &self.files, name)? else {
             self.faults.raise();
             return Err(BayFault::Failed);
         };
@@ -98,14 +78,26 @@ impl<R: Files<File = File> + Drop> Bay for HostBay<R> {
         Ok(())
     }
 
-    fn take(&mut self, server: u8, pages: u32) -> Result<HostDisk, BayFault> {
+    fn take(&mut self, server: u8, pages: u32) -> Result<HostDisk, BayFault>
+        requires server { (1 ≤ server) × (server ≤ 8) }
+        requires pages { 2 ≤ pages }
+        ensures taken { IsTrue (not (is_some self.old.folder)) → IfOk result (IsTaken ⟦<HostDisk as Disk>⟧ (host_disk_at self.old.memory server) pages) }
+        ensures emptied { IsTrue (not (is_some self.old.folder)) → OnOk result (IsEmptied (host_disk_at self.old.memory) (host_disk_at self.new.memory) server) }
+        ensures refused { OnErr result (host_disk_at self.new.memory ≡ host_disk_at self.old.memory) }
+        ensures aside { IsTrue (is_some self.old.folder) → self.new.memory ≡ self.old.memory }
+        ensures named { IfSome self.old.folder (λ folder. IfOk result (λ disk. IsOfServer server disk folder)) }
+        ensures long { IfOk result (λ disk. 2 ≤ ⟦<HostDisk as Disk>⟧.size disk) }
+        ensures told { IsTrue (not (is_some self.old.folder)) → IfOk result (λ disk. IsTrue (⟦<HostDisk as Disk>⟧.tells disk)) }
+        ensures chosen { self.new.folder ≡ self.old.folder }
+        ensures cause { HasBayCause self.old.faults.count self.new.faults.count result }
+    {
         let Some(folder) = &self.folder else {
             return match self.memory.take(server, pages) {
                 Ok(disk) => Ok(HostDisk::Memory(disk)),
                 Err(fault) => Err(fault),
             };
         };
-        match open_volume(self.alloc, &self.files, folder.as_str(), server, pages) {
+        match open_volume(self.alloc, &self.files, folder, server, pages) {
             Ok(disk) => Ok(HostDisk::File(disk)),
             Err(FileFault::OutOfMemory) => Err(BayFault::OutOfMemory),
             Err(_) => {
@@ -115,7 +107,15 @@ impl<R: Files<File = File> + Drop> Bay for HostBay<R> {
         }
     }
 
-    fn give(&mut self, server: u8, device: HostDisk) {
+    fn give(&mut self, server: u8, device: HostDisk)
+        requires server { (1 ≤ server) × (server ≤ 8) }
+        requires long { 2 ≤ ⟦<HostDisk as Disk>⟧.size device }
+        requires told { IsTrue (not (is_some self.old.folder)) → IsTrue (⟦<HostDisk as Disk>⟧.tells device) }
+        ensures given { IsTrue (not (is_some self.old.folder)) → IsFilled (host_disk_at self.old.memory) (host_disk_at self.new.memory) server device }
+        ensures stands { IsBackAt server self.new.memory device }
+        ensures chosen { self.new.folder ≡ self.old.folder }
+        ensures faults { self.new.faults ≡ self.old.faults }
+    {
         if let HostDisk::Memory(disk) = device {
             self.memory.give(server, disk);
         }

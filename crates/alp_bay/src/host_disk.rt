@@ -1,12 +1,13 @@
 //! A disk that is in memory, or a file of the host.
+use crate::VolumeFile;
 use alp_base::{Halt, Page};
-use alp_disk::{Disk, FileDisk, MemDisk};
+use alp_disk::{Disk, MemDisk};
 
-/// A disk in memory, which tells what it holds, or a file of the host, which does not.
+/// A disk in memory, which tells what it holds, or the file of a server's volume, which does not.
 #[derive(Drop)]
 pub enum HostDisk {
     Memory(MemDisk),
-    File(FileDisk),
+    File(VolumeFile),
 }
 
 impl Disk for HostDisk {
@@ -33,17 +34,17 @@ impl Disk for HostDisk {
 
     ghost crashed = { λ d pick back. CrashedBy pick d back };
 
-    ghost few = { λ d. each (λ x. size_of x < 2 ^ 32) (λ m. mem_laws.few-law m) (λ f. file_laws.few-law f) d };
+    ghost few = { λ d. each (λ x. size_of x < 2 ^ 32) (λ m. mem_laws.few-law m) (λ f. file_laws.few-law f.disk) d };
 
-    ghost faults_end = { λ d. each (λ x. faults_of x < 2 ^ 64) (λ m. mem_laws.faults_end-law m) (λ f. file_laws.faults_end-law f) d };
+    ghost faults_end = { λ d. each (λ x. faults_of x < 2 ^ 64) (λ m. mem_laws.faults_end-law m) (λ f. file_laws.faults_end-law f.disk) d };
 
-    ghost is_image = { λ d. each (λ x. IsTrue (tells_of x) → IsImage (size_of x) (seen_of x)) (λ m. mem_laws.is_image-law m) (λ f. file_laws.is_image-law f) d };
+    ghost is_image = { λ d. each (λ x. IsTrue (tells_of x) → IsImage (size_of x) (seen_of x)) (λ m. mem_laws.is_image-law m) (λ f. file_laws.is_image-law f.disk) d };
 
-    ghost are_images = { λ d. each (λ x. (c : Image) → LeftBy x c → IsImage (size_of x) c) (λ m. mem_laws.are_images-law m) (λ f. file_laws.are_images-law f) d };
+    ghost are_images = { λ d. each (λ x. (c : Image) → LeftBy x c → IsImage (size_of x) c) (λ m. mem_laws.are_images-law m) (λ f. file_laws.are_images-law f.disk) d };
 
-    ghost were_images = { λ _ d. each (λ x. (c : Image) → LeftBy x c → IsImage (size_of x) c) (λ m. mem_laws.are_images-law m) (λ f. file_laws.are_images-law f) d };
+    ghost were_images = { λ _ d. each (λ x. (c : Image) → LeftBy x c → IsImage (size_of x) c) (λ m. mem_laws.are_images-law m) (λ f. file_laws.are_images-law f.disk) d };
 
-    ghost as_read = { λ d. each (λ x. IsTrue (tells_of x) → LeftBy x (seen_of x)) (λ m. mem_laws.as_read-law m) (λ f. file_laws.as_read-law f) d };
+    ghost as_read = { λ d. each (λ x. IsTrue (tells_of x) → LeftBy x (seen_of x)) (λ m. mem_laws.as_read-law m) (λ f. file_laws.as_read-law f.disk) d };
 
     ghost counts_now = { λ _ _ _ left. left };
 
@@ -52,42 +53,42 @@ impl Disk for HostDisk {
     fn pages(&self) -> u32 {
         match self {
             HostDisk::Memory(disk) => disk.pages(),
-            HostDisk::File(disk) => disk.pages(),
+            HostDisk::File(volume) => volume.disk.pages(),
         }
     }
 
     fn read(&mut self, at: u32, page: &mut Page) -> Result<(), Halt> {
         match self {
             HostDisk::Memory(disk) => disk.read(at, page),
-            HostDisk::File(disk) => disk.read(at, page),
+            HostDisk::File(volume) => volume.disk.read(at, page),
         }
     }
 
     fn write(&mut self, at: u32, offset: u16, bytes: &[u8]) -> Result<(), Halt> {
         match self {
             HostDisk::Memory(disk) => disk.write(at, offset, bytes),
-            HostDisk::File(disk) => disk.write(at, offset, bytes),
+            HostDisk::File(volume) => volume.disk.write(at, offset, bytes),
         }
     }
 
     fn sync(&mut self) -> Result<(), Halt> {
         match self {
             HostDisk::Memory(disk) => disk.sync(),
-            HostDisk::File(disk) => disk.sync(),
+            HostDisk::File(volume) => volume.disk.sync(),
         }
     }
 
     fn stop_after(&mut self, calls: Option<u32>) {
         match self {
             HostDisk::Memory(disk) => disk.stop_after(calls),
-            HostDisk::File(disk) => disk.stop_after(calls),
+            HostDisk::File(volume) => volume.disk.stop_after(calls),
         }
     }
 
     fn power_off(self, pick: u64) -> Self {
         match self {
             HostDisk::Memory(disk) => HostDisk::Memory(disk.power_off(pick)),
-            HostDisk::File(disk) => HostDisk::File(disk.power_off(pick)),
+            HostDisk::File(volume) => HostDisk::File(volume.power_off(pick)),
         }
     }
 }

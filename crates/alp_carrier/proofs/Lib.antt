@@ -1,7 +1,7 @@
 mod Fronts
 mod BringLemmas
-mod PlanLemmas
-mod TakeLemmas
+pub mod PlanLemmas
+pub mod TakeLemmas
 mod TurnLemmas
 mod WayLemmas
 mod ClaimLemmas

@@ -20,7 +20,7 @@ use Rattle.alp_posts.specs.Post.{Post, took}
 use Rattle.alp_posts.specs.Posts.{AreServers, post_at, with_post}
 use Rattle.alp_posts.proofs.MessageLemmas.{messages_append, messages_kept}
 use Rattle.alp_posts.proofs.TableLemmas.{same_post, other_post}
-use Rattle.alp_course.specs.Courses.{Course, Seat, seat_at, seat_after, last_rank, IsSeat, IsAt, AreTwo, Occurrence, at as happens_at, looks, brings, loses, repeats, rests, next_message, taking, IsBrought, Occurs, AreCourse}
+use Rattle.alp_course.specs.Courses.{Course, Seat, seat_at, seat_after, last_rank, IsSeat, IsAt, AreTwo, Occurrence, at as happens_at, looks, brings, loses, repeats, comes, rests, next_message, taking, IsBrought, Occurs, AreCourse}
 use Rattle.alp_course.specs.Happens.{Stand, Happening, ticked, IsEntryOf, ComesTo, Happens}
 use Rattle.alp_course.specs.Midway.{Holds, taken_of, sent_to, IsWithin}
 use Rattle.alp_course.specs.Settles.{IsUpIn, AreUp}
@@ -219,6 +219,7 @@ IsOfRound (looks from to waits) = Unit {0}
 IsOfRound (brings from to) = Unit {0}
 IsOfRound (loses from to) = ⊥
 IsOfRound (repeats from to) = ⊥
+IsOfRound (comes from to m seen) = ⊥
 IsOfRound (rests is_rest) = Unit {0}
 
 at_moved : (r after : Course) (n : ℕ) (h : Happening) → AreUp r → IsOfRound (happens_at n h) → Occurs r (happens_at n h) after → HasMoved r after
@@ -231,6 +232,7 @@ occurs_moved r after (looks from to waits) holds up of a = subst (HasMoved r) (s
 occurs_moved r after (brings from to) holds up of a = brought_moved r after from to holds up a.0 a
 occurs_moved r after (loses from to) holds up of a = absurd of
 occurs_moved r after (repeats from to) holds up of a = absurd of
+occurs_moved r after (comes from to m seen) holds up of a = absurd of
 occurs_moved r after (rests is_rest) holds up of a = subst (HasMoved r) (sym a.1) (not_moved r)
 
 calm_of : (x : Occurrence) → IsOfRound x → IsCalm x
@@ -240,6 +242,7 @@ calm_of (looks from to waits) of = tt
 calm_of (brings from to) of = tt
 calm_of (loses from to) of = absurd of
 calm_of (repeats from to) of = absurd of
+calm_of (comes from to m seen) of = absurd of
 calm_of (rests is_rest) of = tt
 
 -- of all that occurs in it, where no more is taken than was sent on the way

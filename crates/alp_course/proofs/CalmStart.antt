@@ -22,7 +22,7 @@ use Rattle.alp_posts.specs.Post.{Post, took}
 use Rattle.alp_posts.specs.Posts.{AreServers, post_at, with_post}
 use Rattle.alp_posts.proofs.MessageLemmas.{messages_append}
 use Rattle.alp_posts.proofs.TableLemmas.{same_post, other_post}
-use Rattle.alp_course.specs.Courses.{Course, Seat, seat_at, seat_after, no_seat, first_seat, last_rank, IsSeat, IsAt, AreTwo, Occurrence, at, looks, brings, loses, repeats, rests, next_message, taking, Arrives, IsBrought, IsLost, IsRepeated, Occurs, AreCourse}
+use Rattle.alp_course.specs.Courses.{Course, Seat, seat_at, seat_after, no_seat, first_seat, last_rank, IsSeat, IsAt, AreTwo, Occurrence, at, looks, brings, loses, repeats, comes, rests, next_message, taking, Arrives, IsBrought, IsLost, IsRepeated, Occurs, AreCourse}
 use Rattle.alp_course.specs.Happens.{Stand, Happening, sent_it, timed_out, ticked, forced, stop_set, restarted, lifts, finds, IsEntryOf, IsNone, ComesTo, Takes, Happens}
 use Rattle.alp_course.specs.Links.{AreIdle, IsFirst}
 use Rattle.alp_course.specs.Midway.{Holds, taken_of, sent_to, IsWithin, said_by, AreSaid}
@@ -92,6 +92,7 @@ pub within_step : (r after : Course) (x : Occurrence) → Holds r → IsWithin r
 within_step r after (at n h) holds within a = at_within r after n 0 (λ s es w. Happens s.tells s.stand h es w) a within
 within_step r after (looks from to waits) holds within a = subst IsWithin (sym a.2) within
 within_step r after (rests is_rest) holds within a = subst IsWithin (sym a.1) within
+within_step r after (comes from to m seen) holds within a = at_within r after to seen (λ s es w. ComesTo s.stand s.stand.is_down (event.Arrive from m) es w) a.2 within
 within_step r after (brings from to) holds within a = go (next_message r from to) refl a.1
   where
     go : (o : Option Message) → next_message r from to ≡ o → IsBrought r from to o after → IsWithin after
@@ -155,6 +156,8 @@ said_step : (r after : Course) (x : Occurrence) → AreSaid r → Occurs r x aft
 said_step r after (at n h) said a = at_said r after n 0 (λ s es w. Happens s.tells s.stand h es w) a (happens_state (seat_at r n).tells (seat_at r n).stand h a.entries a.stand a.made) said
 said_step r after (looks from to waits) said a = subst AreSaid (sym a.2) said
 said_step r after (rests is_rest) said a = subst AreSaid (sym a.1) said
+said_step r after (comes from to m seen) said a =
+    at_said r after to seen (λ s es w. ComesTo s.stand s.stand.is_down (event.Arrive from m) es w) a.2 (by_event (seat_at r to).stand (seat_at r to).stand.is_down (event.Arrive from m) a.2.entries a.2.stand a.2.made) said
 said_step r after (brings from to) said a = go (next_message r from to) a.1
   where
     go : (o : Option Message) → IsBrought r from to o after → AreSaid after

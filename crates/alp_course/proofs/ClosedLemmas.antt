@@ -21,7 +21,7 @@ use Rattle.alp_journal.specs.declared.act.Act.TheVariants as act
 use Rattle.alp_journal.specs.declared.entry.Entry.{Entry}
 use Rattle.alp_journal.specs.declared.event.Event.{Event}
 use Rattle.alp_journal.specs.declared.event.Event.TheVariants as event
-use Rattle.alp_course.specs.Courses.{Course, Seat, seat_at, Occurrence, at, looks, brings, loses, repeats, rests, AreCourse}
+use Rattle.alp_course.specs.Courses.{Course, Seat, seat_at, Occurrence, at, looks, brings, loses, repeats, comes, rests, AreCourse}
 use Rattle.alp_course.specs.Happens.{Happening, timed_out, ticked, finds, Stand, stand_after, IsEntryOf, IsNone, ComesTo, Happens, AreRecorded}
 use Rattle.alp_course.specs.Languages.{Language, Nothing, Just, Then, Each}
 use Rattle.alp_course.specs.Lone.{happenings_of, HasGoneOn}
@@ -247,6 +247,7 @@ happenings_append (looks from to waits ∷ xs) ys = happenings_append xs ys
 happenings_append (brings from to ∷ xs) ys = happenings_append xs ys
 happenings_append (loses from to ∷ xs) ys = happenings_append xs ys
 happenings_append (repeats from to ∷ xs) ys = happenings_append xs ys
+happenings_append (comes from to m seen ∷ xs) ys = happenings_append xs ys
 happenings_append (rests is_rest ∷ xs) ys = happenings_append xs ys
 
 calm_quiet : (xs : List Occurrence) → AllByRecursion IsCalm xs → AllByRecursion IsQuiet (happenings_of xs)
@@ -259,6 +260,7 @@ calm_quiet (looks from to waits ∷ xs) calm = calm_quiet xs calm.1
 calm_quiet (brings from to ∷ xs) calm = calm_quiet xs calm.1
 calm_quiet (loses from to ∷ xs) calm = calm_quiet xs calm.1
 calm_quiet (repeats from to ∷ xs) calm = calm_quiet xs calm.1
+calm_quiet (comes from to m seen ∷ xs) calm = calm_quiet xs calm.1
 calm_quiet (rests is_rest ∷ xs) calm = calm_quiet xs calm.1
 
 empties_behind : (hs js : List Happening) → IsEmptied hs → AllByRecursion IsQuiet js → IsEmptied (hs ++ js)

@@ -22,9 +22,9 @@ use Rattle.alp_posts.specs.Posts.{AreServers, IsTable, post_at, with_post}
 use Rattle.alp_posts.proofs.MessageLemmas.{sent_by}
 use Rattle.alp_posts.proofs.TableLemmas.{same_post, other_post, still_table}
 use Rattle.alp_course.specs.Happens.{Happening, sent_it, timed_out, ticked, forced, stop_set, restarted, lifts, finds, Stand, IsEntryOf, IsNone, ComesTo, Takes, Happens}
-use Rattle.alp_course.specs.Courses.{Course, Seat, no_seat, seat_at, seat_after, last_rank, ranks_with, IsSeat, IsAt, Occurrence, at, looks, brings, loses, repeats, rests, next_message, taking, Arrives, IsBrought, IsLost, IsRepeated, Occurs, AreCourse, first_seat}
+use Rattle.alp_course.specs.Courses.{Course, Seat, no_seat, seat_at, seat_after, last_rank, ranks_with, IsSeat, IsSentBy, IsAt, Occurrence, at, looks, brings, loses, repeats, comes, rests, next_message, taking, Arrives, IsBrought, IsLost, IsRepeated, Occurs, AreCourse, first_seat}
 use Rattle.alp_course.specs.Links.{server_log, log_of, AreNumbered, AreIdle, IsFirst, Linking}
-use Rattle.alp_course.specs.Midway.{AreRising, IsSentBy, AllSent, LastSent, Holds}
+use Rattle.alp_course.specs.Midway.{AreRising, AllSent, LastSent, Holds}
 use Rattle.alp_course.proofs.RankLemmas.{unwrap_get, get_below, below_or, none_rising, old_rank, new_rank, still_rising}
 use Rattle.alp_course.proofs.SeatLemmas.{as_many, seat_there, each_seat, still_seat, seat_number, still_numbered, IsOf, its, nobodys, of_course, of_seat}
 
@@ -272,6 +272,7 @@ occurs_on r after (looks from to waits) h a = subst Holds (sym a.2) h
 occurs_on r after (brings from to) h a = brought r after from to h a.0.sender a.0.receiver a.1
 occurs_on r after (loses from to) h a = lost r after from to h a.0.sender a.0.receiver a.1
 occurs_on r after (repeats from to) h a = repeated r after from to h a.0.sender a.0.receiver a.1
+occurs_on r after (comes from to m seen) h a = arrives_at r after from to m seen h a.0.sender a.1 a.2
 occurs_on r after (rests is_rest) h a = subst Holds (sym a.1) h
 
 pub course_on : (r after : Course) (xs : List Occurrence) → Holds r → AreCourse r xs after → Holds after

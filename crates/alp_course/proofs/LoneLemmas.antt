@@ -4,7 +4,7 @@ use Rattle.std.proofs.Common.{◌≡◌, ℕ, ◌+◌, ◌-◌, ◌≤◌, List,
 use Rattle.std.proofs.lemmas.List.{append-nil, append_assoc}
 use Rattle.alp_journal.specs.declared.entry.Entry.{Entry}
 use Rattle.alp_course.specs.Happens.{Happening, Stand, Happens, AreRecorded}
-use Rattle.alp_course.specs.Courses.{Course, Seat, Occurrence, at, looks, brings, loses, repeats, rests, seat_at, seat_after, no_seat, ranks_with, IsSeat, IsAt, AreTwo, Occurs, AreCourse}
+use Rattle.alp_course.specs.Courses.{Course, Seat, Occurrence, at, looks, brings, loses, repeats, comes, rests, seat_at, seat_after, no_seat, ranks_with, IsSeat, IsAt, AreTwo, Occurs, AreCourse}
 use Rattle.alp_course.specs.Lone.{happenings_of, HasGoneOn, Alone}
 use Rattle.alp_course.proofs.RankLemmas.{none_with, with_append}
 
@@ -59,6 +59,7 @@ here_only r mid after (looks from to waits) xs s single a rest = absurd (no_two 
 here_only r mid after (brings from to) xs s single a rest = absurd (no_two r s from to single a.0)
 here_only r mid after (loses from to) xs s single a rest = absurd (no_two r s from to single a.0)
 here_only r mid after (repeats from to) xs s single a rest = absurd (no_two r s from to single a.0)
+here_only r mid after (comes from to m seen) xs s single a rest = absurd (no_two r s from to single a.0)
 here_only r mid after (rests is_rest) xs s single a rest = rest s (ap (λ (c : Course). c.seats) a.1 ∙ single)
 
 pub alone : Alone

@@ -12,7 +12,7 @@ use Rattle.alp_journal.specs.declared.log.Sent.TheVariants as sent
 use Rattle.alp_journal.specs.declared.message.Message.{Message}
 use Rattle.alp_posts.specs.Posts.{post_at}
 use Rattle.alp_course.specs.Carries.{ArePlaced}
-use Rattle.alp_course.specs.Courses.{Course, Seat, seat_at, seat_after, no_seat, last_rank, IsSeat, IsAt, Occurrence, at, looks, brings, loses, repeats, rests, next_message, taking, IsBrought, IsLost, IsRepeated, Occurs, AreCourse}
+use Rattle.alp_course.specs.Courses.{Course, Seat, seat_at, seat_after, no_seat, last_rank, IsSeat, IsAt, Occurrence, at, looks, brings, loses, repeats, comes, rests, next_message, taking, IsBrought, IsLost, IsRepeated, Occurs, AreCourse}
 use Rattle.alp_course.specs.Happens.{Stand, Happening, sent_it, timed_out, ticked, forced, stop_set, restarted, lifts, finds, IsEntryOf, IsNone, ComesTo, Takes, Happens}
 use Rattle.alp_course.specs.Links.{AreIdle, IsFirst}
 use Rattle.alp_course.specs.Midway.{IsMidway, Keeping}
@@ -65,6 +65,8 @@ placed_step : (r after : Course) (x : Occurrence) → ArePlaced r → Occurs r x
 placed_step r after (at n h) placed a = at_placed r after n 0 (λ s es w. Happens s.tells s.stand h es w) a (happens_place (seat_at r n).tells (seat_at r n).stand h a.entries a.stand a.made) placed
 placed_step r after (looks from to waits) placed a = subst ArePlaced (sym a.2) placed
 placed_step r after (rests is_rest) placed a = subst ArePlaced (sym a.1) placed
+placed_step r after (comes from to m seen) placed a =
+    at_placed r after to seen (λ s es w. ComesTo s.stand s.stand.is_down (event.Arrive from m) es w) a.2 (by_event (seat_at r to).stand (seat_at r to).stand.is_down (event.Arrive from m) a.2.entries a.2.stand a.2.made) placed
 placed_step r after (brings from to) placed a = go (next_message r from to) a.1
   where
     go : (o : Option Message) → IsBrought r from to o after → ArePlaced after

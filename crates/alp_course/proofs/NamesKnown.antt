@@ -44,7 +44,7 @@ use Rattle.alp_history.proofs.Votes.{joined-server}
 use Rattle.alp_course.specs.Courses.{Course, Seat, seat_at, IsOneOf, IsSeat}
 use Rattle.alp_course.specs.Resting.{IsPositive, AreSpelled}
 use Rattle.alp_course.specs.Links.{server_log, log_of, AreNumbered}
-use Rattle.alp_course.specs.Midway.{Holds, IsSentBy}
+use Rattle.alp_course.specs.Midway.{Holds}
 use Rattle.alp_course.proofs.CalmArrivals.{HasIt}
 use Rattle.alp_course.proofs.CalmCourse.{HasMoved}
 use Rattle.alp_course.proofs.CalmLogs.{end_of, end_within, stands_in_log, in_journal, seat_of}

@@ -15,7 +15,7 @@ use Rattle.alp_session.specs.Crowds.{new_crowd, client_at, hears, times_out}
 use Rattle.alp_session.specs.declared.waiting.Next.{Next}
 use Rattle.alp_session.specs.declared.waiting.Next.TheVariants as next
 use Rattle.alp_course.specs.Happens.{Happening, sent_it, timed_out, ticked, forced, stop_set, restarted, lifts, finds}
-use Rattle.alp_course.specs.Courses.{Occurrence, at, looks, brings, loses, repeats, rests}
+use Rattle.alp_course.specs.Courses.{Occurrence, at, looks, brings, loses, repeats, comes, rests}
 use Rattle.alp_course.specs.Languages.{Language, Nothing, Just, Then, Each}
 use Rattle.alp_course.specs.Carries.{ArePairCarried, none_waits, one_waits, OfOthers, CarriesTo, CarriesFrom, IsSweep, IsCarried, last_sweep, one_more, CarriesIf}
 use Rattle.alp_course.specs.Settles.{lifting, IsLifted, AreTimedOut, none_open, one_open, IsTicked, IsRound, Further, AreRounds, IsSettling}
@@ -50,6 +50,7 @@ sent_append (looks from to waits ∷ hs) js = sent_append hs js
 sent_append (brings from to ∷ hs) js = sent_append hs js
 sent_append (loses from to ∷ hs) js = sent_append hs js
 sent_append (repeats from to ∷ hs) js = sent_append hs js
+sent_append (comes from to m seen ∷ hs) js = sent_append hs js
 sent_append (rests is_rest ∷ hs) js = sent_append hs js
 
 -- nothing is sent in such a thing

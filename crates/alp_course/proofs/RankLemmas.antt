@@ -72,7 +72,7 @@ pub none_rising : AreRising [] []
 none_rising = record { many = refl; rise = λ i k low less. absurd (omega (arith, less)); top = λ i less. absurd (omega (arith, less)) }
 
 module _ (rs : List ℕ) (seen : ℕ) (es : List Entry) where
-  all_many : length (ranks_with rs seen es) ≡ length rs + length es
+  pub all_many : length (ranks_with rs seen es) ≡ length rs + length es
   all_many = length-append rs (ranks_from (max (last_rank rs) seen + 1) es) ∙ ap (λ (n : ℕ). length rs + n) (many_from (max (last_rank rs) seen + 1) es)
 
   pub old_rank : (i : ℕ) → i < length rs → get_or (ranks_with rs seen es) i 0 ≡ get_or rs i 0

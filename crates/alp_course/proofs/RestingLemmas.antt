@@ -13,7 +13,7 @@ use Rattle.alp_history.specs.Items.{Handed}
 use Rattle.alp_history.specs.Log.{Log, ServerLog, of, journal_of, opening_of}
 use Rattle.alp_history.specs.Theorems.{IsProper, IsSettled}
 use Rattle.alp_posts.specs.Posts.{post_at}
-use Rattle.alp_course.specs.Courses.{Course, Seat, seat_at, seat_after, last_rank, IsOneOf, IsSeat, IsAt, Occurrence, at as happens_at, looks, brings, loses, repeats, rests, next_message, taking, IsBrought, IsLost, IsRepeated, Occurs, AreCourse, TellAll}
+use Rattle.alp_course.specs.Courses.{Course, Seat, seat_at, seat_after, last_rank, IsOneOf, IsSeat, IsAt, Occurrence, at as happens_at, looks, brings, loses, repeats, comes, rests, next_message, taking, IsBrought, IsLost, IsRepeated, Occurs, AreCourse, TellAll}
 use Rattle.alp_course.specs.Happens.{Stand, ComesTo, Happens}
 use Rattle.alp_course.specs.Links.{server_log, log_of, AreNumbered, IsFirst}
 use Rattle.alp_course.specs.Resting.{AreSpelled, IsWellRun, Resting}
@@ -55,6 +55,7 @@ occurs_back : (r after : Course) (x : Occurrence) → Occurs r x after → Tells
 occurs_back r after (happens_at n h) a = at_back r after n 0 (λ s es w. Happens s.tells s.stand h es w) a
 occurs_back r after (looks from to waits) a = same_back r after a.2
 occurs_back r after (rests is_rest) a = same_back r after a.1
+occurs_back r after (comes from to m seen) a = at_back r after to seen (λ t es w. ComesTo t.stand t.stand.is_down (event.Arrive from m) es w) a.2
 occurs_back r after (brings from to) a = go (next_message r from to) a.1
   where
     go : (o : Option Message) → IsBrought r from to o after → TellsBack r after

@@ -11,7 +11,7 @@ use Rattle.alp_journal.specs.declared.event.Event.TheVariants as event
 use Rattle.alp_journal.specs.declared.message.Message.{Message}
 use Rattle.alp_posts.specs.Posts.{post_at}
 use Rattle.alp_course.specs.Happens.{Stand, Happening, timed_out, ticked, restarted, lifts, finds, IsEntryOf, ComesTo, Happens, stand_after}
-use Rattle.alp_course.specs.Courses.{Course, Seat, seat_at, seat_after, IsSeat, IsAt, Occurrence, at, looks, brings, loses, repeats, rests, next_message, taking, IsBrought, IsLost, IsRepeated, Occurs, AreCourse}
+use Rattle.alp_course.specs.Courses.{Course, Seat, seat_at, seat_after, IsSeat, IsAt, Occurrence, at, looks, brings, loses, repeats, comes, rests, next_message, taking, IsBrought, IsLost, IsRepeated, Occurs, AreCourse}
 use Rattle.alp_course.specs.Languages.{Language, Just, Then, Each}
 use Rattle.alp_course.specs.Carries.{ArePairCarried, none_waits, one_waits, OfOthers, CarriesTo, CarriesFrom, IsSweep, IsCarried, last_sweep, one_more}
 use Rattle.alp_course.specs.Settles.{lifting, IsLifted, AreTimedOut, none_open, one_open, IsTicked, IsRound, Further, AreRounds, IsSettling, IsUpIn, AreUp, Lifting}
@@ -59,6 +59,7 @@ IsCalm (looks from to waits) = Unit {0}
 IsCalm (brings from to) = Unit {0}
 IsCalm (loses from to) = ⊥
 IsCalm (repeats from to) = ⊥
+IsCalm (comes from to m seen) = ⊥
 IsCalm (rests is_rest) = Unit {0}
 
 brought_up : (r after : Course) (from to : ℕ) (o : Option Message) → IsBrought r from to o after → AreUp r → AreUp after
@@ -82,6 +83,7 @@ occurs_up r after (looks from to waits) calm a up = subst AreUp (sym a.2) up
 occurs_up r after (brings from to) calm a up = brought_up r after from to (next_message r from to) a.1 up
 occurs_up r after (loses from to) calm a up = absurd calm
 occurs_up r after (repeats from to) calm a up = absurd calm
+occurs_up r after (comes from to m seen) calm a up = absurd calm
 occurs_up r after (rests is_rest) calm a up = subst AreUp (sym a.1) up
 
 pub course_up : (r after : Course) (xs : List Occurrence) → AllByRecursion IsCalm xs → AreCourse r xs after → AreUp r → AreUp after
@@ -216,6 +218,7 @@ many_at r after (repeats from to) a = go (post_at r.posts from to).last a.1
     go : (o : Option (Message × ℕ)) → IsRepeated r from to o after → length after.seats ≡ length r.seats
     go None h = ap (λ (c : Course). length c.seats) h
     go (Some m) h = as_many r after to _ h.here h.seats
+many_at r after (comes from to m seen) a = as_many r after to _ a.2.here a.2.seats
 many_at r after (rests is_rest) a = ap (λ (c : Course). length c.seats) a.1
 
 pub many_on : (r after : Course) (xs : List Occurrence) → AreCourse r xs after → length after.seats ≡ length r.seats

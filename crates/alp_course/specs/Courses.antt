@@ -2,10 +2,11 @@
 use Rattle.std.specs.Prelude.{◌≡◌, ℕ, ◌+◌, ◌-◌, ◌≤◌, max, Bool, true, false, not, ◌&&◌, IsTrue, List, [], ◌∷◌, ◌++◌, length, get_or, map as list_map, slice_get, slice_set, Option, None, Some, is_some}
 use Rattle.std.specs.List.{AllByRecursion}
 use Rattle.alp_journal.specs.Opening.{Start}
+use Rattle.alp_journal.specs.declared.act.Act.TheVariants as act
 use Rattle.alp_journal.specs.declared.entry.Entry.{Entry}
 use Rattle.alp_journal.specs.declared.event.Event.TheVariants as event
 use Rattle.alp_journal.specs.declared.message.Message.{Message}
-use Rattle.alp_history.specs.Log.{nobody}
+use Rattle.alp_history.specs.Log.{IsIn, nobody}
 use Rattle.alp_posts.specs.Messages.{messages_to}
 use Rattle.alp_posts.specs.Post.{Post, nothing_taken, took}
 use Rattle.alp_posts.specs.Posts.{AreServers, post_at, with_post}
@@ -54,13 +55,15 @@ none_taken p = (from to : ℕ) → AreServers from to → post_at p from to ≡ 
 -- ---- what happens
 
 -- Something happens at a server. The sweeps of carrying look whether a message of one server waits for another. A message is brought, or
--- is lost, or the one that was taken last is brought once more. A settling finds all servers at rest, or not.
+-- is lost, or the one that was taken last is brought once more. One that was sent before comes, whichever it is, and saw that rank. A
+-- settling finds all servers at rest, or not.
 pub data Occurrence : Type 0 where
   at : (server : ℕ) → Happening → Occurrence
   looks : (from to : ℕ) → (waits : Bool) → Occurrence
   brings : (from to : ℕ) → Occurrence
   loses : (from to : ℕ) → Occurrence
   repeats : (from to : ℕ) → Occurrence
+  comes : (from to : ℕ) (m : Message) (seen : ℕ) → Occurrence
   rests : (is_rest : Bool) → Occurrence
 
 -- ---- ranks
@@ -79,6 +82,14 @@ ranks_from n (e ∷ es) = n ∷ ranks_from (n + 1) es
 -- further entries of a server have ranks above its own last one and above the one that they saw
 abbrev pub ranks_with : List ℕ → (seen : ℕ) → List Entry → List ℕ
 ranks_with rs seen es = rs ++ ranks_from (max (last_rank rs) seen + 1) es
+
+-- this server sent that message to that server, at an entry of at most this rank
+pub record IsSentBy (s : Seat) (to : ℕ) (m : Message) (most : ℕ) : Type 0 where
+  pub place : ℕ
+  pub entry : Entry
+  pub stands : slice_get s.journal place ≡ Some entry
+  pub sent : IsIn (act.Sent to m) entry.acts
+  pub low : get_or s.ranks place 0 ≤ most
 
 -- ---- what comes of it
 
@@ -144,6 +155,7 @@ Occurs r (looks from to waits) after = AreTwo r from to × (waits ≡ is_waiting
 Occurs r (brings from to) after = AreTwo r from to × IsBrought r from to (next_message r from to) after
 Occurs r (loses from to) after = AreTwo r from to × IsLost r from to (next_message r from to) after
 Occurs r (repeats from to) after = AreTwo r from to × IsRepeated r from to (post_at r.posts from to).last after
+Occurs r (comes from to m seen) after = AreTwo r from to × IsSentBy (seat_at r from) to m seen × Arrives r from to m seen after
 Occurs r (rests is_rest) after = (TellAll r → AreRest is_rest r.seats) × (after ≡ r)
 
 -- all of it occurs, one after the other

@@ -3,15 +3,13 @@ use Rattle.std.specs.Prelude.{◌≡◌, ℕ, ◌<◌, ◌≤◌, List, length, 
 use Rattle.alp_journal.specs.Along.{state_after}
 use Rattle.alp_journal.specs.Moves.{next}
 use Rattle.alp_journal.specs.State.{State, opened}
-use Rattle.alp_journal.specs.declared.act.Act.TheVariants as act
 use Rattle.alp_journal.specs.declared.entry.Entry.{Entry}
 use Rattle.alp_journal.specs.declared.event.Event.TheVariants as event
 use Rattle.alp_journal.specs.declared.message.Message.{Message}
-use Rattle.alp_history.specs.Log.{IsIn}
 use Rattle.alp_posts.specs.Messages.{messages_to}
 use Rattle.alp_posts.specs.Posts.{IsTable, post_at}
 use Rattle.alp_course.specs.Carries.{ArePlaced}
-use Rattle.alp_course.specs.Courses.{Course, Seat, seat_at, last_rank, IsSeat, AreTwo, Occurrence, AreCourse}
+use Rattle.alp_course.specs.Courses.{Course, Seat, seat_at, last_rank, IsSeat, IsSentBy, AreTwo, Occurrence, AreCourse}
 use Rattle.alp_course.specs.Links.{AreNumbered, IsFirst}
 
 -- there is a rank for each entry, they rise, and the last one is the greatest
@@ -19,14 +17,6 @@ pub record AreRising (rs : List ℕ) (journal : List Entry) : Type 0 where
   pub many : length rs ≡ length journal
   pub rise : (i k : ℕ) → i < k → k < length rs → get_or rs i 0 < get_or rs k 0
   pub top : (i : ℕ) → i < length rs → get_or rs i 0 ≤ last_rank rs
-
--- this server sent that message to that server, at an entry of at most this rank
-pub record IsSentBy (s : Seat) (to : ℕ) (m : Message) (most : ℕ) : Type 0 where
-  pub place : ℕ
-  pub entry : Entry
-  pub stands : slice_get s.journal place ≡ Some entry
-  pub sent : IsIn (act.Sent to m) entry.acts
-  pub low : get_or s.ranks place 0 ≤ most
 
 -- Each message that arrived at a server was sent to it, below the rank of the entry of its arrival.
 abbrev pub AllSent : Course → ℕ → Seat → Type 0

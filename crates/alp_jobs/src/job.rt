@@ -14,7 +14,7 @@ ghost use Rattle.alp_jobs.specs.declared.to_do.ToDo.TheVariants.{Done};
 use crate::items::{is_refusal, waits_on};
 use crate::queues::{has_no_line, has_no_transaction, take_line, take_transaction};
 use crate::{Stage, ToDo, Way};
-use alp_base::{Bytes, OutOfMemory};
+use alp_base::{Bytes, OutOfMemory, Stamp};
 use alp_journal::Item;
 use alp_lines::Line;
 use alp_session::{Addressed, Clients, Next};
@@ -186,6 +186,13 @@ impl Job {
         ensures { result ≡ self.now.number }
     {
         self.number
+    }
+
+    /// The greatest stamp that its client was told.
+    pub fn told(&self) -> Stamp
+        ensures { result ≡ (client_at self.now.crowd self.now.number).told }
+    {
+        self.clients.told(self.number)
     }
 
     // Whether nothing comes after its line.

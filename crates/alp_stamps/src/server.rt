@@ -35,7 +35,7 @@ fn volume_in<R: Runtime + Files<File = File>>(
     bay.choose(Some(folder))?;
     let disk = bay.take(SERVER, 2 + 2 * SIZES.area + SIZES.home)?;
     match disk {
-        HostDisk::File(disk) => Ok(disk),
+        HostDisk::File(volume) => Ok(volume.into_disk()),
         HostDisk::Memory(_disk) => Err(Failed::Volume),
     }
 }

@@ -1,6 +1,7 @@
 -- a worker on its way: one deed more, or none
 use Rattle.std.specs.Prelude.{slice_get, ◌⊎◌, ◌==◌, Bool, true, false, cond, Option, Some, Result, Ok, Err, IfOk, IfErr, IfSome, if◌then◌else◌}
 use Rattle.std.proofs.Common.{inl, inr, ◌≡◌, ◌≢◌, ℕ, ◌+◌, ◌≤◌, List, [], ◌∷◌, ◌++◌, length, take, set, refl, sym, ap, ◌∙◌, subst, arith, eq-eqb, ne_eqb}
+use Rattle.std.specs.List.{AllByRecursion}
 use mathlib.Core.List.{IsPrefix, append-nil, append_assoc}
 use Rattle.alp_files.specs.declared.reply.Reply.{Reply}
 use Rattle.alp_rpc.specs.Replies as replies
@@ -52,6 +53,12 @@ items_both (x ∷ xs) ys = ap (λ l. item_of x ++ l) (items_both xs ys) ∙ sym 
 
 items_one : (xs : List Deed) (d : Deed) → items_of (xs ++ d ∷ []) ≡ items_of xs ++ item_of d
 items_one xs d = items_both xs (d ∷ []) ∙ ap (λ l. items_of xs ++ l) (append-nil (item_of d))
+
+-- one more at a server that there is
+one_within : (servers : ℕ) (ds : List Deed) (d : Deed) → AllByRecursion (λ (x : Deed). (1 ≤ server_of x) × (server_of x ≤ servers)) ds → (1 ≤ server_of d) × (server_of d ≤ servers)
+    → AllByRecursion (λ (x : Deed). (1 ≤ server_of x) × (server_of x ≤ servers)) (ds ++ d ∷ [])
+one_within servers [] d all one = (one, tt)
+one_within servers (x ∷ ds) d all one = (all.0, one_within servers ds d all.1 one)
 
 -- ---- turns
 
@@ -133,6 +140,7 @@ module _ {S B E : Type 0} (base_of : S → B) (log : Log B E) (ms : List (Monito
       deeds = w.deeds ++ d ∷ [];
       did = λ ds c rest. subst (λ (l : List Deed). DoesRest old l c) (sym (append_assoc w.deeds (d ∷ []) ds)) (w.did (d ∷ ds) c (does ds c rest));
       took = take_all_more w.deeds d e a first qs rs event item h w.took;
+      within = one_within (length ms) w.deeds d w.within (let one : server_of d ≡ h.place + 1 = h.stands.from_one in omega (arith, one), h.stands.to_last);
       items_are = items ∙ (ap (λ l. l ++ item_of d) w.items_are ∙ (append_assoc old.items (items_of w.deeds) (item_of d) ∙ ap (λ l. old.items ++ l) (sym (items_one w.deeds d))));
     }
 
@@ -144,6 +152,7 @@ module _ {S B E : Type 0} (base_of : S → B) (log : Log B E) (ms : List (Monito
       deeds = w.deeds;
       did = λ ds c rest. w.did ds c (goes ds c rest);
       took = w.took;
+      within = w.within;
       items_are = items ∙ w.items_are;
     }
 
@@ -160,6 +169,7 @@ module _ {S B E : Type 0} (base_of : S → B) (log : Log B E) (ms : List (Monito
         turns_are = sym (append-nil (turns p));
         deeds_are = tt;
       });
+      within = tt;
       items_are = sym (append-nil job.items);
     }
 

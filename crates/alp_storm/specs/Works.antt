@@ -1,5 +1,6 @@
 -- What a worker does.
 use Rattle.std.specs.Prelude.{◌≡◌, ◌⊎◌, ℕ, ◌+◌, ◌<◌, ◌≤◌, ◌==◌, Bool, true, false, List, [], ◌∷◌, ◌++◌, length, take, Option, None, Some, option_map, slice_get, if◌then◌else◌}
+use Rattle.std.specs.List.{AllByRecursion}
 use Rattle.alp_files.specs.declared.reply.Reply.{Reply}
 use Rattle.alp_rpc.specs.Frames.{reply_frame}
 use Rattle.alp_journal.specs.declared.event.Event.{Event}
@@ -98,13 +99,14 @@ module _ {S B E : Type 0} (base_of : S → B) (log : Log B E) where
   abbrev pub TakeAll : List (Monitor S B E) → List Deed → List (Pass S B E) → List (Pass S B E) → Type 0
   TakeAll ms ds before now = (i : ℕ) (m : Monitor S B E) (p q : Pass S B E) → slice_get ms i ≡ Some m → slice_get before i ≡ Some p → slice_get now i ≡ Some q → Takes m (deeds_at (i + 1) ds) p q
 
-  -- A worker came so far: from this job to that, by these deeds. They are the turns of its passes, server by server, and what it was handed is its items.
+  -- A worker came so far: from this job to that, by these deeds. They are the turns of its passes, server by server, at these servers alone, and what it was handed is its items.
   pub record HasWorked (ms : List (Monitor S B E)) (k : ℕ) (job : JobState) (ring : List (Pass S B E)) (now : JobState) (ring_now : List (Pass S B E)) : Type 0 where
     pub ring_is : IsRing base_of ms k ring_now
     pub ready : IsReady now.number (client_at now.crowd now.number)
     pub deeds : List Deed
     pub did : (ds : List Deed) (d : Crowd) → DoesRest now ds d → DoesRest job (deeds ++ ds) d
     pub took : TakeAll ms deeds ring ring_now
+    pub within : AllByRecursion (λ (d : Deed). (1 ≤ server_of d) × (server_of d ≤ length ms)) deeds
     pub items_are : now.items ≡ job.items ++ items_of deeds
 
   -- the last turn of a worker that does not come to the end of its job: it made no entry, or one

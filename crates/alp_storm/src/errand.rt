@@ -20,10 +20,7 @@ use std::sync::atomic::AtomicBool;
 #[derive(Drop)]
 pub enum Task {
     /// A client's job. Where it did not come to its end it says why.
-    Work {
-        job: Job,
-        fault: Option<StormFault>,
-    },
+    Work { job: Job, fault: Option<StormFault> },
     /// The messages of one server to another are brought. It comes back with the next place, and with the count of those that were missed.
     Carry { pair: Pair, next: u32, lost: u32 },
 }

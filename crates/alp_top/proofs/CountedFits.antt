@@ -10,7 +10,7 @@ use Rattle.alp_journal.specs.declared.log.Item.{Item}
 use Rattle.alp_journal.specs.declared.log.Sent.{Sent}
 use Rattle.alp_journal.specs.declared.log.Sent.TheVariants as sent
 use Rattle.alp_journal.specs.declared.message.Message.{Message}
-use Rattle.alp_course.specs.Courses.{Course, Seat, IsSeat, IsAt, no_seat, seat_at, seat_after, Occurrence, at, looks, brings, loses, repeats, rests, next_message, taking, Arrives, IsBrought, IsLost, IsRepeated, Occurs, AreCourse}
+use Rattle.alp_course.specs.Courses.{Course, Seat, IsSeat, IsAt, no_seat, seat_at, seat_after, Occurrence, at, looks, brings, loses, repeats, comes, rests, next_message, taking, Arrives, IsBrought, IsLost, IsRepeated, Occurs, AreCourse}
 use Rattle.alp_course.specs.Happens.{Happening, sent_it, timed_out, ticked, forced, stop_set, restarted, lifts, finds, Stand, IsEntryOf, IsNone, ComesTo, Takes, Happens}
 use Rattle.alp_course.specs.Links.{IsFirst, AreIdle}
 use Rattle.alp_course.proofs.SeatLemmas.{as_many, each_seat}
@@ -119,6 +119,7 @@ occurs_fit r after (looks from to waits) a before = subst AreFit (sym a.2) befor
 occurs_fit r after (brings from to) a before = brought_fit r after from to (next_message r from to) a.1 before
 occurs_fit r after (loses from to) a before = lost_fit r after from to (next_message r from to) a.1 before
 occurs_fit r after (repeats from to) a before = repeated_fit r after from to (post_at r.posts from to).last a.1 before
+occurs_fit r after (comes from to m seen) a before = arrives_fit r after from to m seen a.2 before
 occurs_fit r after (rests is_rest) a before = subst AreFit (sym a.1) before
 
 course_fit : (r after : Course) (xs : List Occurrence) → AreCourse r xs after → AreFit r → AreFit after

@@ -17,7 +17,7 @@ use Rattle.alp_course.proofs.UpLemmas.{many_on}
 use Rattle.alp_report.specs.Reports.{count_text}
 use Rattle.alp_script.specs.declared.numbered.NumberedLine.{NumberedLine}
 use Rattle.alp_vault.specs.declared.vault.Vault.{Ghosts}
-use Rattle.alp_top.specs.Headline.{IsFaithful}
+use Rattle.alp_top.specs.Headline.{IsOfScript}
 use Rattle.alp_top.specs.Logs.{Log, ServerOfLog, openings, log_of, lists_of}
 use Rattle.alp_top.specs.Reports.{begun_at, held_said, counts_text, summary_said, tallied_text, tallied_summary, Shown, shown_lines, report_for, tallied_for, report_of, tallied_report}
 use Rattle.alp_top.specs.Tallies.{tally_in, begun_in, committed_in}
@@ -89,40 +89,40 @@ module _ {V : Type 0} (G : Ghosts V) (log : Log V) (proper : IsProper (log_of G 
 
 -- ---- a run that is over
 
-module _ {V : Type 0} (G : Ghosts V) (lines : List NumberedLine) (log : Log V) (faithful : IsFaithful G lines log) (sound : logs.AreSoundOpenings (log_of G log)) where
+module _ {V : Type 0} (G : Ghosts V) (lines : List NumberedLine) (log : Log V) (script : IsOfScript G lines log) (linked : logs.IsLinked (log_of G log)) (lawful : logs.AreLawful (log_of G log)) (sound : logs.AreSoundOpenings (log_of G log)) where
   abbrev last : Course
-  last = faithful.script.last
+  last = script.last
 
   log_same : links.log_of last (runs.handed_of (lists_of G log)) ≡ log_of G log
-  log_same = (λ i. record { servers = faithful.script.servers i; handed = runs.handed_of (lists_of G log) })
+  log_same = (λ i. record { servers = script.servers i; handed = runs.handed_of (lists_of G log) })
 
   proper : IsProper (log_of G log)
   proper = record {
-    different = subst logs.AreDifferent log_same (different last (runs.handed_of (lists_of G log)) faithful.script.numbered);
+    different = subst logs.AreDifferent log_same (different last (runs.handed_of (lists_of G log)) script.numbered);
     sound = sound;
-    lawful = faithful.lawful;
-    linked = faithful.linked;
+    lawful = lawful;
+    linked = linked;
   }
 
   few : length log.servers.items ≤ 8
   few =
-      let first : length faithful.script.first.seats ≤ 8 = faithful.script.begins.few in
-      let same : length last.seats ≡ length faithful.script.first.seats = many_on faithful.script.first last faithful.script.occurred faithful.script.course in
+      let first : length script.first.seats ≤ 8 = script.begins.few in
+      let same : length last.seats ≡ length script.first.seats = many_on script.first last script.occurred script.course in
       let many : length log.servers.items ≡ length last.seats =
-      sym (length-map log.servers.items (runs.server_log (openings G) (length log.servers.items))) ∙ ap (λ (xs : List ServerLog). length xs) (sym faithful.script.servers) ∙ length-map last.seats server_log in
+      sym (length-map log.servers.items (runs.server_log (openings G) (length log.servers.items))) ∙ ap (λ (xs : List ServerLog). length xs) (sym script.servers) ∙ length-map last.seats server_log in
       omega (arith, first, same, many)
 
   seats_fit : (i : ℕ) → i < length last.seats → FitsJournal (get_or last.seats i no_seat).journal
   seats_fit i less =
       let here : IsSeat last (i + 1) = record { first = omega arith; last = omega (arith, less) } in
       let same : i + 1 - 1 ≡ i = omega arith in
-      subst (λ (j : ℕ). FitsJournal (get_or last.seats j no_seat).journal) same (journals_fit faithful.script.first last faithful.script.occurred faithful.script.begins faithful.script.course (i + 1) here)
+      subst (λ (j : ℕ). FitsJournal (get_or last.seats j no_seat).journal) same (journals_fit script.first last script.occurred script.begins script.course (i + 1) here)
 
   is_summed : IsSummed G log proper log.servers.items
-  is_summed = summed G log proper log.servers.items few (all_counted G log proper log.servers.items (λ y i. i) (subst (AllByRecursion HasFit) faithful.script.servers (fits_of last.seats seats_fit)))
+  is_summed = summed G log proper log.servers.items few (all_counted G log proper log.servers.items (λ y i. i) (subst (AllByRecursion HasFit) script.servers (fits_of last.seats seats_fit)))
 
   committed_are : committed_in log.servers.items ≡ length (decided (log_of G log))
-  committed_are = is_summed.committed ∙ sym (decided_many (log_of G log) proper 1 (subst (AreOfNumbers 1) faithful.script.servers (numbers_of 1 last.seats faithful.script.numbered)))
+  committed_are = is_summed.committed ∙ sym (decided_many (log_of G log) proper 1 (subst (AreOfNumbers 1) script.servers (numbers_of 1 last.seats script.numbered)))
 
   text_same : tallied_text log.servers.items ≡ counts_text G log
   text_same = (λ i. count_text (committed_are i) (is_summed.begun i - committed_are i))

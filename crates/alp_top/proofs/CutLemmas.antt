@@ -36,11 +36,15 @@ use Rattle.alp_cluster.specs.Stations.{AreOn, course_of, state_at}
 use Rattle.alp_cluster.specs.declared.fault.RunFault.{RunFault}
 use Rattle.alp_cluster.specs.declared.stations.Stations.{Stations}
 use Rattle.alp_top.specs.Volumes.{IsBare, IsRightAt, IsRunTo, IsCutShort, IsPlayedToEnd}
-use Rattle.alp_top.proofs.AloneLemmas.{one_there}
 use Rattle.alp_top.proofs.KeptLemmas.{clients_kept}
 use Rattle.alp_top.proofs.SeatedLemmas.{seat_on, numbered, proper_course, many}
 use Rattle.alp_top.proofs.SeveralLemmas.{all_seat}
 use Rattle.alp_top.proofs.TogetherLemmas.{IsOpenedWell, sound_openings}
+
+one_there : {A : Type 0} (xs : List A) → length xs ≡ 1 → (x : A) × (xs ≡ x ∷ [])
+one_there [] h = absurd (omega (arith, h))
+one_there (x ∷ []) h = (x, refl)
+one_there (x ∷ y ∷ xs) h = absurd (omega (arith, h))
 
 -- how far it came
 pub record HasCome {V : Type 0} (G : Ghosts V) (lines : List NumberedLine) (last : Stations V) : Type 0 where

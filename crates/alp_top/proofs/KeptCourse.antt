@@ -15,7 +15,7 @@ use Rattle.alp_history.specs.Handed.{IsOfNone}
 use Rattle.alp_history.specs.Log.{IsIn}
 use Rattle.alp_history.proofs.Linked.{in-left, in-right}
 use Rattle.alp_course.specs.Happens.{Happening, sent_it, timed_out, ticked, forced, stop_set, restarted, lifts, finds, Stand, IsNone, ComesTo, Takes, Happens}
-use Rattle.alp_course.specs.Courses.{Course, Seat, first_seat, no_seat, seat_at, seat_after, last_rank, IsSeat, IsAt, Occurrence, at, looks, brings, loses, repeats, rests, next_message, taking, Arrives, IsBrought, IsLost, IsRepeated, Occurs, AreCourse}
+use Rattle.alp_course.specs.Courses.{Course, Seat, first_seat, no_seat, seat_at, seat_after, last_rank, IsSeat, IsAt, Occurrence, at, looks, brings, loses, repeats, comes, rests, next_message, taking, Arrives, IsBrought, IsLost, IsRepeated, Occurs, AreCourse}
 use Rattle.alp_course.specs.Links.{AreIdle, IsFirst}
 use Rattle.alp_course.specs.Plays.{sent_of}
 use Rattle.alp_course.proofs.LinkLemmas.{all_at}
@@ -413,6 +413,7 @@ occurs_done r after (looks from to waits) own a = none_done r after (ap (λ (c :
 occurs_done r after (brings from to) own a = brought_done r after from to (next_message r from to) a.1
 occurs_done r after (loses from to) own a = lost_done r after from to (next_message r from to) a.1
 occurs_done r after (repeats from to) own a = repeated_done r after from to _ a.1
+occurs_done r after (comes from to m seen) own a = arrives_done r after from to seen m a.2
 occurs_done r after (rests is_rest) own a = none_done r after (ap (λ (c : Course). c.seats) a.1)
 
 course_done : (r after : Course) (xs : List Occurrence) → AreOwn r → AreCourse r xs after → HasDone r after (sent_of xs)

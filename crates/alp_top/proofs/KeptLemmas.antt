@@ -1,8 +1,8 @@
--- what clients sent and were handed in a run of any number of servers is as their machine and the servers leave it
+-- What clients sent and were handed in a run of any number of servers is as their machine and the servers leave it. The order of a client's
+-- items is that of its list, and what occurred agrees with it server by server.
 use Rattle.std.specs.Prelude.{◌==◌, true, false, Bool, cond, Option, None, Some, slice_get, map as list_map}
 use Rattle.std.specs.List.{AllByRecursion}
 use Rattle.std.proofs.Common.{inl, inr, ◌⊎◌, ◌≡◌, ℕ, ◌+◌, ◌<◌, ◌≤◌, List, [], ◌∷◌, ◌++◌, length, refl, sym, ◌∙◌, ap, subst, arith, eq-eqb}
-use Rattle.std.proofs.lemmas.Bool.Decides.{eqb_tells}
 use Rattle.alp_base.specs.declared.ids.TransId.{TransId}
 use Rattle.alp_files.specs.declared.call.Call.{Call}
 use Rattle.alp_files.specs.declared.call.Call.TheVariants as call
@@ -22,7 +22,6 @@ use Rattle.alp_history.specs.Items.{Handed, IsOwn, IsRaw}
 use Rattle.alp_history.specs.Log.{Log, ServerLog, of, journal_of, opening_of, IsIn}
 use Rattle.alp_history.specs.RunLogs.{item_of}
 use Rattle.alp_history.proofs.Decisions.{map-in, in-map}
-use Rattle.alp_history.proofs.Linked.{in-left, in-right}
 use Rattle.alp_course.specs.Courses.{Course, Occurrence, IsSeat, seat_at, AreCourse}
 use Rattle.alp_course.specs.Links.{IsFirst, AreNumbered as AreSeatsNumbered, server_log, log_of}
 use Rattle.alp_course.specs.Plays.{sent_of}
@@ -35,41 +34,8 @@ use Rattle.alp_cluster.specs.Clients.{States, HasSaid, come_of, come_by, come_wi
 use Rattle.alp_cluster.specs.Come.{Come, none_come, IsUpTo, IsBelow, further}
 use Rattle.alp_cluster.proofs.ComeLemmas.{up_to_left, up_to_right, up_to_self, below_after}
 use Rattle.alp_top.proofs.BegunLemmas.{begun_of_run}
-use Rattle.alp_top.proofs.KeptCourse.{in_either, IsAside, IsEntered, IsCall, IsSent, place_here, IsFrom, behind, AreSentRising, IsRecorded, recorded, sent_to_seat}
-
--- ---- turns and lists
-
-in_turn : (k : ℕ) (x : Item) (xs : List Item) → IsIn x xs → IsIn {A = ℕ × Item} (k, x) (list_map (λ (y : Item). (k, y)) xs)
-in_turn k x [] i = absurd i
-in_turn k x (y ∷ xs) (inl is) = inl (ap (λ (z : Item). (k, z)) is)
-in_turn k x (y ∷ xs) (inr i) = inr (in_turn k x xs i)
-
-own_sent : (k : ℕ) (x : Item) (ts : List Turn) → IsIn x (own_in k ts) → IsIn {A = ℕ × Item} (k, x) (sent_in ts)
-own_sent k x [] i = absurd i
-own_sent k x (t ∷ ts) i = elim (in_either x (cond (t.client == k) t.items []) (own_in k ts) i) [
-  | inl a ↦ in-left (k, x) (list_map (λ (y : Item). (t.client, y)) t.items) (sent_in ts) (mine (eqb_tells t.client k) a)
-  | inr b ↦ in-right (k, x) (list_map (λ (y : Item). (t.client, y)) t.items) (sent_in ts) (own_sent k x ts b)
-]
-  where
-    mine : (((t.client == k) ≡ true) × (t.client ≡ k)) ⊎ (((t.client == k) ≡ false) × (t.client ≡ k → ⊥)) → IsIn x (cond (t.client == k) t.items []) → IsIn {A = ℕ × Item} (k, x) (list_map (λ (y : Item). (t.client, y)) t.items)
-    mine (inl is) a = subst (λ (j : ℕ). IsIn {A = ℕ × Item} (j, x) (list_map (λ (y : Item). (t.client, y)) t.items)) is.1 (in_turn t.client x t.items (subst (λ (b : Bool). IsIn x (cond b t.items [])) is.0 a))
-    mine (inr away) a = absurd (subst (λ (b : Bool). IsIn x (cond b t.items [])) away.0 a)
-
-turn_own : (k j : ℕ) (x : Item) (xs : List Item) → IsIn {A = ℕ × Item} (j, x) (list_map (λ (y : Item). (k, y)) xs) → (k ≡ j) × IsIn x xs
-turn_own k j x [] i = absurd i
-turn_own k j x (y ∷ xs) (inl is) = (ap (λ (z : ℕ × Item). z.0) (sym is), inl (ap (λ (z : ℕ × Item). z.1) is))
-turn_own k j x (y ∷ xs) (inr i) = let rest = turn_own k j x xs i in (rest.0, inr rest.1)
-
-sent_own : (k : ℕ) (x : Item) (ts : List Turn) → IsIn {A = ℕ × Item} (k, x) (sent_in ts) → IsIn x (own_in k ts)
-sent_own k x [] i = absurd i
-sent_own k x (t ∷ ts) i = elim (in_either (k, x) (list_map (λ (y : Item). (t.client, y)) t.items) (sent_in ts) i) [
-  | inl a ↦ in-left x (cond (t.client == k) t.items []) (own_in k ts) (mine (eqb_tells t.client k) (turn_own t.client k x t.items a))
-  | inr b ↦ in-right x (cond (t.client == k) t.items []) (own_in k ts) (sent_own k x ts b)
-]
-  where
-    mine : (((t.client == k) ≡ true) × (t.client ≡ k)) ⊎ (((t.client == k) ≡ false) × (t.client ≡ k → ⊥)) → (t.client ≡ k) × IsIn x t.items → IsIn x (cond (t.client == k) t.items [])
-    mine (inl is) a = subst (λ (b : Bool). IsIn x (cond b t.items [])) (sym is.0) a.1
-    mine (inr away) a = absurd (away.1 a.0)
+use Rattle.alp_top.proofs.KeptCourse.{IsAside, IsEntered, IsCall, IsSent, IsFrom, behind, IsRecorded, recorded, sent_to_seat}
+use Rattle.alp_top.proofs.KeptOwn.{DoesAgree, list_sent, sent_list, behind_up, AreRising, rises, agree_in_turn}
 
 -- ---- numbers
 
@@ -177,41 +143,6 @@ above k a (y ∷ xs) x q h (inr i) own is = elim (above k (come_with a y.mark y.
 
 -- ---- places
 
-behind_up : (from : ℕ) (o : Option ℕ) → IsFrom from o → from ≤ behind from o
-behind_up from None h = omega arith
-behind_up from (Some p) h = omega (arith, h)
-
--- places that rise from this one on
-abbrev AreRising : ℕ → List items.Item → Type 0
-AreRising from [] = Unit {0}
-AreRising from (x ∷ xs) = IsFrom from x.place × AreRising (behind from x.place) xs
-
-lower : (a b : ℕ) (xs : List items.Item) → a ≤ b → AreRising b xs → AreRising a xs
-lower a b [] le h = tt
-lower a b (x ∷ xs) le h = go (lower a b xs le) x.place h.0 h.1
-  where
-    go : (AreRising b xs → AreRising a xs) → (o : Option ℕ) → IsFrom b o → AreRising (behind b o) xs → IsFrom a o × AreRising (behind a o) xs
-    go more None from rest = (tt, more rest)
-    go more (Some p) from rest = (omega (arith, le, from), rest)
-
-own_items : (n k c : ℕ) (b : Bool) (zs : List Item) (ts : List Turn) (at to : ℕ) → ((a : ℕ) → AreSentRising n a to (sent_in ts) → AreRising a (at_server n (list_map item_of (own_in k ts))))
-    → AreSentRising n at to (list_map (λ (x : Item). (c, x)) zs ++ sent_in ts) → AreRising at (at_server n (list_map item_of (cond b zs [] ++ own_in k ts)))
-own_items n k c true [] ts at to rest h = rest at h
-own_items n k c false [] ts at to rest h = rest at h
-own_items n k c true (z ∷ zs) ts at to rest h = go (z.server == n) h.0 (own_items n k c true zs ts (behind at (place_here n z)) to rest h.1)
-  where
-    go : (b : Bool) → IsFrom at (cond b z.place None) → AreRising (behind at (cond b z.place None)) (at_server n (list_map item_of (zs ++ own_in k ts)))
-        → AreRising at (cond b (item_of z ∷ at_server n (list_map item_of (zs ++ own_in k ts))) (at_server n (list_map item_of (zs ++ own_in k ts))))
-    go true from rest = (from, rest)
-    go false from rest = rest
-own_items n k c false (z ∷ zs) ts at to rest h =
-    lower at (behind at (place_here n z)) (at_server n (list_map item_of (own_in k ts))) (behind_up at (place_here n z) h.0) (own_items n k c false zs ts (behind at (place_here n z)) to rest h.1)
-
--- the items of a client at a server are recorded there in its order
-rises : (n k : ℕ) (ts : List Turn) (at to : ℕ) → AreSentRising n at to (sent_in ts) → AreRising at (at_server n (list_map item_of (own_in k ts)))
-rises n k [] at to h = tt
-rises n k (t ∷ ts) at to h = own_items n k t.client (t.client == k) t.items ts at to (λ a. rises n k ts a to) h
-
 place_in : (from at : ℕ) (xs : List items.Item) (x : items.Item) → AreRising from xs → IsIn x xs → x.place ≡ Some at → from ≤ at
 place_in from at [] x h i is = absurd i
 place_in from at (y ∷ xs) x h (inl e) is = subst (IsFrom from) (ap (λ (z : items.Item). z.place) (sym e) ∙ is) h.0
@@ -296,8 +227,15 @@ in_server n x (y ∷ xs) (inr i) is = go (y.server == n) (in_server n x xs i is)
 abbrev IsPut : Log → items.Item → Type 0
 IsPut log x = ((x.place ≡ None) × IsOfNone x.reply) ⊎ ((at : ℕ) × (x.place ≡ Some at) × IsOfEntry log x at)
 
-module _ {V : Type 0} (s : States V) (c : Crowd) (first after : Course) (hs : List Occurrence) (turns : List Turn) (h : Handed) (begins : IsFirst first) (course : AreCourse first hs after) (sent_is : sent_of hs ≡ sent_in turns)
-    (said : (k : ℕ) → HasSaid s k (client_at c k) (list_map item_of (own_in k turns))) (handed_is : (k : ℕ) → h k ≡ list_map item_of (own_in k turns))
+-- What is asked of a client's list alone: its own calls come in turn at each server, their begins carry what it was told, and it asks of
+-- what it was told.
+pub record IsInOrder (k : ℕ) (xs : List items.Item) : Type 0 where
+  pub numbered : (n : ℕ) → AreNumbered k none_come (at_server n xs)
+  pub seen : HaveSeen [] xs
+  pub outcomes : AllByRecursion (λ (x : items.Item). SentOfTold xs x.mark x.sent) xs
+
+module _ (first after : Course) (hs : List Occurrence) (list : ℕ → List Item) (h : Handed) (begins : IsFirst first) (course : AreCourse first hs after) (agrees : DoesAgree hs list)
+    (said : (k : ℕ) → IsInOrder k (list_map item_of (list k))) (handed_is : (k : ℕ) → h k ≡ list_map item_of (list k))
     (lawful : (n : ℕ) → IsSeat after n → IsLawful (seat_at after n).opening (seat_at after n).journal) where
   abbrev log : Log
   log = log_of after h
@@ -326,8 +264,8 @@ module _ {V : Type 0} (s : States V) (c : Crowd) (first after : Course) (hs : Li
 
   member : (k : ℕ) (x : items.Item) → IsIn x (h k) → IsKept k x
   member k x i =
-      let (y, there, is) = map-in item_of x (own_in k turns) (subst (IsIn x) (handed_is k) i) in
-      let among : IsIn {A = ℕ × Item} (k, y) (sent_of hs) = subst (IsIn {A = ℕ × Item} (k, y)) (sym sent_is) (own_sent k y turns there) in
+      let (y, there, is) = map-in item_of x (list k) (subst (IsIn x) (handed_is k) i) in
+      let among : IsIn {A = ℕ × Item} (k, y) (sent_of hs) = list_sent hs list agrees k y there in
       let server : y.server ≡ x.server = ap (λ (z : items.Item). z.server) is in
       let here : IsSeat after x.server = subst (IsSeat after) server (sent_to_seat first after hs begins course (k, y) among) in
       record { kept = y; same = is; here = here; put = (records x.server here).entered (k, y) among server }
@@ -365,7 +303,7 @@ module _ {V : Type 0} (s : States V) (c : Crowd) (first after : Course) (hs : Li
   found_item n i q = (
     q.item.0,
     item_of q.item.1,
-    subst (IsIn (item_of q.item.1)) (sym (handed_is q.item.0)) (in-map item_of q.item.1 (own_in q.item.0 turns) (sent_own q.item.0 q.item.1 turns (subst (IsIn {A = ℕ × Item} q.item) sent_is q.among))),
+    subst (IsIn (item_of q.item.1)) (sym (handed_is q.item.0)) (in-map item_of q.item.1 (list q.item.0) (sent_list hs list agrees q.item.0 q.item.1 q.among)),
     q.server,
     q.place ∙ ap Some (let same : 0 + i ≡ i = omega arith in same),
   )
@@ -378,12 +316,12 @@ module _ {V : Type 0} (s : States V) (c : Crowd) (first after : Course) (hs : Li
       nobody_there i e is = cc
 
   numbered : (n k : ℕ) → AreNumbered k none_come (at_server n (h k))
-  numbered n k = subst (λ (xs : List items.Item). AreNumbered k none_come (at_server n xs)) (sym (handed_is k)) ((said k).to n).numbered
+  numbered n k = subst (λ (xs : List items.Item). AreNumbered k none_come (at_server n xs)) (sym (handed_is k)) ((said k).numbered n)
 
   rising : (n k : ℕ) → IsSeat after n → AreRising 0 (at_server n (h k))
   rising n k here =
       subst (λ (xs : List items.Item). AreRising 0 (at_server n xs)) (sym (handed_is k))
-      (rises n k turns 0 (0 + length (seat_at after n).journal) (subst (AreSentRising n 0 (0 + length (seat_at after n).journal)) sent_is (records n here).rising))
+      (rises hs list agrees n k (0 + length (seat_at after n).journal) (records n here).rising)
 
   fresh : (client owner : ℕ) (x y : items.Item) → IsIn x (h client) → IsIn y (h owner) → IsOwn x.mark → IsBefore x y → IsRaw y.mark
   fresh client owner x y i j own before = elim (raw_or y.mark) [
@@ -400,11 +338,11 @@ module _ {V : Type 0} (s : States V) (c : Crowd) (first after : Course) (hs : Li
   ]
 
   -- a transaction that a client was told of is of this run
-  of_run : (client : ℕ) (t : TransId) → IsToldOf t (list_map item_of (own_in client turns)) → (opening_of log t.server).epoch ≤ t.epoch
+  of_run : (client : ℕ) (t : TransId) → IsToldOf t (list_map item_of (list client)) → (opening_of log t.server).epoch ≤ t.epoch
   of_run client t told = go (put_in client tells_it.item among)
     where
-      tells_it : IsTelling t (list_map item_of (own_in client turns))
-      tells_it = telling t (list_map item_of (own_in client turns)) told
+      tells_it : IsTelling t (list_map item_of (list client))
+      tells_it = telling t (list_map item_of (list client)) told
 
       among : IsIn tells_it.item (h client)
       among = subst (IsIn tells_it.item) (sym (handed_is client)) tells_it.among
@@ -425,13 +363,20 @@ module _ {V : Type 0} (s : States V) (c : Crowd) (first after : Course) (hs : Li
       go (inr (at, is, e)) = by_entry at e
 
   -- what clients sent and were handed is as their machine and the servers leave it
-  pub clients_kept : AreOfClients log
-  clients_kept = record {
+  pub clients_agree : AreOfClients log
+  clients_agree = record {
     replies = λ client x i. placed x (put_in client x i);
     whole = λ client n i epoch number asked e stands is. has_item n (of log n) (of_course after h n numbers) i e stands (client, epoch, number, asked, is);
     fresh = fresh;
     seen = λ client. subst (HaveSeen []) (sym (handed_is client)) (said client).seen;
     outcomes = λ client x i.
-        run_of log (list_map item_of (own_in client turns)) x.mark x.sent (of_run client)
-        (in_all (λ (y : items.Item). SentOfTold (list_map item_of (own_in client turns)) y.mark y.sent) (list_map item_of (own_in client turns)) x (said client).outcomes (subst (IsIn x) (handed_is client) i));
+        run_of log (list_map item_of (list client)) x.mark x.sent (of_run client)
+        (in_all (λ (y : items.Item). SentOfTold (list_map item_of (list client)) y.mark y.sent) (list_map item_of (list client)) x (said client).outcomes (subst (IsIn x) (handed_is client) i));
   }
+
+-- and so where all that was sent is what turns sent, one after the other
+module _ {V : Type 0} (s : States V) (c : Crowd) (first after : Course) (hs : List Occurrence) (turns : List Turn) (h : Handed) (begins : IsFirst first) (course : AreCourse first hs after) (sent_is : sent_of hs ≡ sent_in turns)
+    (said : (k : ℕ) → HasSaid s k (client_at c k) (list_map item_of (own_in k turns))) (handed_is : (k : ℕ) → h k ≡ list_map item_of (own_in k turns))
+    (lawful : (n : ℕ) → IsSeat after n → IsLawful (seat_at after n).opening (seat_at after n).journal) where
+  pub clients_kept : AreOfClients (log_of after h)
+  clients_kept = clients_agree first after hs (λ (k : ℕ). own_in k turns) h begins course (agree_in_turn hs turns sent_is) (λ k. record { numbered = λ n. ((said k).to n).numbered; seen = (said k).seen; outcomes = (said k).outcomes }) handed_is lawful

@@ -1,7 +1,5 @@
 pub mod AlikeLemmas
-pub mod AloneLemmas
 pub mod BackLemmas
-pub mod LonelyLemmas
 pub mod BeginLemmas
 pub mod BegunLemmas
 pub mod CommandLemmas
@@ -11,6 +9,7 @@ pub mod CalmAtLemmas
 pub mod CloseLemmas
 pub mod CloseOneLemmas
 pub mod KeptCourse
+pub mod KeptOwn
 pub mod KeptLemmas
 pub mod LeaveLemmas
 pub mod LookLemmas

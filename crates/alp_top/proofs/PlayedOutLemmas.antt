@@ -1,14 +1,17 @@
 -- a run that was played to its end, on the disks of a bay
 use Rattle.std.specs.Prelude.{Vec, Bool, false, IsTrue, map as list_map, slice_get, Option, Some, Ok}
 use Rattle.std.specs.Global.{Global}
+use Rattle.std.specs.FinMap as map
 use Rattle.std.specs.List.{AllByRecursion}
-use Rattle.std.proofs.Common.{inl, inr, ◌≡◌, ℕ, zero, suc, ◌+◌, ◌-◌, ◌<◌, ◌≤◌, List, [], ◌∷◌, length, refl, sym, ◌∙◌, ap, subst, arith}
+use Rattle.std.proofs.Common.{inl, inr, ◌⊎◌, ◌≡◌, ℕ, zero, suc, ◌+◌, ◌-◌, ◌<◌, ◌≤◌, List, [], ◌∷◌, length, refl, sym, ◌∙◌, ap, subst, arith}
 use Rattle.std.proofs.lemmas.List.{length-map}
 use Rattle.alp_base.specs.Notes.{Notes}
 use Rattle.alp_base.specs.declared.allowance.Allowance.TheVariants.{Free}
 use Rattle.alp_course.specs.Courses.{Seat, IsOneOf, IsSeat, seat_at, TellAll}
 use Rattle.alp_course.specs.Links.{server_log}
 use Rattle.alp_disk.specs.declared.disk.Disk.{Ghosts}
+use Rattle.alp_fields.specs.ClockNote.{clock_name, clock_form}
+use Rattle.alp_files.specs.Sound.{AreSound}
 use Rattle.alp_history.specs.Log as logs
 use Rattle.alp_history.specs.RunLogs as runs
 use Rattle.alp_history.proofs.Promises.{promises}
@@ -26,6 +29,7 @@ use Rattle.alp_script.specs.Accepted.{RisesFrom, servers_said}
 use Rattle.alp_script.specs.Volumes.{sizes_said}
 use Rattle.alp_script.specs.declared.numbered.NumberedLine.{NumberedLine}
 use Rattle.alp_store.specs.Holding.{Holds}
+use Rattle.alp_store.specs.Starts.{IsNew}
 use Rattle.alp_vault.specs.Contents.{Contents}
 use Rattle.alp_vault.specs.declared.vault.Vault.{Ghosts as VaultGhosts}
 use Rattle.alp_cluster.specs.Gathered.{AreStationsOf}
@@ -38,23 +42,24 @@ use Rattle.alp_cluster.specs.declared.station.Station.{Station}
 use Rattle.alp_cluster.specs.declared.stations.Stations.{Stations}
 use Rattle.alp_top.specs.Disks.{AreBegun, AreOthersSame, AreClosed, notes_in}
 use Rattle.alp_top.specs.Endings.{IsLogAt, AreRestsOf, IsReportOf, shown_text}
+use Rattle.alp_top.specs.Besides.{IsStoredWhole, AreAtRest, AreFromDisks, IsHistory, HasLaws, IsText, IsRunOf}
 use Rattle.alp_top.specs.Commands.{shown_as}
-use Rattle.alp_top.specs.Headline.{IsStoredBy, AreAtRest, AreFromDisks, IsAlone, IsRunOf}
+use Rattle.alp_top.specs.Headline.{Lines, HeldBefore, Correct}
 use Rattle.alp_top.specs.Logs.{Log, ServerOfLog, openings, start_of, log_of}
 use Rattle.alp_top.specs.Reports.{end_of}
 use Rattle.alp_top.specs.Together.{BeginsSound, OpensOn, OpenOn}
-use Rattle.alp_top.specs.Volumes.{pages_of, IsBare, IsUnstopped, IsStored, AreReturned, IsStartable}
+use Rattle.alp_top.specs.Volumes.{pages_of, IsUnstopped, IsStored, AreReturned, IsStartable, empty_contents}
 use Rattle.alp_top.specs.declared.finish.Rests.{Rests}
 use Rattle.alp_top.proofs.GoneAtLemmas.{IsDoneAt, done_at}
+use Rattle.alp_top.proofs.BeginLemmas.{new_by}
 use Rattle.alp_top.proofs.CalmAtLemmas.{calm_at}
 use Rattle.alp_top.proofs.CountedLemmas.{counted_for}
-use Rattle.alp_top.proofs.LonelyLemmas.{is_alone}
 use Rattle.alp_top.proofs.PairLemmas.{matched_at, same_there}
 use Rattle.alp_top.proofs.SeatedLemmas.{there_less, seat_on, many}
 use Rattle.alp_top.proofs.RestLemmas.{only_clock}
-use Rattle.alp_top.proofs.SeveralLemmas.{one_node, one_same, log_many, faithful, AreDecidedSo, proper_log, decided_so, told_clients, log_at, at_rest, tallied}
+use Rattle.alp_top.proofs.SeveralLemmas.{one_node, one_same, log_many, of_script, linked_log, lawful_log, caused_log, AreDecidedSo, proper_log, decided_so, told_clients, log_at, at_rest, tallied}
 use Rattle.alp_top.proofs.StartableLemmas.{startable_again}
-use Rattle.alp_top.proofs.StoredLemmas.{stored, bare_as}
+use Rattle.alp_top.proofs.StoredLemmas.{stored}
 use Rattle.alp_top.proofs.TogetherLemmas.{IsPlain, fresh_together, lone_together, plain_together, opens_by, all_open}
 
 -- ---- openings
@@ -110,29 +115,12 @@ module _ {V D U : Type 0} (G : VaultGhosts V) (g : Ghosts D) (tells : Bool) (tol
       let one : x.at.left ≡ s = same_there (slice_get last.all.items i) x.at.left s (ap (slice_get last.all.items) (sym minus) ∙ x.at.stands) at in
       subst (λ (z : Station V). IsTrue (seat_of G z).tells) one (subst (λ o. IsTrue (seat_for G x.at.left.is_fused x.at.left.ranks.items o).tells) (sym x.rests) (rest_told (i + 1) here)))
 
-  -- where that holds of what was started, the server opened with nothing
-  bare_by : (n : ℕ) → ((here : IsOneOf (servers_said lines) n) (m : NodeState V) → IsOn G m → m.kept.server ≡ n → m.opening ≡ (at_end n here).at.node.opening → IsTrue (G.tells m.kept.vault) → IsBare (start_in G m)) → IsSeat (course_of G last) n → IsBare (seat_at (course_of G last) n).opening
-  bare_by n makes seat =
-      let here : IsOneOf (servers_said lines) n = record { first = seat.first; last = (let high : n ≤ length (course_of G last).seats = seat.last in let count : length last.all.items ≡ servers_said lines = out.count in let all : length (course_of G last).seats ≡ length last.all.items = many G last out.on in omega (arith, high, count, all)) } in
-      let x = at_end n here in
-      let (s, at, m, sits) = seat_on G last out.on n seat in
-      let one : s ≡ x.at.left = same_there (slice_get last.all.items (n - 1)) s x.at.left at x.at.stands in
-      let node_is : m.node ≡ x.rest = one_node s.server m.node x.rest m.keeps.stands (ap (λ (z : Station V). z.server) one ∙ x.rests) in
-      let opening : x.rest.opening ≡ x.at.node.opening = opening_same first last (n - 1) x.at.station x.at.left x.at.node x.rest opens x.at.stood x.at.was x.at.stands x.rests in
-      let number : x.rest.kept.server ≡ n = ap (λ (k : NodeState V). k.kept.server) (sym node_is) ∙ m.number_is in
-      subst (λ (z : Seat). IsBare z.opening) (sym sits) (subst (λ (k : NodeState V). IsBare (start_in G k)) (sym node_is) (makes here x.rest (subst (λ (k : NodeState V). IsOn G k) node_is m.keeps.on) number opening (rest_told n here)))
-
-  bare_alone : servers_said lines ≡ 1 → (n : ℕ) → IsSeat (course_of G last) n → IsBare (seat_at (course_of G last) n).opening
-  bare_alone one n seat = bare_by n (λ here m on number opening tells_m.
-      let x = (at_end n here).at in
-      bare_as G g (sizes_said lines n) n (servers_said lines) x.node m x.vault x.taken x.given x.begun.started (x.begun.told told) on number opening tells_m one) seat
-
   -- on sound openings they are at rest
   rest_of : BeginsSound (log_of G log) → AreAtRest (log_of G log)
   rest_of = at_rest G lines last vs text printed log rests rises out kept shows is all_told
 
   -- what it holds is what its journal says
-  stored_at : (n : ℕ) (here : IsOneOf (servers_said lines) n) → IsStoredBy G g lines log n (at_end n here).at.taken (at_end n here).at.given
+  stored_at : (n : ℕ) (here : IsOneOf (servers_said lines) n) → IsStoredWhole G g lines log n (at_end n here).at.taken (at_end n here).at.given
   stored_at n here =
       let x = at_end n here in
       let low : 1 ≤ n = here.first in
@@ -178,7 +166,7 @@ module _ {V D U : Type 0} (G : VaultGhosts V) (g : Ghosts D) (tells : Bool) (tol
             (subst (λ (q : State). AreNotesOf q (end_of G (servers_said lines) y).ids.epoch on_disk.held.notes) (sym final_is) on_disk.said.notes);
       }
 
-  returned_all : AreReturned g lines (servers_said lines) before after (IsStoredBy G g lines log)
+  returned_all : AreReturned g lines (servers_said lines) before after (IsStoredWhole G g lines log)
   returned_all = record {
     each = λ n here.
         let x = at_end n here in
@@ -232,29 +220,93 @@ module _ {V D U : Type 0} (G : VaultGhosts V) (g : Ghosts D) (tells : Bool) (tol
         (startable_again (sizes_said later n) n (servers_said lines) (g.size d) home (g.seen d) held holds back.left.stored.own (back.left.noted begins) further);
   }
 
-  lone_run : servers_said lines ≡ 1 → IsAlone G lines log
-  lone_run one =
-      is_alone G lines last vs text printed log rests rises out kept shows is all_told one
-      (bare_alone one 1 (record { first = omega arith; last = (let count : length last.all.items ≡ servers_said lines = out.count in let all : length (course_of G last).seats ≡ length last.all.items = many G last out.on in omega (arith, one, count, all)) }))
+  -- ---- the eight points, and the laws
 
-  pub run_over : IsRunOf G g shows lines log printed before after
-  run_over = record {
-    count = many_logs;
-    report = tallied G lines last vs text printed log rests rises out kept shows is all_told;
-    faithful = faithful G lines last vs text printed log rests rises out kept shows is all_told;
-    stored = returned_all;
+  -- what its disk held before
+  record HasHeld (n : ℕ) (taken : D) (y : ServerOfLog V) : Type 0 where
+    was : Contents
+    held_so : HeldBefore g (sizes_said lines n) n (servers_said lines) (start_of G (servers_said lines) y).sizes.home taken was
+    opened_so : (start_of G (servers_said lines) y).cells ≡ was.cells
+    noted_so : (openings G).notes y.opening ≡ map.insert was.notes clock_name (clock_form.spell (record { epoch = (start_of G (servers_said lines) y).epoch; clock = (start_of G (servers_said lines) y).clock }))
+
+  has_held : (n : ℕ) (taken given : D) → (w : IsStoredWhole G g lines log n taken given) → HasHeld n taken w.server
+  has_held n taken given w = go (new_by (sizes_said lines n) (g.size taken) (g.seen taken))
+    where
+      go : IsNew (sizes_said lines n) (g.size taken) (g.seen taken) ⊎ (IsNew (sizes_said lines n) (g.size taken) (g.seen taken) → ⊥) → HasHeld n taken w.server
+      go (inl new) =
+          let first = w.stored.new new in
+          record {
+            was = empty_contents;
+            held_so = record { new = λ again. refl; old = λ old. absurd (old new) };
+            opened_so = first.cells;
+            noted_so = first.noted ∙ (λ i. map.insert map.empty clock_name (clock_form.spell (record { epoch = sym first.epoch i; clock = sym first.clock i })));
+          }
+      go (inr old) =
+          let found = w.stored.found old in
+          record { was = found.held; held_so = record { new = λ new. absurd (old new); old = λ again. found.holds }; opened_so = found.cells; noted_so = found.noted }
+
+  abbrev l : logs.Log
+  l = log_of G log
+
+  laws_all : HasLaws G g lines before after log
+  laws_all = record {
+    caused = caused_log G lines last vs text printed log rests rises out kept shows is all_told;
+    disks = returned_all;
     history = λ sound.
-        let h : AreDecidedSo (log_of G log) = decided_so G lines last vs text printed log rests rises out kept shows is all_told sound in
+        let h : AreDecidedSo l = decided_so G lines last vs text printed log rests rises out kept shows is all_told sound in
         record {
-          serial = h.serial;
-          charged = h.charged;
+          thread = h.thread;
           whole = h.whole;
           order = h.order;
-          shared = sharing (log_of G log) (proper_log G lines last vs text printed log rests rises out kept shows is all_told sound);
-          kept = promises (log_of G log) (proper_log G lines last vs text printed log rests rises out kept shows is all_told sound) (told_clients G lines last vs text printed log rests rises out kept shows is all_told);
-          counted = counted_for G lines log (faithful G lines last vs text printed log rests rises out kept shows is all_told) sound (shown_as shows);
+          shared = sharing l (proper_log G lines last vs text printed log rests rises out kept shows is all_told sound);
+          kept = promises l (proper_log G lines last vs text printed log rests rises out kept shows is all_told sound) (told_clients G lines last vs text printed log rests rises out kept shows is all_told);
+          counted = counted_for G lines log (of_script G lines last vs text printed log rests rises out kept shows is) (linked_log G lines last vs text printed log rests rises out kept shows is all_told)
+              (lawful_log G lines last vs text printed log rests rises out kept shows is all_told) sound;
         };
     rest = rest_of;
-    disks = from_disks;
-    alone = lone_run;
+    from_disks = from_disks;
   }
+
+  -- what the laws say of the decided transactions
+  history_of : BeginsSound l → IsHistory G lines log
+  history_of begins = laws_all.history begins.sound
+
+  correct_run : Correct G g (Lines (shown_as shows) lines) (IsText printed) before after log
+  correct_run = record {
+    output = tallied G lines last vs text printed log rests rises out kept shows is all_told;
+    faithful = record { count = many_logs; played = (of_script G lines last vs text printed log rests rises out kept shows is, all_told) };
+    lawful = (lawful_log G lines last vs text printed log rests rises out kept shows is all_told, linked_log G lines last vs text printed log rests rises out kept shows is all_told);
+    stored = record {
+      each = λ n here.
+          let back = returned_all.each n here in
+          record {
+            taken = back.taken;
+            from_there = back.from_there;
+            given = back.given;
+            there = back.there;
+            size = back.size;
+            later = back.later;
+            left = record {
+              server = back.left.server;
+              there = back.left.there;
+              number = back.left.number;
+              was = (has_held n back.taken back.given back.left).was;
+              before = (has_held n back.taken back.given back.left).held_so;
+              opened = (has_held n back.taken back.given back.left).opened_so;
+              noted = (has_held n back.taken back.given back.left).noted_so;
+              held = back.left.stored.held;
+              finish = back.left.stored.finish;
+              cells = back.left.stored.said.cells;
+              durable = back.left.stored.durable;
+            };
+          };
+      others = returned_all.others;
+    };
+    serial = λ begins. record { replies = (history_of begins).thread.replies; files = λ n here. (returned_all.each n here).left.ends begins ∙ sym ((history_of begins).thread.files n) };
+    whole = λ begins x js j among has. ((history_of begins).whole.listed.applies j.server j x.trans x ((rest_of begins).ends.applied x js j among has)).1;
+    kept = λ begins. (history_of begins).kept;
+    charged = λ begins. record { each = (history_of begins).thread.charged; last = λ n. subst AreSound (sym ((history_of begins).thread.files n)) ((history_of begins).thread.charged_last n) };
+  }
+
+  pub run_over : IsRunOf G g shows lines log printed before after
+  run_over = record { correct = correct_run; laws = laws_all }

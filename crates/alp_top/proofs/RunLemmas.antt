@@ -31,7 +31,7 @@ use Rattle.alp_top.specs.Limits.{IsEndedFor, IsEndTold}
 use Rattle.alp_top.specs.Looks.{IsLookFault}
 use Rattle.alp_top.specs.Endings.{AreRestsOf, IsReportOf, shown_text}
 use Rattle.alp_top.specs.Faults.{of_bay, played}
-use Rattle.alp_top.specs.Headline.{IsRunOf}
+use Rattle.alp_top.specs.Besides.{IsRunOf}
 use Rattle.alp_top.specs.Logs.{Log}
 use Rattle.alp_top.specs.Volumes.{HasRunCause, IsBayFault, IsOfServers}
 use Rattle.alp_top.specs.declared.fault.NoReport.{NoReport}

@@ -15,7 +15,7 @@ use Rattle.alp_history.specs.Items as items
 use Rattle.alp_history.specs.Log as logs
 use Rattle.alp_history.specs.RunLogs as runs
 use Rattle.alp_history.specs.RunLogs.{item_of}
-use Rattle.alp_history.specs.Theorems.{IsProper, IsSettled}
+use Rattle.alp_history.specs.Theorems.{IsProper, IsOneThread, IsSettled}
 use Rattle.alp_history.proofs.Merged.{history}
 use Rattle.alp_history.proofs.Agreed.{agreement}
 use Rattle.alp_history.proofs.AtRest.{settling}
@@ -54,7 +54,8 @@ use Rattle.alp_cluster.specs.declared.stations.Stations.{Stations}
 use Rattle.alp_top.specs.Anywhere.{IsPrintedOf, IsPlayedThrough}
 use Rattle.alp_top.specs.Commands.{shown_as}
 use Rattle.alp_top.specs.Endings.{AreCellsOf, IsHeldAt, IsLogAt, AreRestsOf, IsReportOf, shown_text}
-use Rattle.alp_top.specs.Headline.{IsOfScript, IsFaithful, IsSerial, IsCharged, AreDecidedWhole, AreInOrder, AreAtRest}
+use Rattle.alp_top.specs.Besides.{AreCaused, AreDecidedWhole, AreInOrder, AreAtRest}
+use Rattle.alp_top.specs.Headline.{IsOfScript}
 use Rattle.alp_top.specs.Logs.{Log, ServerOfLog, openings, log_of, lists_of}
 use Rattle.alp_top.specs.Pairs.{AreMatched}
 use Rattle.alp_top.specs.Reports.{end_of, holding_in, files_text_of, owners_text_of, tallied_text, shown_lines, tallied_for}
@@ -85,8 +86,7 @@ all_back P f (x ∷ xs) h = (h.0, all_back P f xs h.1)
 
 -- what holds of the decided transactions, of the log alone
 pub record AreDecidedSo (log : logs.Log) : Type 0 where
-  pub serial : IsSerial log
-  pub charged : IsCharged log
+  pub thread : IsOneThread log
   pub whole : AreDecidedWhole log
   pub order : AreInOrder log
 
@@ -270,15 +270,16 @@ module _ {V : Type 0} (G : Ghosts V) (lines : List NumberedLine) (last : Station
     log_same : links.log_of r (runs.handed_of (lists_of G log)) ≡ log_of G log
     log_same = (λ i. record { servers = server_logs i; handed = runs.handed_of (lists_of G log) })
 
-    pub faithful : IsFaithful G lines log
-    faithful = record {
-      script = of_script;
-      tells = told;
-      linked = subst logs.IsLinked log_same (linking out.ran.first r out.hs (runs.handed_of (lists_of G log)) out.ran.is_first out.ran.course);
-      lawful = subst logs.AreLawful log_same (of_each (λ l. IsLawful l.opening l.journal) r (runs.handed_of (lists_of G log)) (numbered G last out.on) (λ n here. (seat_right n here).0) (λ n. tt));
-      caused = subst (λ (l : logs.Log). (n : ℕ) → Along next IsDone (opened (logs.opening_of l n)) (logs.journal_of l n)) log_same
-          (of_each (λ l. Along next IsDone (opened l.opening) l.journal) r (runs.handed_of (lists_of G log)) (numbered G last out.on) (λ n here. (seat_right n here).1) (λ n. tt));
-    }
+    pub linked_log : logs.IsLinked (log_of G log)
+    linked_log = subst logs.IsLinked log_same (linking out.ran.first r out.hs (runs.handed_of (lists_of G log)) out.ran.is_first out.ran.course)
+
+    pub lawful_log : logs.AreLawful (log_of G log)
+    lawful_log = subst logs.AreLawful log_same (of_each (λ l. IsLawful l.opening l.journal) r (runs.handed_of (lists_of G log)) (numbered G last out.on) (λ n here. (seat_right n here).0) (λ n. tt))
+
+    pub caused_log : AreCaused (log_of G log)
+    caused_log =
+        subst (λ (l : logs.Log). (n : ℕ) → Along next IsDone (opened (logs.opening_of l n)) (logs.journal_of l n)) log_same
+        (of_each (λ l. Along next IsDone (opened l.opening) l.journal) r (runs.handed_of (lists_of G log)) (numbered G last out.on) (λ n here. (seat_right n here).1) (λ n. tt))
 
     pub proper_log : logs.AreSoundOpenings (log_of G log) → IsProper (log_of G log)
     proper_log sound = subst IsProper log_same
@@ -287,10 +288,8 @@ module _ {V : Type 0} (G : Ghosts V) (lines : List NumberedLine) (last : Station
     pub decided_so : logs.AreSoundOpenings (log_of G log) → AreDecidedSo (log_of G log)
     decided_so sound =
         let p : IsProper (log_of G log) = proper_log sound in
-        let h = history (log_of G log) p in
         record {
-          serial = record { replies = h.replies; files = h.files };
-          charged = record { each = h.charged; last = h.charged_last };
+          thread = history (log_of G log) p;
           whole = record { whole = wholeness (log_of G log) p; listed = listing (log_of G log) p; agree = agreement (log_of G log) p };
           order = (let (locks, turns, begins) = stamps_go_by_locks (log_of G log) p in record { locks = locks; turns = turns; begins = begins; latest = latest-of-all (log_of G log) p });
         }

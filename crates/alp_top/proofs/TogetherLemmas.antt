@@ -32,7 +32,7 @@ use Rattle.alp_vault.specs.Contents.{Contents}
 use Rattle.alp_vault.specs.Volumes.{AreServerNotes}
 use Rattle.alp_vault.specs.declared.vault.Vault.{Ghosts as VaultGhosts}
 use Rattle.alp_vault.proofs.VolumeLemmas.{alone_so_far}
-use Rattle.alp_top.specs.Headline.{IsStoredBy}
+use Rattle.alp_top.specs.Besides.{IsStoredWhole}
 use Rattle.alp_top.specs.Logs.{Log, ServerOfLog, openings, start_of}
 use Rattle.alp_top.specs.Together.{BeginsSound, OpensOn, OpenOn, GoTogether}
 use Rattle.alp_top.specs.Volumes.{pages_of, IsBare, HasNoPart, IsReturned}
@@ -191,7 +191,7 @@ module _ {D : Type 0} (g : Ghosts D) (lines : List NumberedLine) where
 
 module _ {V D : Type 0} (G : VaultGhosts V) (g : Ghosts D) (lines : List NumberedLine) (log : Log V) (before : ℕ → Option D) where
   -- a server opened on the disk that came from its place
-  pub opens_by : (n : ℕ) (now : Option D) → (r : IsReturned g (sizes_said lines n) (before n) now (IsStoredBy G g lines log n)) → OpensOn g lines n (before n) (start_of G (servers_said lines) r.left.server)
+  pub opens_by : (n : ℕ) (now : Option D) → (r : IsReturned g (sizes_said lines n) (before n) now (IsStoredWhole G g lines log n)) → OpensOn g lines n (before n) (start_of G (servers_said lines) r.left.server)
   opens_by n now r = record {
     disk = r.taken;
     from_there = r.from_there;

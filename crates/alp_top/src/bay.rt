@@ -7,7 +7,7 @@ ghost use Rattle.alp_top.specs.Anywhere.{IsPlayedThrough};
 ghost use Rattle.alp_top.specs.Disks.{IsLong, IsToldOf, IsVaultTold, IsGivenAs, IsGivenAt, IsBegunHere, IsRefusedHere, HasAdded, HaveBegun, HaveBegunSome, AreHeld, AreLeftBy, IsAtRest, AreAtRest, IsElsewhere, IsClosedHere, GoesOn, IsStationPut, AreClosed};
 ghost use Rattle.alp_top.specs.Limits.{IsEndTold};
 ghost use Rattle.alp_top.specs.Endings.{AreRestsOf};
-ghost use Rattle.alp_top.specs.Headline.{IsRunOf};
+ghost use Rattle.alp_top.specs.Besides.{IsRunOf};
 ghost use Rattle.alp_top.specs.Looks.{OnlyLooks};
 ghost use Rattle.alp_top.specs.Volumes.{HasRunCause, IsBayTold, IsFolderChosen, IsOfServers, pages_of as pages_of_said};
 ghost use Rattle.alp_vault.specs.Vault.{AreSizes};

@@ -78,9 +78,7 @@ fn says_in_the_end_how_a_run_ended(rt: HostRuntime) -> Result<(), Fail> {
     let cut_off = end_of(rt.alloc(), &["Play"], 6)?;
     let done = end_of(rt.alloc(), &["play"], 64)?;
     assert!(rt;
-        is_end(&bad, 1, b"alpine: bad words\n")
-            && is_end(&cut_off, 1, b"")
-            && is_end(&done, 0, b"")
+        is_end(&bad, 1, b"alpine: bad words\n") && is_end(&cut_off, 1, b"") && is_end(&done, 0, b"")
     );
     Ok(())
 }

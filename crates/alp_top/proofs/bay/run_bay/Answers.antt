@@ -9,7 +9,7 @@ use Rattle.alp_top.specs.Disks.{HaveBegun}
 use Rattle.alp_top.specs.Faults.{played}
 use Rattle.alp_top.specs.Limits.{IsEndTold}
 use Rattle.alp_top.specs.Endings.{shown_text}
-use Rattle.alp_top.specs.Headline.{IsRunOf}
+use Rattle.alp_top.specs.Besides.{IsRunOf}
 use Rattle.alp_top.specs.Volumes.{HasRunCause, IsOfServers, IsBayFault}
 use Rattle.alp_top.specs.declared.fault.NoReport.TheVariants as fault
 use Rattle.alp_top.proofs.EndedLemmas.{bay_unended, start_unended}

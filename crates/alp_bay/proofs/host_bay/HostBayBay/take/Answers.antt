@@ -6,4 +6,4 @@ use Rattle.alp_bay.specs.declared.host_disk.HostDisk.TheVariants as kind
 use Rattle.alp_bay.proofs.host_bay.HostBayBay.take.Goals as goal
 
 pub returns-in-Err-clause-refused : goal.returns-in-Err-clause-refused
-returns-in-Err-clause-refused g c _ = ap (λ (f : ℕ → Option MemDisk). λ (server : ℕ). option_map kind.Memory (f server)) c.in-Err.ensures.refused
+returns-in-Err-clause-refused g c = ap (λ (f : ℕ → Option MemDisk). λ (server : ℕ). option_map kind.Memory (f server)) c.in-Err.ensures.refused

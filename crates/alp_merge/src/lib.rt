@@ -1,0 +1,6 @@
+//! What a storm is: the turns of all servers, in the order of their ranks, are a course.
+#![tactic(auto)]
+
+mod laws;
+
+pub use laws::{carriers_take_turns, storms_are_courses, threads_make_a_storm};

@@ -1,0 +1,4 @@
+mod TaskLemmas
+mod WorkerLemmas
+mod PartLemmas
+mod JoinLemmas
