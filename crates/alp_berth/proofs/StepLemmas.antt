@@ -39,8 +39,12 @@ module _ {V : Type 0} (G : Ghosts V) (old new : BerthState V) (h : IsBerth G old
   -- a message came by it
   pub arrives : (from : ℕ) (m : Message) → e ≡ event.Arrive from m → Arrives sight_of old.made from m seen (entries_of old) (entries_of new)
   arrives from m is =
-      inl (one, entries_more, ap (λ (x : Event). arrival_of (rank_after old.ranks seen) x) (s.event_is ∙ is)
-      ∙ ap (arrival_at from m) rank_is)
+      inl (
+        one,
+        entries_more,
+        ap (λ (x : Event). arrival_of (rank_after old.ranks seen) x) (s.event_is ∙ is)
+            ∙ ap (arrival_at from m) rank_is,
+      )
 
   module _ (zero_is : seen ≡ 0) (few : length (entries_of old) < 2 ^ 62) where
     pub made_of_it : IsMadeOf log_of old.made (entries_of old) e one

@@ -84,6 +84,12 @@ pub mod LooksAt
 pub mod Performed
 pub mod EffectiveActs
 pub mod RightNeighbours
+pub mod SharesKept
 pub mod Shared
+pub mod CommittedActs
+pub mod TellLemmas
+pub mod TellEntries
+pub mod PartsAgree
+pub mod OneThread
 pub mod RefusedAnswers
 pub mod RefusalLemmas

@@ -172,6 +172,7 @@ module _ (h : Holder) (t : TransId) where
     edits : w.edits ≡ life.edits
     own : w.own ≡ life.own
     who : w.who ≡ life.who
+    calls : w.calls ≡ life.calls
     vote : w.vote ≡ life.vote
     more : IsMore life.held w.held
 
@@ -181,7 +182,7 @@ module _ (h : Holder) (t : TransId) where
     part : (w : Life) → m.lives t ≡ Some w → WasSo w
 
   begins-so : IsAsBefore h
-  begins-so = record { cells = refl; server = refl; part = λ w is. record { life = w; lives = is; edits = refl; own = refl; who = refl; vote = refl; more = λ r m k. k } }
+  begins-so = record { cells = refl; server = refl; part = λ w is. record { life = w; lives = is; edits = refl; own = refl; who = refl; calls = refl; vote = refl; more = λ r m k. k } }
 
   no-commit : (d : Deed) {x : Stamp} → IsMild d → IsCommit x d → ⊥
   no-commit d k c = elim c [ inl a ↦ subst IsMild a.1 k | inr a ↦ subst IsMild a.1 k ]
@@ -203,6 +204,7 @@ module _ (h : Holder) (t : TransId) where
           edits = ap (λ (z : Life). z.edits) (sym same) ∙ old.edits;
           own = ap (λ (z : Life). z.own) (sym same) ∙ old.own;
           who = ap (λ (z : Life). z.who) (sym same) ∙ old.who;
+          calls = ap (λ (z : Life). z.calls) (sym same) ∙ old.calls;
           vote = ap (λ (z : Life). z.vote) (sym same) ∙ old.vote;
           more = subst (λ (z : Life). IsMore (old.life).held z.held) same (λ r o g. granted-more l.held (needs_of (view_in m l) l.own c) r o (old.more r o g));
         }))
@@ -347,6 +349,29 @@ module _ (log : Log) (proper : IsProper log) (n i : ℕ) (e : Entry) (at : slice
   -- the part has the call behind the entry, and goes on
   pub has-call : (l : Life) × ((state_at log n (suc i)).holder.lives x.trans ≡ Some l) × IsIn d l.calls × (l.vote ≡ None) × IsOpenPart (state_at log n (suc i)) x.trans
   has-call = (after_done now d (answer_in there.holder now d), lives-after, in-right d now.calls (d ∷ []) (inl refl), performed.active, open-after)
+
+  -- what the part was before, and is behind it
+  pub record IsDoneMore : Type 0 where
+    pub earlier : Life
+    pub stood_so : s.holder.lives x.trans ≡ Some earlier
+    pub later : Life
+    pub stands_so : (state_at log n (suc i)).holder.lives x.trans ≡ Some later
+    pub calls_so : later.calls ≡ earlier.calls ++ d ∷ []
+    pub who_so : later.who ≡ earlier.who
+    pub voteless : later.vote ≡ None
+    pub running_so : IsOpenPart (state_at log n (suc i)) x.trans
+
+  pub done-more : IsDoneMore
+  done-more = record {
+    earlier = before;
+    stood_so = was.lives;
+    later = after_done now d (answer_in there.holder now d);
+    stands_so = lives-after;
+    calls_so = ap (λ cs. cs ++ d ∷ []) was.calls;
+    who_so = was.who;
+    voteless = performed.active;
+    running_so = open-after;
+  }
 
   on-latest : (k : Key) → IsIn k (looked_at s.holder before d) → map.get s.holder.cells k ≡ latest log n k x
   on-latest k looked =

@@ -2,6 +2,8 @@ pub mod Items
 pub mod Log
 pub mod Theorems
 pub mod Handed
+pub mod Committed
+pub mod Numbers
 pub mod RunLogs
 pub mod Examples
 pub mod RightLog

@@ -2,6 +2,7 @@
 #![tactic(auto)]
 
 mod agreement;
+mod numbers;
 mod refusals;
 
 pub use agreement::{
@@ -13,4 +14,5 @@ pub use agreement::{
     stamps_are_above_what_was_seen, stamps_go_by_locks, stamps_told_are_of_decided_transactions,
     wrong_journals_are_refused, wrong_logs_are_refused,
 };
+pub use numbers::{committed_acts_are_the_decided, numbered_calls_are_one_threads};
 pub use refusals::refusals_change_nothing;

@@ -109,7 +109,7 @@ arrival_is (event.Arrive from m) rank a is =
     same_arrival a b e = cc
 arrival_is e rank a is = absurd (let wrong : None ≡ Some a = is in cc)
 
-module _ {S B E : Type 0} (base_of : S → B) (sight : Sight B E) (base : B → List Ranked) (read : E → Ranked) (reads : IsReadAs sight base read) (r : Route S B E) (s t : Seat) (based_there : IsBased s (base_there base_of sight base read r)) (based_here : IsBased t (base_here base_of sight base read r)) (there here : List (ℕ × E)) (c : Carried S B E)
+module _ {S B E : Type 0} (base_of : S → B) (sight : Sight B E) (base : B → List Ranked) (read : E → Ranked) (r : Route S B E) (reads_there : IsReadAs sight base read (first_base base_of r.from.now)) (reads_here : IsReadAs sight base read (first_base base_of r.to.now)) (s t : Seat) (based_there : IsBased s (base_there base_of sight base read r)) (based_here : IsBased t (base_here base_of sight base read r)) (there here : List (ℕ × E)) (c : Carried S B E)
     (begins_there : IsPrefix (front c.sender) there) (begins_here : IsPrefix (front c.receiver) here) where
   abbrev Seen : Taken → Type 0
   Seen x = WasSeenAmong base_of sight r.from.now r.pair.to r.pair.first c.next c.sender x
@@ -130,7 +130,7 @@ module _ {S B E : Type 0} (base_of : S → B) (sight : Sight B E) (base : B → 
   was_sent x (seen, low, high) =
       let early : List E = take seen.after (entries_in (front c.sender)) in
       let b : B = first_base base_of r.from.now in
-      let shown : slice_get (sent_in (base b ++ list_map read early)) seen.place ≡ Some (seen.shown.rank, record { to = r.pair.to; message = x.message }) = ap (λ (l : List (ℕ × Envelope)). slice_get l seen.place) (sym (reads.sent_is b early)) ∙ seen.shown.sent_is in
+      let shown : slice_get (sent_in (base b ++ list_map read early)) seen.place ≡ Some (seen.shown.rank, record { to = r.pair.to; message = x.message }) = ap (λ (l : List (ℕ × Envelope)). slice_get l seen.place) (sym (reads_there.sent_is early)) ∙ seen.shown.sent_is in
       let found : IsSentAt (base b ++ list_map read early) r.pair.to x.message seen.shown.rank = sent_found (base b ++ list_map read early) r.pair.to x.message seen.shown.rank (get_in (sent_in (base b ++ list_map read early)) seen.place (seen.shown.rank, record { to = r.pair.to; message = x.message }) shown) in
       let later : List Ranked = list_map read (drop seen.after (entries_in there)) in
       let whole : (base b ++ list_map read early) ++ later ≡ base b ++ all_read base_of sight base read there =
@@ -157,10 +157,10 @@ module _ {S B E : Type 0} (base_of : S → B) (sight : Sight B E) (base : B → 
   came_by x u came =
       let b : B = first_base base_of r.to.now in
       let before : List E = take u.0 (entries_in (front c.receiver)) in
-      let both = arrival_is (read u.1).entry.event (read u.1).rank (record { from = r.pair.from; message = x.message; rank = next_rank sight b before x.seen }) (sym (reads.arrived_is u.1) ∙ came.brought) in
+      let both = arrival_is (read u.1).entry.event (read u.1).rank (record { from = r.pair.from; message = x.message; rank = next_rank sight b before x.seen }) (sym (reads_here.arrived_is u.1) ∙ came.brought) in
       let same : list_map read before ≡ take u.0 (all_read base_of sight base read here) = ap (list_map read) (front_here u.0 (let less : u.0 < length (front c.receiver) = came.within in omega (arith, less))) ∙ sym (take_map read u.0 (entries_in here)) in
       let ranks : ranks_of (base b ++ list_map read before) ≡ t.ranks ++ ranks_of (take u.0 (all_read base_of sight base read here)) = map-append rank_of (base b) (list_map read before) ∙ (ap (λ (l : List ℕ). l ++ ranks_of (list_map read before)) (sym based_here.ranks) ∙ ap (λ (l : List Ranked). t.ranks ++ ranks_of l) same) in
-      let last : sight.last b before ≡ last_rank (t.ranks ++ ranks_of (take u.0 (all_read base_of sight base read here))) = reads.last_is b before ∙ ap last_rank ranks in
+      let last : sight.last b before ≡ last_rank (t.ranks ++ ranks_of (take u.0 (all_read base_of sight base read here))) = reads_here.last_is before ∙ ap last_rank ranks in
       record { here = refl; its = both.0; ranked = both.1 ∙ ap (λ (n : ℕ). max n x.seen + 1) last }
 
   -- why it did not come
@@ -175,9 +175,9 @@ module _ {S B E : Type 0} (base_of : S → B) (sight : Sight B E) (base : B → 
       same = ap (λ (l : List Ranked). base b ++ l) (sym (take_map read k (entries_in here)))
 
       by : IsPrevented sight b r.pair.from x (take k (entries_in here)) → IsKeptOff (was_starved base_of sight base read r here k x.message) x.seen (base b ++ take k (all_read base_of sight base read here))
-      by (seen_shut is) = shut (subst IsShutBehind same (reads.shut_is b (take k (entries_in here)) is))
+      by (seen_shut is) = shut (subst IsShutBehind same (reads_here.shut_is (take k (entries_in here)) is))
       by (seen_starved is) = starved is
-      by (seen_here up) = ranks_end_here (let last : sight.last b (take k (entries_in here)) ≡ last_rank (ranks_of (base b ++ take k (all_read base_of sight base read here))) = reads.last_is b (take k (entries_in here)) ∙ ap (λ (l : List Ranked). last_rank (ranks_of l)) same in omega (arith, up, last))
+      by (seen_here up) = ranks_end_here (let last : sight.last b (take k (entries_in here)) ≡ last_rank (ranks_of (base b ++ take k (all_read base_of sight base read here))) = reads_here.last_is (take k (entries_in here)) ∙ ap (λ (l : List Ranked). last_rank (ranks_of l)) same in omega (arith, up, last))
       by (seen_there up) = ranks_end_there up
 
   -- all of it
@@ -228,7 +228,7 @@ module _ {S B E : Type 0} (base_of : S → B) (sight : Sight B E) (base : B → 
       let fronts : List Ranked = list_map read (entries_in (front c.sender)) in
       let more : List Ranked = list_map read (entries_in begins_there.0) in
       let split : all_read base_of sight base read there ≡ fronts ++ more = ap (list_map read) (ap entries_in (sym begins_there.1) ∙ map-append entry_there (front c.sender) begins_there.0) ∙ map-append read (entries_in (front c.sender)) (entries_in begins_there.0) in
-      ap (λ (l : List Ranked). sent_in (base b ++ l)) split ∙ (ap sent_in (sym (append_assoc (base b) fronts more)) ∙ (flat_append (base b ++ fronts) more ∙ ap (λ (l : List (ℕ × Envelope)). l ++ sent_more) (sym (reads.sent_is b (entries_in (front c.sender))))))
+      ap (λ (l : List Ranked). sent_in (base b ++ l)) split ∙ (ap sent_in (sym (append_assoc (base b) fronts more)) ∙ (flat_append (base b ++ fronts) more ∙ ap (λ (l : List (ℕ × Envelope)). l ++ sent_more) (sym (reads_there.sent_is (entries_in (front c.sender))))))
 
 -- the turns of a pass stand at their places
 turns_stand : {E : Type 0} (n k : ℕ) (h whole : List (ℕ × E)) → ((i : ℕ) (x : ℕ × E) → slice_get h i ≡ Some x → slice_get whole (n + i) ≡ Some x) → AllByRecursion (λ (u : ℕ × E). slice_get (entries_in whole) u.0 ≡ Some u.1) (turns_from n k h)
@@ -245,7 +245,7 @@ turns_stand {E = E} n k (x ∷ h) whole there = go (x.0 == k) (turns_stand (suc 
 
 module _ {S B E : Type 0} (base_of : S → B) (sight : Sight B E) where
   pub carriers : CarriersTakeTurns base_of sight
-  carriers base read reads r seed sender receiver c h no_turns no_front s t based_there based_here there here begins_there begins_here = record {
+  carriers base read r reads_there reads_here seed sender receiver c h no_turns no_front s t based_there based_here there here begins_there begins_here = record {
     done = d.done;
     are = subst (λ (us : List (ℕ × E)). AreTurnsOf t r.pair.to (all_read base_of sight base read here) d.done (list_map (read_turn base_of sight base read) us)) (sym turns_are) d.are;
     sent = d.sent;
@@ -266,15 +266,15 @@ module _ {S B E : Type 0} (base_of : S → B) (sight : Sight B E) where
       turns_are = h.brings.turns_are ∙ ap (λ (l : List (ℕ × E)). l ++ h.brings.more) no_turns
 
       more : List (ℕ × Envelope)
-      more = sent_more base_of sight base read reads r s t based_there based_here there here c begins_there begins_here
+      more = sent_more base_of sight base read r reads_there reads_here s t based_there based_here there here c begins_there begins_here
 
       whole : sent_in (base_there base_of sight base read r ++ all_read base_of sight base read there) ≡ sent_before base_of sight r.from.now c.sender ++ more
-      whole = sent_all base_of sight base read reads r s t based_there based_here there here c begins_there begins_here
+      whole = sent_all base_of sight base read r reads_there reads_here s t based_there based_here there here c begins_there begins_here
 
       stand : AllByRecursion (λ (u : ℕ × E). slice_get (entries_in here) u.0 ≡ Some u.1) (turns c.receiver)
       stand = turns_stand 0 (number c.receiver) (front c.receiver) here (λ i x is. ap (slice_get here) (let same : 0 + i ≡ i = omega arith in same) ∙ (ap (λ (l : List (ℕ × E)). slice_get l i) (sym begins_here.1) ∙ (get_left (front c.receiver) begins_here.0 i (get_below (front c.receiver) i x is) ∙ is)))
 
-      d : AreDone base_of sight base read reads r s t based_there based_here there here c begins_there begins_here (length (front receiver)) (planned seed h.taken) h.brings.more
-      d = done_by base_of sight base read reads r s t based_there based_here there here c begins_there begins_here (length (front receiver)) (planned seed h.taken) h.brings.more
+      d : AreDone base_of sight base read r reads_there reads_here s t based_there based_here there here c begins_there begins_here (length (front receiver)) (planned seed h.taken) h.brings.more
+      d = done_by base_of sight base read r reads_there reads_here s t based_there based_here there here c begins_there begins_here (length (front receiver)) (planned seed h.taken) h.brings.more
           (all_planned (λ (x : Taken). WasSeenAmong base_of sight r.from.now r.pair.to r.pair.first c.next c.sender x) seed h.taken (all_among base_of sight r.from.now r.pair.to r.pair.first c.sender c.next r.pair.first h.taken (omega arith) h.are_taken.seen))
           (subst (AllByRecursion (λ (u : ℕ × E). slice_get (entries_in here) u.0 ≡ Some u.1)) turns_are stand) h.brings.brought

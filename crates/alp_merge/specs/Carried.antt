@@ -58,12 +58,12 @@ pub data IsShutBehind (xs : List Ranked) : Type 0 where
   failed : list_any (λ (x : Ranked). shows_failure x.entry) xs ≡ true → IsShutBehind xs
   full : entries_limit ≤ length xs → IsShutBehind xs
 
--- What carriers see of a server is what its entries say, those of its base first.
-pub record IsReadAs {B E : Type 0} (sight : Sight B E) (base : B → List Ranked) (read : E → Ranked) : Type 0 where
-  pub sent_is : (b : B) (es : List E) → sight.sent b es ≡ sent_in (base b ++ list_map read es)
-  pub last_is : (b : B) (es : List E) → sight.last b es ≡ last_rank (ranks_of (base b ++ list_map read es))
+-- What carriers see of a server with this base is what its entries say, those of the base first.
+pub record IsReadAs {B E : Type 0} (sight : Sight B E) (base : B → List Ranked) (read : E → Ranked) (b : B) : Type 0 where
+  pub sent_is : (es : List E) → sight.sent b es ≡ sent_in (base b ++ list_map read es)
+  pub last_is : (es : List E) → sight.last b es ≡ last_rank (ranks_of (base b ++ list_map read es))
   pub arrived_is : (e : E) → sight.arrived e ≡ arrival_by (read e).rank (read e).entry.event
-  pub shut_is : (b : B) (es : List E) → sight.is_shut b es → IsShutBehind (base b ++ list_map read es)
+  pub shut_is : (es : List E) → sight.is_shut b es → IsShutBehind (base b ++ list_map read es)
 
 -- the server stood as these entries say
 pub record IsBased (s : Seat) (base : List Ranked) : Type 0 where
@@ -132,6 +132,6 @@ module _ {S B E : Type 0} (base_of : S → B) (sight : Sight B E) (base : B → 
 module _ {S B E : Type 0} (base_of : S → B) (sight : Sight B E) where
   -- Each carrier that began with new passes did that.
   abbrev pub CarriersTakeTurns : Type 0
-  CarriersTakeTurns = (base : B → List Ranked) (read : E → Ranked) → IsReadAs sight base read → (r : Route S B E) (seed : ℕ) (sender receiver : Pass S B E) (c : Carried S B E) → HasCarried base_of sight r seed sender receiver c
+  CarriersTakeTurns = (base : B → List Ranked) (read : E → Ranked) (r : Route S B E) → IsReadAs sight base read (first_base base_of r.from.now) → IsReadAs sight base read (first_base base_of r.to.now) → (seed : ℕ) (sender receiver : Pass S B E) (c : Carried S B E) → HasCarried base_of sight r seed sender receiver c
       → turns receiver ≡ [] → front receiver ≡ [] → (s t : Seat) → IsBased s (base_there base_of sight base read r) → IsBased t (base_here base_of sight base read r)
       → (there here : List (ℕ × E)) → IsPrefix (front c.sender) there → IsPrefix (front c.receiver) here → IsCarrying base_of sight base read r seed s t there here c

@@ -49,34 +49,34 @@ all_read entry read same (x ∷ es) all = (ap stops (sym (same x)) ∙ all.0, al
 
 module _ {S B E : Type 0} (base_of : S → B) (entries_of : S → List E) (log : Log B E) (sight : Sight B E) where
   -- none of the servers is down
-  none_down : (zs : List S) (i : ℕ) (z : S) → IsDownFault base_of entries_of log sight None zs → slice_get zs i ≡ Some z → is_down base_of entries_of log sight z ≡ false
+  none_down : (zs : List S) (i : ℕ) (z : S) → IsDownFault base_of entries_of log sight zs None → slice_get zs i ≡ Some z → is_down base_of entries_of log sight z ≡ false
   none_down [] i z none at = absurd (none_some z None refl at)
   none_down (y ∷ zs) i z (inl down) at = absurd (none_some (fault.DiskFault (log.server (base_of y))) None refl down.1)
   none_down (y ∷ zs) zero z (inr up) at = subst (λ (x : S). is_down base_of entries_of log sight x ≡ false) (same_some y z at) up.0
   none_down (y ∷ zs) (suc i) z (inr up) at = none_down zs i z up.1 at
 
-module _ {S B E : Type 0} (base_of : S → B) (entries_of : S → List E) (log : Log B E) (sight : Sight B E) (base : B → List Ranked) (read : E → Ranked) (reads : IsRead log sight base read) (r : Course) (c : Crowd) (lines : ℕ → List (List Line)) (seed : ℕ) (ys : List S) (jobs : List JobState) (zs : List S) (jobs_now : List JobState) (midway : IsMidway r)
+module _ {S B E : Type 0} (base_of : S → B) (entries_of : S → List E) (log : Log B E) (sight : Sight B E) (base : B → List Ranked) (read : E → Ranked) (r : Course) (c : Crowd) (lines : ℕ → List (List Line)) (seed : ℕ) (ys : List S) (jobs : List JobState) (zs : List S) (jobs_now : List JobState) (midway : IsMidway r)
     (hosts : AreHosts base_of entries_of log sight base read r ys zs) (new_jobs : AreNewJobs c lines jobs) (st : IsStormOfThreads base_of entries_of log sight seed ys jobs zs jobs_now None) where
   abbrev Part : ℕ → Type 0
-  Part k = IsPart base_of entries_of log sight base read reads r c lines seed ys jobs zs jobs_now hosts new_jobs st k
+  Part k = IsPart base_of entries_of log sight base read r c lines seed ys jobs zs jobs_now hosts new_jobs st k
 
   the_part : (k : ℕ) → Part k
-  the_part k = part base_of entries_of log sight base read reads r c lines seed ys jobs zs jobs_now hosts new_jobs st k
+  the_part k = part base_of entries_of log sight base read r c lines seed ys jobs zs jobs_now hosts new_jobs st k
 
   abbrev past : ℕ → List (ℕ × E)
-  past n = hist base_of entries_of log sight base read reads r c lines seed ys jobs zs jobs_now hosts new_jobs st n
+  past n = hist base_of entries_of log sight base read r c lines seed ys jobs zs jobs_now hosts new_jobs st n
 
   abbrev read_past : ℕ → List (ℕ × Ranked)
-  read_past n = history base_of entries_of log sight base read reads r c lines seed ys jobs zs jobs_now hosts new_jobs st n
+  read_past n = history base_of entries_of log sight base read r c lines seed ys jobs zs jobs_now hosts new_jobs st n
 
   abbrev Place : ℕ → Type 0
-  Place n = IsPlace base_of entries_of log sight base read reads r c lines seed ys jobs zs jobs_now hosts new_jobs st n
+  Place n = IsPlace base_of entries_of log sight base read r c lines seed ys jobs zs jobs_now hosts new_jobs st n
 
   the_place : (n : ℕ) → IsSeat r n → Place n
-  the_place n s = place base_of entries_of log sight base read reads r c lines seed ys jobs zs jobs_now hosts new_jobs st n s
+  the_place n s = place base_of entries_of log sight base read r c lines seed ys jobs zs jobs_now hosts new_jobs st n s
 
   past_of : (n : ℕ) (p : Place n) → IsHistory base_of entries_of p.monitor (n - 1) st.ran.done p.final (past n)
-  past_of n p = its_history base_of entries_of log sight base read reads r c lines seed ys jobs zs jobs_now hosts new_jobs st n p
+  past_of n p = its_history base_of entries_of log sight base read r c lines seed ys jobs zs jobs_now hosts new_jobs st n p
 
   abbrev its_tasks : List Task
   its_tasks = list_map task_of st.begun
@@ -109,7 +109,7 @@ module _ {S B E : Type 0} (base_of : S → B) (entries_of : S → List E) (log :
     up = p.host.up;
     room = room;
     calm = subst (AllByRecursion (λ (x : Ranked). stops x.entry ≡ false)) (sym (entries_read read (past n)))
-        (all_read log.entry read reads.entry_is (entries_in (past n)) (all_calm log.entry (entries_in (past n)) (ap (list_any (λ (x : E). stops (log.entry x))) (past_of n p).told_is ∙ none_down base_of entries_of log sight zs (n - 1) p.final down p.final_is)));
+        (all_read log.entry read p.host.reads.entry_is (entries_in (past n)) (all_calm log.entry (entries_in (past n)) (ap (list_any (λ (x : E). stops (log.entry x))) (past_of n p).told_is ∙ none_down base_of entries_of log sight zs (n - 1) p.final down p.final_is)));
     few = few n p;
     each = λ j less. subst (λ (y : List Ranked × List (ℕ × Ranked)). AreTurnsOf (seat_at r n) n y.0 (done n j) y.1) (λ i. (sym (entries_read read (past n)) i, sym (turns_read read j (past n)) i)) ((the_part j).turns_are less n s);
   }
@@ -117,8 +117,8 @@ module _ {S B E : Type 0} (base_of : S → B) (entries_of : S → List E) (log :
       p : Place n
       p = the_place n s
 
-      down : IsDownFault base_of entries_of log sight None zs
-      down = subst (λ (g : Option StormFault). IsDownFault base_of entries_of log sight g zs) (or_second (first_fault (list_map task_of st.ran.done)) st.ran.later st.ran.fault_is) st.ran.later_is
+      down : IsDownFault base_of entries_of log sight zs None
+      down = subst (λ (g : Option StormFault). IsDownFault base_of entries_of log sight zs g) (or_second (first_fault (list_map task_of st.ran.done)) st.ran.later st.ran.fault_is) st.ran.later_is
 
       room : (seat_at r n).stand.place + length (read_past n) ≤ entries_limit
       room =
@@ -229,4 +229,4 @@ module _ {S B E : Type 0} (base_of : S → B) (entries_of : S → List E) (log :
 
 module _ {S B E : Type 0} (base_of : S → B) (entries_of : S → List E) (log : Log B E) (sight : Sight B E) where
   pub did_a_storm : ThreadsDidAStorm base_of entries_of log sight
-  did_a_storm base read reads r c lines seed ys jobs zs jobs_now midway hosts new_jobs st = joined base_of entries_of log sight base read reads r c lines seed ys jobs zs jobs_now midway hosts new_jobs st
+  did_a_storm base read r c lines seed ys jobs zs jobs_now midway hosts new_jobs st = joined base_of entries_of log sight base read r c lines seed ys jobs zs jobs_now midway hosts new_jobs st

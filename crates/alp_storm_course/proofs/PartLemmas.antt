@@ -23,7 +23,7 @@ use Rattle.alp_monitor.specs.declared.monitor.Pass.{Pass}
 use Rattle.alp_session.specs.Crowd.{Crowd}
 use Rattle.alp_session.specs.Crowds.{lent_crowd}
 use Rattle.alp_course.specs.Courses.{Course, Seat, seat_at, IsOneOf, IsSeat, IsSentBy, Occurrence, at as happens_at, comes}
-use Rattle.alp_merge.specs.Carried.{sent_in, IsBased, IsKeptOff, shut, starved, ranks_end_here, ranks_end_there, AreBroughtTo, nothing, one_came, one_missed, AreCarriedBy, base_there, base_here, was_starved, WasSentThere, IsCarrying}
+use Rattle.alp_merge.specs.Carried.{sent_in, IsReadAs, IsBased, IsKeptOff, shut, starved, ranks_end_here, ranks_end_there, AreBroughtTo, nothing, one_came, one_missed, AreCarriedBy, base_there, base_here, was_starved, WasSentThere, IsCarrying}
 use Rattle.alp_merge.specs.Closed.{WasSentTo}
 use Rattle.alp_merge.specs.Served.{Ranked, entries_of as entries_of_ranked, ranks_of, seat_behind, AreTurnsOf}
 use Rattle.alp_merge.specs.Storms.{place_of, happening_of, deeds_at, pair_seed, ranked_with, entries_at, IsBy}
@@ -138,7 +138,7 @@ module _ {S B E : Type 0} (base_of : S → B) (entries_of : S → List E) where
   is_history : (m : Monitor S B E) (i : ℕ) (ds : List (Errand S B E)) (y : S) (c : IsClosed base_of entries_of m i ds y) → IsHistory m i ds y c.history
   is_history m i ds y c = record { base_is = c.base_is; told_is = c.told_is; fronts = c.fronts; turns_are = c.turns_are; makers = c.makers }
 
-module _ {S B E : Type 0} (base_of : S → B) (entries_of : S → List E) (log : Log B E) (sight : Sight B E) (base : B → List Ranked) (read : E → Ranked) (reads : IsRead log sight base read) (r : Course) (c : Crowd) (lines : ℕ → List (List Line)) (seed : ℕ) (ys : List S) (jobs : List JobState) (zs : List S) (jobs_now : List JobState) (hosts : AreHosts base_of entries_of log sight base read r ys zs)
+module _ {S B E : Type 0} (base_of : S → B) (entries_of : S → List E) (log : Log B E) (sight : Sight B E) (base : B → List Ranked) (read : E → Ranked) (r : Course) (c : Crowd) (lines : ℕ → List (List Line)) (seed : ℕ) (ys : List S) (jobs : List JobState) (zs : List S) (jobs_now : List JobState) (hosts : AreHosts base_of entries_of log sight base read r ys zs)
     (new_jobs : AreNewJobs c lines jobs) (st : IsStormOfThreads base_of entries_of log sight seed ys jobs zs jobs_now None) where
   -- a history for each place, which is that of the server there
   pub record HistoryAt (i : ℕ) : Type 0 where
@@ -208,6 +208,10 @@ module _ {S B E : Type 0} (base_of : S → B) (entries_of : S → List E) (log :
   -- its seat stands as the base of its monitor says
   based_in : (n : ℕ) (p : IsPlace n) → IsBased (seat_at r n) (base (first_base base_of p.monitor))
   based_in n p = subst (λ (b : B). IsBased (seat_at r n) (base b)) (sym p.base_is) p.host.based
+
+  -- and what is seen of that base is what it says
+  reads_in : (n : ℕ) (p : IsPlace n) → IsRead log sight base read (first_base base_of p.monitor)
+  reads_in n p = subst (λ (b : B). IsRead log sight base read b) (sym p.base_is) p.host.reads
 
   -- ---- the parts
 
@@ -305,7 +309,7 @@ module _ {S B E : Type 0} (base_of : S → B) (entries_of : S → List E) (log :
           let its_turns : turns_of k (hist n) ≡ t.more = (its_history n p).turns_are k e new done_is new_is ∙ (t.turns_are ∙ ap (λ (l : List (ℕ × E)). l ++ t.more) (fresh (n - 1) old old_is).0) in
           let b : B = first_base base_of p.monitor in
           subst (λ (ts : List (ℕ × E)). AreTurnsOf (seat_at r n) n (all_of n) (worker_did n) (list_map (read_of read) ts)) (sym its_turns)
-          (worker_turns log sight base read reads b (seat_at r n) n (based_in n p) (p.host.placed ∙ ap log.since (sym p.base_is)) (p.host.epoch_is ∙ ap log.epoch (sym p.base_is)) p.host.server_is (front new) (hist n)
+          (worker_turns log sight base read b (reads_in n p) (seat_at r n) n (based_in n p) (p.host.placed ∙ ap log.since (sym p.base_is)) (p.host.epoch_is ∙ ap log.epoch (sym p.base_is)) p.host.server_is (front new) (hist n)
           ((its_history n p).fronts k e new done_is new_is) j.number h.deeds t.more (subst (λ (m : ℕ). AreTurnsThere log b (front new) (deeds_there m h.deeds) t.more) number t.deeds_are))
 
       workers : IsPart k
@@ -406,7 +410,7 @@ module _ {S B E : Type 0} (base_of : S → B) (entries_of : S → List E) (log :
 
       brings : IsCarrying base_of sight base read g.did.route (pair_seed seed pair.from pair.to) (seat_at r pair.from) (seat_at r pair.to) (hist pair.from) (hist pair.to) g.carried
       brings =
-          carriers base_of sight base read reads.seen g.did.route (pair_seed seed pair.from pair.to) g.sender g.receiver g.carried g.did.did (fresh g.there g.receiver g.receiver_is).0 (fresh g.there g.receiver g.receiver_is).1 (seat_at r pair.from) (seat_at r pair.to)
+          carriers base_of sight base read g.did.route (subst (λ (m : Monitor S B E). IsReadAs sight base read (first_base base_of m)) from_monitor (reads_in pair.from from_place).seen) (subst (λ (m : Monitor S B E). IsReadAs sight base read (first_base base_of m)) to_monitor (reads_in pair.to to_place).seen) (pair_seed seed pair.from pair.to) g.sender g.receiver g.carried g.did.did (fresh g.there g.receiver g.receiver_is).0 (fresh g.there g.receiver g.receiver_is).1 (seat_at r pair.from) (seat_at r pair.to)
           (subst (λ (m : Monitor S B E). IsBased (seat_at r pair.from) (base (first_base base_of m))) from_monitor (based_in pair.from from_place)) (subst (λ (m : Monitor S B E). IsBased (seat_at r pair.to) (base (first_base base_of m))) to_monitor (based_in pair.to to_place))
           (hist pair.from) (hist pair.to) from_front to_front
 
@@ -478,7 +482,8 @@ module _ {S B E : Type 0} (base_of : S → B) (entries_of : S → List E) (log :
       first_is =
           let (y, there, same) = get_mapped (end_of base_of sight) ys (pair.from - 1) pair.first (ap (slice_get (list_map (end_of base_of sight) ys)) (let less : pair.from - (0 + 1) ≡ pair.from - 1 = omega arith in sym less) ∙ known.4) in
           let its : from_place.begun ≡ y = begun_same y there in
-          let sent : length (sight.sent (base_of y) []) ≡ length (sent_in (base (base_of y))) = ap (λ (l : List (ℕ × Envelope)). length l) (reads.seen.sent_is (base_of y) [] ∙ ap sent_in (append-nil (base (base_of y)))) in
+          let reads_y : IsRead log sight base read (base_of y) = subst (λ (x : S). IsRead log sight base read (base_of x)) its from_place.host.reads in
+          let sent : length (sight.sent (base_of y) []) ≡ length (sent_in (base (base_of y))) = ap (λ (l : List (ℕ × Envelope)). length l) (reads_y.seen.sent_is [] ∙ ap sent_in (append-nil (base (base_of y)))) in
           let few : length (sent_in (base (base_of y))) ≤ 4294967295 = subst (λ (x : S). length (sent_in (base (base_of x))) ≤ 4294967295) its from_place.host.few in
           let stands : base (base_of y) ≡ entries_at r pair.from = ap (λ (x : S). base (base_of x)) (sym its) ∙ (ap base (sym from_place.base_is) ∙ stood pair.from from_place from_place.monitor refl from_seat) in
           let long : length (sent_in (base (base_of y))) ≡ length (sent_in (entries_at r pair.from)) = ap (λ (l : List Ranked). length (sent_in l)) stands in

@@ -54,7 +54,7 @@ take_map f zero xs = refl
 take_map f (suc n) [] = refl
 take_map {Y = Y} f (suc n) (x ∷ xs) = ap (λ (l : List Y). f x ∷ l) (take_map f n xs)
 
-module _ {B E : Type 0} (log : Log B E) (sight : Sight B E) (base : B → List Ranked) (read : E → Ranked) (reads : IsRead log sight base read) (b : B) (s : Seat) (n : ℕ)
+module _ {B E : Type 0} (log : Log B E) (sight : Sight B E) (base : B → List Ranked) (read : E → Ranked) (b : B) (reads : IsRead log sight base read b) (s : Seat) (n : ℕ)
     (based : IsBased s (base b)) (placed : s.stand.place ≡ log.since b) (epoch_is : s.stand.epoch ≡ log.epoch b) (server_is : s.stand.server ≡ n) (front here : List (ℕ × E)) (begins : IsPrefix front here) where
   abbrev all_here : List Ranked
   all_here = list_map read (entries_in here)
@@ -73,7 +73,7 @@ module _ {B E : Type 0} (log : Log B E) (sight : Sight B E) (base : B → List R
       let before : list_map read (take t.0 (entries_in front)) ≡ take t.0 all_here = ap (list_map read) (front_is t.0 low) ∙ sym (take_map read t.0 (entries_in here)) in
       let ranks : ranks_of (base b ++ list_map read (take t.0 (entries_in front))) ≡ s.ranks ++ ranks_of (take t.0 all_here) =
       map-append rank_of (base b) (list_map read (take t.0 (entries_in front))) ∙ (ap (λ (l : List ℕ). l ++ ranks_of (list_map read (take t.0 (entries_in front)))) (sym based.ranks) ∙ ap (λ (l : List Ranked). s.ranks ++ ranks_of l) before) in
-      let last : log.last b (take t.0 (entries_in front)) ≡ last_rank (s.ranks ++ ranks_of (take t.0 all_here)) = reads.last_is b (take t.0 (entries_in front)) ∙ ap last_rank ranks in
+      let last : log.last b (take t.0 (entries_in front)) ≡ last_rank (s.ranks ++ ranks_of (take t.0 all_here)) = reads.last_is (take t.0 (entries_in front)) ∙ ap last_rank ranks in
       let rank : (read t.1).rank ≡ log.last b (take t.0 (entries_in front)) + 1 = sym (reads.rank_is t.1) ∙ was.made.rank_is in
       omega (arith, last, rank)
 

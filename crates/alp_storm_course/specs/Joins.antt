@@ -28,16 +28,17 @@ abbrev pub is_job_of : List JobState → ℕ → Bool
 is_job_of jobs k = list_any (λ (j : JobState). j.number == k) jobs
 
 module _ {B E : Type 0} (log : Log B E) (sight : Sight B E) (base : B → List Ranked) (read : E → Ranked) where
-  -- what carriers and workers see of a server is what its entries say, each with its rank
-  pub record IsRead : Type 0 where
-    pub seen : IsReadAs sight base read
+  -- what carriers and workers see of a server with this base is what its entries say, each with its rank
+  pub record IsRead (b : B) : Type 0 where
+    pub seen : IsReadAs sight base read b
     pub entry_is : (e : E) → log.entry e ≡ (read e).entry
     pub rank_is : (e : E) → log.rank e ≡ (read e).rank
-    pub last_is : (b : B) (es : List E) → log.last b es ≡ last_rank (ranks_of (base b ++ list_map read es))
+    pub last_is : (es : List E) → log.last b es ≡ last_rank (ranks_of (base b ++ list_map read es))
 
 module _ {S B E : Type 0} (base_of : S → B) (entries_of : S → List E) (log : Log B E) (sight : Sight B E) (base : B → List Ranked) (read : E → Ranked) where
   -- the seat of this number is up, and stands as the server's base says
   pub record IsSeatOf (s : Seat) (n : ℕ) (y : S) : Type 0 where
+    pub reads : IsRead log sight base read (base_of y)
     pub based : IsBased s (base (base_of y))
     pub up : s.stand.is_down ≡ false
     pub placed : s.stand.place ≡ log.since (base_of y)
@@ -68,6 +69,6 @@ module _ {S B E : Type 0} (base_of : S → B) (entries_of : S → List E) (log :
 module _ {S B E : Type 0} (base_of : S → B) (entries_of : S → List E) (log : Log B E) (sight : Sight B E) where
   -- where no job met a fault, and no server is down
   abbrev pub ThreadsDidAStorm : Type 0
-  ThreadsDidAStorm = (base : B → List Ranked) (read : E → Ranked) → IsRead log sight base read → (r : Course) (c : Crowd) (lines : ℕ → List (List Line)) (seed : ℕ) (ys : List S) (jobs : List JobState) (zs : List S) (jobs_now : List JobState)
+  ThreadsDidAStorm = (base : B → List Ranked) (read : E → Ranked) (r : Course) (c : Crowd) (lines : ℕ → List (List Line)) (seed : ℕ) (ys : List S) (jobs : List JobState) (zs : List S) (jobs_now : List JobState)
       → IsMidway r → AreHosts base_of entries_of log sight base read r ys zs → AreNewJobs c lines jobs → IsStormOfThreads base_of entries_of log sight seed ys jobs zs jobs_now None
       → IsOfThreads base_of entries_of log sight base read seed c lines r jobs zs

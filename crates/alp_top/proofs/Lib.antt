@@ -21,6 +21,7 @@ pub mod CountedLemmas
 pub mod CountedLists
 pub mod CutLemmas
 pub mod PlayedOutLemmas
+pub mod FaultLemmas
 pub mod GivenLemmas
 pub mod GoneAtLemmas
 pub mod RestLemmas

@@ -11,15 +11,20 @@ use Rattle.alp_course.specs.Courses.{Seat, IsOneOf, IsSeat, seat_at, TellAll}
 use Rattle.alp_course.specs.Links.{server_log}
 use Rattle.alp_disk.specs.declared.disk.Disk.{Ghosts}
 use Rattle.alp_fields.specs.ClockNote.{clock_name, clock_form}
-use Rattle.alp_files.specs.Sound.{AreSound}
 use Rattle.alp_history.specs.Log as logs
 use Rattle.alp_history.specs.RunLogs as runs
+use Rattle.alp_history.specs.Numbers.{AreAnswered}
+use Rattle.alp_history.specs.Theorems.{IsProper}
+use Rattle.alp_history.proofs.CommittedActs.{commits}
+use Rattle.alp_history.proofs.OneThread.{serial-all, charged-all, numbering}
 use Rattle.alp_history.proofs.Promises.{promises}
 use Rattle.alp_history.proofs.Shared.{sharing}
-use Rattle.alp_journal.specs.Along.{state_after}
+use Rattle.alp_journal.specs.Along.{Along, state_after}
+use Rattle.alp_journal.specs.Answered.{IsAnsweredSo}
 use Rattle.alp_journal.specs.Moves.{next}
 use Rattle.alp_journal.specs.Opening.{Start}
 use Rattle.alp_journal.specs.State.{State, opened}
+use Rattle.alp_journal.specs.declared.entry.Entry.{Entry}
 use Rattle.alp_journal.specs.declared.log.Item.{Item}
 use Rattle.alp_node.specs.Durable.{AreNotesOf}
 use Rattle.alp_node.specs.NodeStates.{NodeState}
@@ -35,7 +40,7 @@ use Rattle.alp_vault.specs.declared.vault.Vault.{Ghosts as VaultGhosts}
 use Rattle.alp_cluster.specs.Gathered.{AreStationsOf}
 use Rattle.alp_cluster.specs.Goes.{opening_in}
 use Rattle.alp_cluster.specs.Runs.{StopNone, HasPlayedOut}
-use Rattle.alp_cluster.specs.Servers.{AreCalm, IsOn, state_of}
+use Rattle.alp_cluster.specs.Servers.{AreCalm, IsDone, IsOn, state_of}
 use Rattle.alp_cluster.specs.Station.{standing, seat_for, seat_of}
 use Rattle.alp_cluster.specs.Stations.{AreCalmSince, HaveGone, IsManned, course_of, openings_of}
 use Rattle.alp_cluster.specs.declared.station.Station.{Station}
@@ -54,6 +59,7 @@ use Rattle.alp_top.proofs.GoneAtLemmas.{IsDoneAt, done_at}
 use Rattle.alp_top.proofs.BeginLemmas.{new_by}
 use Rattle.alp_top.proofs.CalmAtLemmas.{calm_at}
 use Rattle.alp_top.proofs.CountedLemmas.{counted_for}
+use Rattle.alp_top.proofs.FaultLemmas.{faultless}
 use Rattle.alp_top.proofs.PairLemmas.{matched_at, same_there}
 use Rattle.alp_top.proofs.SeatedLemmas.{there_less, seat_on, many}
 use Rattle.alp_top.proofs.RestLemmas.{only_clock}
@@ -248,6 +254,17 @@ module _ {V D U : Type 0} (G : VaultGhosts V) (g : Ghosts D) (tells : Bool) (tol
   abbrev l : logs.Log
   l = log_of G log
 
+  proper_of : logs.AreSoundOpenings l → IsProper l
+  proper_of sound = proper_log G lines last vs text printed log rests rises out kept shows is all_told sound
+
+  -- each reply comes by its cause
+  answered_so : AreAnswered l
+  answered_so n = along-as (opened (logs.opening_of l n)) (logs.journal_of l n) (caused_log G lines last vs text printed log rests rises out kept shows is all_told n)
+    where
+      along-as : (s : State) (es : List Entry) → Along next IsDone s es → Along next IsAnsweredSo s es
+      along-as s [] h = tt
+      along-as s (e ∷ es) h = ((false, h.0.1), along-as (next s e) es h.1)
+
   laws_all : HasLaws G g lines before after log
   laws_all = record {
     caused = caused_log G lines last vs text printed log rests rises out kept shows is all_told;
@@ -258,8 +275,10 @@ module _ {V D U : Type 0} (G : VaultGhosts V) (g : Ghosts D) (tells : Bool) (tol
           thread = h.thread;
           whole = h.whole;
           order = h.order;
-          shared = sharing l (proper_log G lines last vs text printed log rests rises out kept shows is all_told sound);
-          kept = promises l (proper_log G lines last vs text printed log rests rises out kept shows is all_told sound) (told_clients G lines last vs text printed log rests rises out kept shows is all_told);
+          shared = sharing l (proper_of sound);
+          acts = commits l (proper_of sound);
+          numbers = numbering l (proper_of sound) answered_so;
+          kept = promises l (proper_of sound) (told_clients G lines last vs text printed log rests rises out kept shows is all_told);
           counted = counted_for G lines log (of_script G lines last vs text printed log rests rises out kept shows is) (linked_log G lines last vs text printed log rests rises out kept shows is all_told)
               (lawful_log G lines last vs text printed log rests rises out kept shows is all_told) sound;
         };
@@ -274,7 +293,12 @@ module _ {V D U : Type 0} (G : VaultGhosts V) (g : Ghosts D) (tells : Bool) (tol
   correct_run : Correct G g (Lines (shown_as shows) lines) (IsText printed) before after log
   correct_run = record {
     output = tallied G lines last vs text printed log rests rises out kept shows is all_told;
-    faithful = record { count = many_logs; played = (of_script G lines last vs text printed log rests rises out kept shows is, all_told) };
+    faithful = record {
+      count = many_logs;
+      played = (of_script G lines last vs text printed log rests rises out kept shows is, all_told);
+      unfailed = λ n. faultless (logs.opening_of l n) (logs.journal_of l n) (lawful_log G lines last vs text printed log rests rises out kept shows is all_told n)
+          (caused_log G lines last vs text printed log rests rises out kept shows is all_told n);
+    };
     lawful = (lawful_log G lines last vs text printed log rests rises out kept shows is all_told, linked_log G lines last vs text printed log rests rises out kept shows is all_told);
     stored = record {
       each = λ n here.
@@ -302,10 +326,12 @@ module _ {V D U : Type 0} (G : VaultGhosts V) (g : Ghosts D) (tells : Bool) (tol
           };
       others = returned_all.others;
     };
-    serial = λ begins. record { replies = (history_of begins).thread.replies; files = λ n here. (returned_all.each n here).left.ends begins ∙ sym ((history_of begins).thread.files n) };
-    whole = λ begins x js j among has. ((history_of begins).whole.listed.applies j.server j x.trans x ((rest_of begins).ends.applied x js j among has)).1;
+    serial = λ begins.
+        serial-all l (proper_of begins.sound) answered_so (λ n m. (here : IsOneOf (servers_said lines) n) → (returned_all.each n here).left.stored.held.cells ≡ m) (λ n here. (returned_all.each n here).left.ends begins);
+    whole = λ begins x js j among has.
+        ((history_of begins).whole.listed.applies j.server j x.trans x ((rest_of begins).ends.applied x js j (subst (λ (ds : List logs.Decision). logs.IsIn {A = logs.Decision} (x, js) ds) (commits l (proper_of begins.sound)) among) has)).1;
     kept = λ begins. (history_of begins).kept;
-    charged = λ begins. record { each = (history_of begins).thread.charged; last = λ n. subst AreSound (sym ((history_of begins).thread.files n)) ((history_of begins).thread.charged_last n) };
+    charged = λ begins. (λ n. (begins.sound n).files_begun, charged-all l (proper_of begins.sound) answered_so);
   }
 
   pub run_over : IsRunOf G g shows lines log printed before after

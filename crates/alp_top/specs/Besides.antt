@@ -2,7 +2,9 @@
 use Rattle.std.specs.Prelude.{◌≡◌, ◌-◌, Bool, ℕ, List, slice_get, Option, Some}
 use Rattle.alp_disk.specs.declared.disk.Disk.{Ghosts as DiskGhosts}
 use Rattle.alp_fields.specs.ClockNote.{AreClockNotes}
+use Rattle.alp_history.specs.Committed.{committed}
 use Rattle.alp_history.specs.Handed.{ArePromisesKept}
+use Rattle.alp_history.specs.Numbers.{AreByNumbers}
 use Rattle.alp_history.specs.Log as logs
 use Rattle.alp_history.specs.Theorems.{IsOneThread, AreWhole, AreListed, AreShared, DoAgreeOnEnds, GoesByLocks, GoesByTurns, GoesByBegins, IsSettled, EndsInCells}
 use Rattle.alp_journal.specs.Along.{Along}
@@ -77,6 +79,9 @@ pub record IsHistory {V : Type 0} (G : Ghosts V) (lines : List NumberedLine) (lo
   pub order : AreInOrder (log_of G log)
   -- each has one share at each of its servers, whose calls are just those that the server's entries performed for it
   pub shared : AreShared (log_of G log)
+  -- they are those that acts decide with effect, and the numbers of calls tell what was performed for each
+  pub acts : committed (log_of G log) ≡ logs.decided (log_of G log)
+  pub numbers : AreByNumbers (log_of G log)
   -- Each stamp that a client was told is of a decided transaction, but in replies that were kept for a number which a raw line sent first, and a
   -- decided transaction has a stamp above all that its client was told before it began.
   pub kept : ArePromisesKept (log_of G log)

@@ -1,6 +1,7 @@
 -- Alpine, in a page: what holds of a run that was played to its end. A log is, for each server, what it opened on and its journal with ranks, and for
 -- each client what it sent and was handed.
-use Rattle.std.specs.Prelude.{◌≡◌, ◌-◌, true, ℕ, List, [], length, map as list_map, slice_get, Option, Some}
+use Rattle.std.specs.Prelude.{◌≡◌, ◌-◌, true, false, ℕ, List, [], length, map as list_map, slice_get, Option, Some}
+use Rattle.std.specs.List.{list_any, AllByRecursion}
 use Rattle.std.specs.FinMap as map
 use Rattle.alp_base.specs.Crashes.{Only}
 use Rattle.alp_base.specs.declared.faults.Sizes.{Sizes}
@@ -8,11 +9,15 @@ use Rattle.alp_base.specs.declared.ids.JoinNo.{JoinNo}
 use Rattle.alp_base.specs.declared.ids.Stamp.{Stamp}
 use Rattle.alp_disk.specs.declared.disk.Disk.{Ghosts as DiskGhosts}
 use Rattle.alp_fields.specs.ClockNote.{clock_name, clock_form}
+use Rattle.alp_files.specs.Act.{no_opens}
 use Rattle.alp_files.specs.Cells.{Cells}
 use Rattle.alp_files.specs.Sound.{AreSound}
+use Rattle.alp_history.specs.Committed.{committed, Serial, Charged}
 use Rattle.alp_history.specs.Handed.{ArePromisesKept}
 use Rattle.alp_history.specs.Log as logs
 use Rattle.alp_history.specs.Theorems.{AppliedThere}
+use Rattle.alp_journal.specs.declared.entry.Entry.{Entry}
+use Rattle.alp_journal.specs.Answered.{is_read_fault, is_fault_act}
 use Rattle.alp_journal.specs.Ids.{has_join}
 use Rattle.alp_script.specs.Accepted.{servers_said}
 use Rattle.alp_script.specs.Volumes.{sizes_said}
@@ -76,10 +81,15 @@ report_of G (Lines shown lines) log = tallied_for shown G lines log
 
 -- ---- the eight points
 
--- the calls and the replies are those of the play, and nothing else occurred
+-- no device failed in it: the reply is no 19, no write failed, and no vote says that a read did
+abbrev pub IsFaultless : Entry → Type 0
+IsFaultless e = (is_read_fault e.reply ≡ false) × (list_any is_fault_act e.acts ≡ false)
+
+-- the calls and the replies are those of the play, nothing else occurred, and no device failed
 pub record IsFaithful {V : Type 0} (G : Ghosts V) (play : Play) (log : Log V) : Type 0 where
   pub count : length log.servers.items ≡ servers_said (lines_of play)
   pub played : IsLogOf G play log
+  pub unfailed : (n : ℕ) → AllByRecursion IsFaultless (logs.journal_of (log_of G log) n)
 
 -- Each journal keeps to the laws, by itself, and they are linked: each message that arrives was sent before.
 abbrev pub IsLawfulLog : logs.Log → Type 0
@@ -105,19 +115,17 @@ pub record IsStoredBy {V D : Type 0} (G : Ghosts V) (g : DiskGhosts D) (lines : 
   pub cells : held.cells ≡ (end_of G (servers_said lines) server).holder.cells
   pub durable : Only (g.seen given) (g.may_leave given)
 
--- The transactions that committed, in the order of their stamps, are one thread's history: it gives every reply as given, and ends so.
-pub record IsSerial (log : logs.Log) (Ends : ℕ → Cells → Type 0) : Type 0 where
-  pub replies : logs.IsSerial log (logs.starting_all log) (logs.decided log)
-  pub files : (n : ℕ) → Ends n (logs.serial_end log (logs.starting_all log) (logs.decided log) n).files
+-- one thread does the transactions that committed, one after the other: each call is answered as recorded, and the files end so
+abbrev pub IsSerial : logs.Log → (ℕ → Cells → Type 0) → Type 0
+IsSerial log Ends = Serial log (λ n. record { files = logs.start_of log n; made = []; own = no_opens }) (committed log) Ends
 
 -- each part of one was applied, at its stamp
 abbrev pub AreEverywhere : logs.Log → Type 0
-AreEverywhere log = (x : Stamp) (js : List JoinNo) (j : JoinNo) → logs.IsIn (x, js) (logs.decided log) → has_join j js ≡ true → AppliedThere log j.server j x
+AreEverywhere log = (x : Stamp) (js : List JoinNo) (j : JoinNo) → logs.IsIn (x, js) (committed log) → has_join j js ≡ true → AppliedThere log j.server j x
 
--- the files are well formed and each owner is charged the sizes of its files, after each of them and at the end
-pub record IsCharged (log : logs.Log) : Type 0 where
-  pub each : logs.IsChargedAfterEach log (logs.starting_all log) (logs.decided log)
-  pub last : (n : ℕ) → AreSound (logs.serial_end log (logs.starting_all log) (logs.decided log) n).files
+-- each owner is charged the sizes of its files, from the start on and after each of them
+abbrev pub AreCharged : logs.Log → Type 0
+AreCharged log = ((n : ℕ) → AreSound (logs.start_of log n)) × Charged log (logs.starting_all log) (committed log)
 
 -- ---- correct
 
@@ -138,7 +146,7 @@ pub record Correct {V D : Type 0} (G : Ghosts V) (g : DiskGhosts D) (play : Play
   -- what a client is told of a commit is so, and its next transaction comes behind that
   pub kept : BeginsSound (log_of G log) → ArePromisesKept (log_of G log)
   -- each owner pays for its pages
-  pub charged : BeginsSound (log_of G log) → IsCharged (log_of G log)
+  pub charged : BeginsSound (log_of G log) → AreCharged (log_of G log)
 
 -- ---- a command
 

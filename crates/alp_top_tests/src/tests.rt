@@ -1,4 +1,5 @@
 //! Runs of scripts, and what they tell.
+mod believed;
 mod crashes;
 mod drills;
 mod faults;
