@@ -28,8 +28,8 @@ module _ {S B E : Type 0} (base_of : S → B) (sight : Sight B E) where
       let low : i ≤ length ends = (let w = get_within ys i y at in let l = length-map ys (end_of base_of sight) in omega (arith, w, l)) in
       let long : length (take i ends) ≡ i = length-take-le i ends low in
       let next : carriers_from n 0 (take (i + 1) ends) ≡ carriers_from n 0 (take i ends) ++ carriers_to (i + 1) first n =
-          ap (λ l. carriers_from n 0 l) (take_one ends i (end_of base_of sight y) (mapped_end ys i y at))
-          ∙ (from_more n 0 (end_of base_of sight y) (take i ends)
-          ∙ ((let m : 0 + length (take i ends) + 1 ≡ i + 1 = omega (arith, long) in ap (λ k. carriers_from n 0 (take i ends) ++ carriers_to k (end_of base_of sight y) n) m)
-          ∙ ap (λ e. carriers_from n 0 (take i ends) ++ carriers_to (i + 1) e n) (sym end))) in
+      ap (λ l. carriers_from n 0 l) (take_one ends i (end_of base_of sight y) (mapped_end ys i y at))
+      ∙ (from_more n 0 (end_of base_of sight y) (take i ends)
+      ∙ ((let m : 0 + length (take i ends) + 1 ≡ i + 1 = omega (arith, long) in ap (λ k. carriers_from n 0 (take i ends) ++ carriers_to k (end_of base_of sight y) n) m)
+      ∙ ap (λ e. carriers_from n 0 (take i ends) ++ carriers_to (i + 1) e n) (sym end))) in
       added ∙ (ap (λ l. l ++ carriers_to (i + 1) first n) was ∙ (append_assoc ts (carriers_from n 0 (take i ends)) (carriers_to (i + 1) first n) ∙ ap (λ l. ts ++ l) (sym next)))

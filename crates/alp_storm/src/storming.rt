@@ -314,7 +314,9 @@ fn run_over<S: Host + Send + Drop, R: Threads + Wait + Sync, G: Gate + Sync>(
         &mut lists.errands,
     ) {
         let Lists {
-            errands, mut jobs, ..
+            errands,
+            mut jobs,
+            ..
         } = lists;
         let _ = take_jobs(errands, &mut jobs);
         return Stormed {

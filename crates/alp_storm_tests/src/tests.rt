@@ -28,6 +28,7 @@ const MAKES: [&[u8]; 4] = [
 
 // Clients 2 and 3 look for a file that there is not.
 const LOOKS: [&[u8]; 3] = [b"2 begin 2", b"2 open f31 change iw wait", b"2 commit"];
+
 const SEEKS: [&[u8]; 3] = [b"3 begin 1", b"3 open f31 change iw wait", b"3 commit"];
 
 fn new_berth(alloc: Global, server: u8) -> Result<Berth<MemVault>, Fail> {

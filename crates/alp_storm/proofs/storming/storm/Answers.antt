@@ -12,7 +12,7 @@ returns-clause-storm g c =
     let room : IsRoomFor (length c.args.jobs.items) (length c.args.states.items) c.in-Ok.lists = search rules in
     let carriers = carriers_from (length c.args.states.items) 0 (map (end_of g.S.Story.base g.S.Station.sight) c.args.states.items) in
     let works : map task_of c.put_workers.new.errands.items ≡ map work c.args.jobs.items =
-        c.put_workers.ensures.tasks ∙ ap (λ (l : List (Errand g.row.S.Denot g.row.S-Base.Denot g.row.S-Entry.Denot)). map task_of l ++ map work c.args.jobs.items) room.errands.0 in
+    c.put_workers.ensures.tasks ∙ ap (λ (l : List (Errand g.row.S.Denot g.row.S-Base.Denot g.row.S-Entry.Denot)). map task_of l ++ map work c.args.jobs.items) room.errands.0 in
     let added : map task_of c.put_carriers.new.errands.items ≡ map task_of c.put_workers.new.errands.items ++ carriers_from (length c.args.states.items) 0 (map (end_of g.S.Story.base g.S.Station.sight) c.args.states.items) = search rules in
     let tasks : map task_of c.put_carriers.new.errands.items ≡ tasks_for g.S.Story.base g.S.Station.sight c.args.states.items c.args.jobs.items = added ∙ ap (λ l. l ++ carriers) works in
     let none : length c.in-Ok.lists.errands.items ≡ 0 = ap (λ l. length l) room.errands.0 in
