@@ -10,5 +10,9 @@ mod Histories
 mod Closes
 mod Spreading
 mod TaskLemmas
+mod OpenLemmas
+mod JobLemmas
 mod BackLemmas
 mod ErrandLemmas
+mod CarrierLemmas
+mod RunLemmas

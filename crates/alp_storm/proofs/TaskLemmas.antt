@@ -16,7 +16,7 @@ use Rattle.alp_carrier.specs.Sights.{Sight}
 use Rattle.alp_carrier.specs.Takes.{sent_before}
 use Rattle.alp_carrier.specs.declared.route.Pair.{Pair}
 use Rattle.alp_storm.specs.Errands.{IsPairOf, IsFirst, FitsTask, IsDue, AreDue}
-use Rattle.alp_storm.specs.Storms.{AreFirst, AreOf, HaveTasks, IsOpen, AreOpen, AreReady, work, carriers_to, carriers_from, job_in, jobs_in, end_of, tasks_for, task_of}
+use Rattle.alp_storm.specs.Storms.{AreFirst, AreOf, HaveTasks, IsOpen, AreOpen, AreReady, work, carrier_to, carriers_to, carriers_from, job_in, jobs_in, end_of, tasks_for, task_of}
 use Rattle.alp_storm.specs.declared.errand.Errand.{Errand}
 use Rattle.alp_storm.specs.declared.errand.Task.{Task}
 use Rattle.alp_storm.specs.declared.errand.Task.TheVariants.{Work, Carry}

@@ -4,3 +4,4 @@ pub mod Rings
 pub mod Works
 pub mod Errands
 pub mod Storms
+pub mod Lists

@@ -122,10 +122,14 @@ module _ {S B E : Type 0} (base_of : S → B) (entries_of : S → List E) where
 abbrev pub work : JobState → Task
 work j = Work j None
 
+-- from one server to another, from that place on
+abbrev pub carrier_to : (from first to : ℕ) → List Task
+carrier_to from first to = if to == from then [] else Carry (record { from = from; to = to; first = first }) 0 0 ∷ []
+
 -- from one server to each of so many others, in order, from the same place on
 abbrev pub carriers_to : (from first : ℕ) → ℕ → List Task
 carriers_to from first zero = []
-carriers_to from first (suc to) = carriers_to from first to ++ (if suc to == from then [] else Carry (record { from = from; to = suc to; first = first }) 0 0 ∷ [])
+carriers_to from first (suc to) = carriers_to from first to ++ carrier_to from first (suc to)
 
 -- from each of these servers, with its first place, to each of so many
 abbrev pub carriers_from : (servers : ℕ) → ℕ → List ℕ → List Task
@@ -172,10 +176,10 @@ module _ {S B E : Type 0} (base_of : S → B) (entries_of : S → List E) (log :
   is_down y = list_any (λ x. stops (log.entry x)) (entries_of y)
 
   -- it names the first of these servers that is down, or none is
-  abbrev pub IsDownFault : Option StormFault → List S → Type 0
-  IsDownFault None [] = Unit {0}
-  IsDownFault (Some f) [] = ⊥
-  IsDownFault g (y ∷ ys) = ((is_down y ≡ true) × (g ≡ Some (fault.DiskFault (log.server (base_of y))))) ⊎ ((is_down y ≡ false) × IsDownFault g ys)
+  abbrev pub IsDownFault : List S → Option StormFault → Type 0
+  IsDownFault [] None = Unit {0}
+  IsDownFault [] (Some f) = ⊥
+  IsDownFault (y ∷ ys) g = ((is_down y ≡ true) × (g ≡ Some (fault.DiskFault (log.server (base_of y))))) ⊎ ((is_down y ≡ false) × IsDownFault ys g)
 
   -- The errands were done at these monitors, and the servers are what the monitors gave as they were closed. The fault is the first of the
   -- jobs, by number, or that of the first server that is down.
@@ -187,7 +191,7 @@ module _ {S B E : Type 0} (base_of : S → B) (entries_of : S → List E) (log :
     pub jobs_are : jobs ≡ jobs_in (map task_of done)
     pub later : Option StormFault
     pub fault_is : f ≡ or_else (first_fault (map task_of done)) later
-    pub later_is : IsDownFault later zs
+    pub later_is : IsDownFault zs later
 
   -- A storm over these servers, of these jobs. There is a monitor of each server, and an errand for each job and each ordered pair, with a new
   -- pass at each monitor. Each errand was done. The servers are what the monitors gave as they were closed.

@@ -49,7 +49,7 @@ all_read entry read same (x ∷ es) all = (ap stops (sym (same x)) ∙ all.0, al
 
 module _ {S B E : Type 0} (base_of : S → B) (entries_of : S → List E) (log : Log B E) (sight : Sight B E) where
   -- none of the servers is down
-  none_down : (zs : List S) (i : ℕ) (z : S) → IsDownFault base_of entries_of log sight None zs → slice_get zs i ≡ Some z → is_down base_of entries_of log sight z ≡ false
+  none_down : (zs : List S) (i : ℕ) (z : S) → IsDownFault base_of entries_of log sight zs None → slice_get zs i ≡ Some z → is_down base_of entries_of log sight z ≡ false
   none_down [] i z none at = absurd (none_some z None refl at)
   none_down (y ∷ zs) i z (inl down) at = absurd (none_some (fault.DiskFault (log.server (base_of y))) None refl down.1)
   none_down (y ∷ zs) zero z (inr up) at = subst (λ (x : S). is_down base_of entries_of log sight x ≡ false) (same_some y z at) up.0
@@ -117,8 +117,8 @@ module _ {S B E : Type 0} (base_of : S → B) (entries_of : S → List E) (log :
       p : Place n
       p = the_place n s
 
-      down : IsDownFault base_of entries_of log sight None zs
-      down = subst (λ (g : Option StormFault). IsDownFault base_of entries_of log sight g zs) (or_second (first_fault (list_map task_of st.ran.done)) st.ran.later st.ran.fault_is) st.ran.later_is
+      down : IsDownFault base_of entries_of log sight zs None
+      down = subst (λ (g : Option StormFault). IsDownFault base_of entries_of log sight zs g) (or_second (first_fault (list_map task_of st.ran.done)) st.ran.later st.ran.fault_is) st.ran.later_is
 
       room : (seat_at r n).stand.place + length (read_past n) ≤ entries_limit
       room =
