@@ -1,6 +1,7 @@
 //! Runs of scripts, and what they tell.
 mod believed;
 mod crashes;
+mod damage;
 mod drills;
 mod faults;
 mod plays;
