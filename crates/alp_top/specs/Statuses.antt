@@ -79,12 +79,6 @@ module _ {D : Type 0} {g : Ghosts D} where
   OnReport (status.WriteFault log) written_before written P = P (λ text. (count : ℕ) × Appends written_before written (take count text)) log.value
   OnReport _ written_before written P = Unit {0}
 
-  -- of the log alone
-  abbrev pub OnLog : Status D g → (Log (Kept D g) → Type 0) → Type 0
-  OnLog (status.Done log) P = P log.value
-  OnLog (status.WriteFault log) P = P log.value
-  OnLog _ P = Unit {0}
-
   -- bad words are told just where they are bad, unless memory is wanting
   abbrev pub AreWordsTold : Bool → Status D g → Type 0
   AreWordsTold true status.BadWords = Unit {0}
