@@ -3,6 +3,7 @@ ghost use Rattle.std.specs.Prelude.{◌≡◌, IfOk, IfErr, string_bytes};
 ghost use Rattle.std.specs.Fs.{file_type, IsDir};
 ghost use Rattle.alp_bay.specs.Refusals.{IsNoFolder};
 
+use crate::mem_bay::copied;
 use crate::refusal::{HostFault, Refusal};
 use std::alloc::Global;
 use std::fs::{self, File, Files, Metadata};
@@ -50,9 +51,8 @@ impl Folder {
         if name.is_empty() {
             return Err(HostFault::Refused(Refusal::NoName));
         }
-        let mut copy = String::new(alloc);
-        copy.push_str(name)?;
-        let at = look(files, copy)?;
+        let name = copied(alloc, name)?;
+        let at = look(files, name)?;
         if !at.found.is_dir() {
             return Err(HostFault::Refused(Refusal::NoFolder(at.found)));
         }
