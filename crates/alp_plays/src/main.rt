@@ -41,10 +41,8 @@ fn tell(rt: HostRuntime, name: &str) -> io::Result<()> {
     };
     let code = status.code();
     if code != 0 {
-        let Ok(said) = status_text(rt.alloc(), &status) else {
-            return Err(io::Error::from(io::ErrorKind::OutOfMemory));
-        };
-        println!(rt; "status {code}: {said}")?;
+        let said = status_text(&status);
+        println!(rt; "status {code}: {}", said.as_str())?;
     }
     Ok(())
 }

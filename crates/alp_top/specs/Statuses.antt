@@ -24,9 +24,9 @@ use Rattle.alp_top.specs.declared.status.Status.TheVariants as status
 abbrev pub Kept : (D : Type 0) → Ghosts D → Type 0
 Kept D g = StoreOf (Fuse D g)
 
--- The line was written whole; or nothing was, since memory was wanting; or a part of it, and then a fault came.
-abbrev pub SaysLine : Type 0 → (written_before written : Option (List ℕ)) → (faults_before faults : ℕ) → List ℕ → Type 0
-SaysLine Same written_before written faults_before faults line = Same ⊎ Appends written_before written line ⊎ (Rose faults_before faults × (count : ℕ) × Appends written_before written (take count line))
+-- The line was written whole, or a part of it, and then a fault came.
+abbrev pub SaysLine : (written_before written : Option (List ℕ)) → (faults_before faults : ℕ) → List ℕ → Type 0
+SaysLine written_before written faults_before faults line = Appends written_before written line ⊎ (Rose faults_before faults × (count : ℕ) × Appends written_before written (take count line))
 
 module _ {D : Type 0} {g : Ghosts D} where
   abbrev pub code_of : Status D g → ℕ
