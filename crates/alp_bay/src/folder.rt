@@ -40,11 +40,7 @@ pub(crate) struct SyncedFolder {
 
 impl Folder {
     /// The folder of that name, where one is there. An empty name names none.
-    pub(crate) fn find<R: Files>(
-        alloc: Global,
-        files: &R,
-        name: &str,
-    ) -> Result<Folder, HostFault>
+    pub(crate) fn find<R: Files>(alloc: Global, files: &R, name: &str) -> Result<Folder, HostFault>
         ensures found { IfOk result (λ folder. string_bytes folder.at.name ≡ name.now) }
         ensures cause { IfErr result (IsNoFolder name.now) }
     {
