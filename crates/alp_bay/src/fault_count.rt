@@ -1,6 +1,6 @@
 //! A count of faults.
-ghost use Rattle.std.specs.Prelude.{◌≡◌, ◌<◌, ◌^◌, None, Some, option_map};
-ghost use Rattle.alp_base.specs.Streams.{counted};
+ghost use Rattle.std.specs.Prelude.{◌≡◌, ◌≤◌, ◌<◌, ◌^◌, None, Some, option_map};
+ghost use Rattle.alp_base.specs.Causes.{Rose};
 ghost use Rattle.alp_bay.specs.Refusals.{MatchFault};
 ghost use Rattle.alp_bay.specs.declared.bay.BayFault.TheVariants.{Failed, OutOfMemory as NoMemory};
 
@@ -29,7 +29,10 @@ impl FaultCount {
 
     /// Counts a refusal, and keeps why it came.
     pub(crate) fn told(&mut self, fault: HostFault) -> BayFault
-        ensures { MatchFault fault (λ refusal. (result ≡ Failed) × (self.new.count ≡ counted self.old.count) × (self.new.why ≡ Some refusal)) ((result ≡ NoMemory) × (self.new ≡ self.old)) }
+        ensures later { self.old.count ≤ self.new.count }
+        ensures rose { result ≡ Failed → Rose self.old.count self.new.count }
+        ensures still { result ≡ NoMemory → self.new ≡ self.old }
+        ensures why { result ≡ Failed → MatchFault fault (λ refusal. self.new.why ≡ Some refusal) ⊥ }
     {
         match fault {
             HostFault::Refused(refusal) => {

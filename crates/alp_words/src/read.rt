@@ -87,7 +87,7 @@ fn number_in(matches: &ArgMatches, option: &str, least: u64, most: u64) -> Optio
 }
 
 // The drill that stands in the matches of its command.
-#[tactic(auto, using(crate::proofs::Named::lacks_seed, crate::proofs::Named::lacks_size, crate::proofs::Named::drill_has))]
+#[tactic(auto, using(crate::proofs::Named::lacks_seed, crate::proofs::Named::lacks_size, crate::proofs::Named::drill_has_both))]
 fn drill_in(alloc: Global, matches: &ArgMatches) -> Result<Command, WordsFault>
     ensures made { IfOk result (IsDrillOf (rows_of (found_of matches.now))) }
     ensures bad { IfErr result (λ fault. fault ≡ WordsFault.Bad → lacks_in (rows_of (found_of matches.now)) ≡ true) }
