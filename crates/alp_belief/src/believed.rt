@@ -28,6 +28,7 @@ impl<D: Disk> Believed<D> {
     /// A disk, and a model of as many pages.
     pub(crate) fn new(disk: D, model: MemDisk) -> Believed<D>
         requires same { D.size disk ≡ page_count model }
+        ensures device { result.disk ≡ disk }
         ensures model { result.model ≡ model }
         ensures faults { result.faults ≡ 0 }
     {
