@@ -11,7 +11,7 @@ ghost use Rattle.alp_course.specs.Settles.{IsSettling};
 ghost use Rattle.alp_cluster.specs.Clients.{InStep};
 ghost use Rattle.alp_cluster.specs.Gathered.{AreGathered};
 ghost use Rattle.alp_cluster.specs.Fills.{OnEnd};
-ghost use Rattle.alp_cluster.specs.Runs.{StopNone, is_stop_line, HasPlayed, HasPlayedOut, HasEndedSo, IsSettledDown};
+ghost use Rattle.alp_cluster.specs.Runs.{StopNone, is_stop_line, HasPlayed, HasPlayedOut, HasEndedEarly, HasEndedSo, IsSettledDown};
 ghost use Rattle.alp_cluster.specs.Stations.{AreOn, AreCalmSince, AreCalmBut, Did, DidSome, HaveGone, openings_of};
 ghost use Rattle.alp_cluster.specs.Steps.{Adds, AddsSome, PlaysOn, BeginsOn};
 
@@ -167,7 +167,8 @@ impl<V: Vault> Cluster<V> {
         requires accepted { IsAccepted lines.now }
         requires new { HasPlayed V.Vault (servers_said lines.now) [] self.old.parties.clients self.old.parties.stations self.old.lists.items self.old.text.items }
         ensures gone { HaveGone V.Vault (StopNone lines.now) self.old.parties.stations self.new.parties.stations result }
-        ensures ended { OnEnd result (λ f. HasEndedSo V.Vault (servers_said lines.now) lines.now f self.new.parties.stations self.new.lists.items self.new.text.items) }
+        ensures ended { OnEnd result (λ f. HasEndedEarly V.Vault (servers_said lines.now) lines.now f self.new.parties.stations self.new.lists.items) }
+        ensures printed { OnEnd result (λ f. HasEndedSo V.Vault (servers_said lines.now) lines.now f self.new.parties.stations self.new.lists.items self.new.text.items) }
         ensures openings { OnOk result (openings_of self.new.parties.stations ≡ openings_of self.old.parties.stations) }
         ensures left { OnEnd result (λ _. openings_of self.new.parties.stations ≡ openings_of self.old.parties.stations) }
         ensures calm { OnOk result (AreCalmSince V.Vault self.old.parties.stations self.new.parties.stations) }
@@ -186,7 +187,8 @@ impl<V: Vault> Cluster<V> {
         requires accepted { IsAccepted lines.now }
         requires new { HasPlayed V.Vault (servers_said lines.now) [] self.old.parties.clients self.old.parties.stations self.old.lists.items self.old.text.items }
         ensures gone { HaveGone V.Vault (StopNone lines.now) self.old.parties.stations self.new.parties.stations result }
-        ensures ended { OnEnd result (λ f. HasEndedSo V.Vault (servers_said lines.now) lines.now f self.new.parties.stations self.new.lists.items self.new.text.items) }
+        ensures ended { OnEnd result (λ f. HasEndedEarly V.Vault (servers_said lines.now) lines.now f self.new.parties.stations self.new.lists.items) }
+        ensures printed { OnEnd result (λ f. HasEndedSo V.Vault (servers_said lines.now) lines.now f self.new.parties.stations self.new.lists.items self.new.text.items) }
         ensures openings { OnOk result (openings_of self.new.parties.stations ≡ openings_of self.old.parties.stations) }
         ensures left { OnEnd result (λ _. openings_of self.new.parties.stations ≡ openings_of self.old.parties.stations) }
         ensures calm { OnOk result (AreCalmSince V.Vault self.old.parties.stations self.new.parties.stations) }

@@ -15,7 +15,7 @@ use Rattle.alp_script.specs.declared.numbered.NumberedLine.{NumberedLine}
 use Rattle.alp_vault.specs.declared.vault.Vault.{Ghosts as VaultGhosts}
 use Rattle.alp_cluster.specs.Fills.{OnEndBy}
 use Rattle.alp_cluster.specs.Gathered.{AreStationsOf}
-use Rattle.alp_cluster.specs.Runs.{StopNone, HasPlayed, HasPlayedOut, HasEndedEarly, HasEndedSo}
+use Rattle.alp_cluster.specs.Runs.{StopNone, HasPlayed, HasPlayedOut, HasEndedEarly}
 use Rattle.alp_cluster.specs.Servers.{HasGoneBy}
 use Rattle.alp_cluster.specs.Station.{standing, HasVault}
 use Rattle.alp_cluster.specs.Stations.{AreCalmSince, AreCalmBut, IsOfRun, HaveGone, course_of, openings_of}
@@ -54,13 +54,6 @@ end_by (run_fault.DiskFault s) P h = h
 end_by run_fault.OutOfMemory P h = h
 end_by run_fault.JournalFull P h = h
 end_by (run_fault.Start s q) P h = h
-
--- a run that ended early, whatever its report has by then
-pub early_by : {V : Type 0} (G : VaultGhosts V) (servers : ℕ) (lines : List NumberedLine) (f : RunFault) (left : Stations V) (vs : List (Vec Item Global)) (text : List ℕ) → OnEndBy f (λ e. HasEndedSo G servers lines e left vs text) → OnEndBy f (λ e. HasEndedEarly G servers lines e left vs)
-early_by G servers lines (run_fault.DiskFault s) left vs text h = h.early
-early_by G servers lines run_fault.OutOfMemory left vs text h = h.early
-early_by G servers lines run_fault.JournalFull left vs text h = h.early
-early_by G servers lines (run_fault.Start s q) left vs text h = h.early
 
 -- what ends the closing of servers comes to no limit
 pub close_unended : (lines : List NumberedLine) (f : RunFault) → IsLookFault f → IsEndTold lines (played f)

@@ -15,7 +15,7 @@ use Rattle.alp_top.specs.declared.fault.NoReport.TheVariants as fault
 use Rattle.alp_top.proofs.EndedLemmas.{bay_unended, start_unended}
 use Rattle.alp_top.proofs.GivenLemmas.{bay_ended, start_ended}
 use Rattle.alp_top.proofs.RefusedLemmas.{err_of, told_of, untaken, bay_counted, bay_folder, folder_taken}
-use Rattle.alp_top.proofs.RunLemmas.{bay_uncounted, early_by, play_still, start_counted, begins_new, close_unended, fell_few, fell_held, fell_counted, fell_told, fell_ended, rest_few, rest_all, close_counted, close_ended, wanting_ended, went_well, went_through, some_held, some_few, cause_moved, left_moved, closed_moved, held_moved, rest_moved, rests_moved, report_moved}
+use Rattle.alp_top.proofs.RunLemmas.{bay_uncounted, play_still, start_counted, begins_new, close_unended, fell_few, fell_held, fell_counted, fell_told, fell_ended, rest_few, rest_all, close_counted, close_ended, wanting_ended, went_well, went_through, some_held, some_few, cause_moved, left_moved, closed_moved, held_moved, rest_moved, rests_moved, report_moved}
 use Rattle.alp_top.proofs.bay.run_bay.Goals as goal
 
 -- ---- the bay has no such folder
@@ -130,7 +130,7 @@ returns-in-Err-play_out-clause-cause g c asked =
     (subst (λ (b : ℕ → Option g.row.B-Device.Denot). HasRunCause g.B.Device.Disk c.args.lines.now b three (g.B.Bay.faults c.args.bay.now) (g.B.Bay.faults c.leave_all-in-Err-play_out.new.bay) (played c.in-Err-play_out.fault)) c.choose.ensures.places
     (fell_ended G g.B.Device.Disk t c.args.lines.now c.requires.accepted.least c.requires.accepted.most one two three old begun c.play_out.new.self.parties.stations c.in-Err-play_out.fault c.in-Err-play_out.ensures.gone
     (left_moved G g.B.Device.Disk (g.B.Bay.tells c.start_all.new.bay) t c.into_parts-stations-in-Err-play_out.result.0.items c.play_out.new.self.parties.stations.all.items two three c.start_all.ensures.tells (ap (λ v. v.items) c.into_parts-stations-in-Err-play_out.ensures.stations) c.leave_all-in-Err-play_out.ensures.left)
-    told (g.B.Bay.faults c.args.bay.now) (g.B.Bay.faults c.leave_all-in-Err-play_out.new.bay) c.play_out.new.self.lists.items (early_by G (servers_said c.args.lines.now) c.args.lines.now c.in-Err-play_out.fault c.play_out.new.self.parties.stations c.play_out.new.self.lists.items c.play_out.new.self.text.items c.in-Err-play_out.ensures.ended) c.in-Err-play_out.ensures.left c.in-Err-play_out.ensures.calm_left))
+    told (g.B.Bay.faults c.args.bay.now) (g.B.Bay.faults c.leave_all-in-Err-play_out.new.bay) c.play_out.new.self.lists.items c.in-Err-play_out.ensures.ended c.in-Err-play_out.ensures.left c.in-Err-play_out.ensures.calm_left))
 
 pub returns-in-Err-play_out-clause-counted : goal.returns-in-Err-play_out-clause-counted
 returns-in-Err-play_out-clause-counted g c =
@@ -157,7 +157,7 @@ returns-in-Err-play_out-clause-ended g c =
     subst (IsEndTold c.args.lines.now) (sym c.from.ensures)
     (fell_told G g.B.Device.Disk t c.args.lines.now c.requires.accepted.least c.requires.accepted.most one two three old begun c.play_out.new.self.parties.stations c.in-Err-play_out.fault c.in-Err-play_out.ensures.gone
     (left_moved G g.B.Device.Disk (g.B.Bay.tells c.start_all.new.bay) t c.into_parts-stations-in-Err-play_out.result.0.items c.play_out.new.self.parties.stations.all.items two three c.start_all.ensures.tells (ap (λ v. v.items) c.into_parts-stations-in-Err-play_out.ensures.stations) c.leave_all-in-Err-play_out.ensures.left)
-    c.play_out.new.self.lists.items (early_by G (servers_said c.args.lines.now) c.args.lines.now c.in-Err-play_out.fault c.play_out.new.self.parties.stations c.play_out.new.self.lists.items c.play_out.new.self.text.items c.in-Err-play_out.ensures.ended))
+    c.play_out.new.self.lists.items c.in-Err-play_out.ensures.ended)
 
 pub returns-in-Err-play_out-clause-chosen : goal.returns-in-Err-play_out-clause-chosen
 returns-in-Err-play_out-clause-chosen g c = folder_taken {U = Unit {0}} (Err c.from.result) _ _ _ (c.leave_all-in-Err-play_out.ensures.chosen ∙ c.start_all.ensures.chosen ∙ c.in_ok-choose.ensures.named)
