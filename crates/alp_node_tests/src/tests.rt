@@ -31,9 +31,8 @@ fn in_memory(alloc: Global, server: u8) -> Result<Node<MemVault>, OutOfMemory> {
 /// What threads may share and hand over.
 fn crosses<T: Send + Sync>() {}
 
-/// A server crosses threads as its vault does, up or fallen, and so does what it was started on.
+/// A server that fell crosses threads as its vault does, and so does what a server was started on.
 fn servers_cross<V: Vault + Send + Sync>() {
-    crosses::<Node<V>>();
     crosses::<Down<V>>();
     crosses::<Opened<V>>();
 }
