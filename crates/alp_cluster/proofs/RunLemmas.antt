@@ -129,6 +129,7 @@ module _ {V : Type 0} (G : Ghosts V) (servers : ℕ) (ls : List NumberedLine) (c
 
   pub line_ended_so : (lines : List NumberedLine) (l : NumberedLine) (later : List NumberedLine) (known : Crowd) (f : RunFault) (now : List (Vec Item Global)) (told : List ℕ) → lines ≡ ls ++ l ∷ later → length ls < 2 ^ 29 → AddsSome G f servers c known s t l lists now text told
       → HasEndedSo G servers lines f t now told
+  unfolding line_ended
   line_ended_so lines l later known f now told are low e = record {
     early = line_ended lines l later known f now told are low e;
     text = record {
@@ -161,6 +162,7 @@ module _ {V : Type 0} (G : Ghosts V) (servers : ℕ) (ls : List NumberedLine) (c
   }
 
   pub end_ended_so : (f : RunFault) → length ls < 2 ^ 29 → DidSome G (IsSettling servers) f s t → HasEndedSo G servers ls f t lists text
+  unfolding end_ended
   end_ended_so f low e = record { early = end_ended f low e; text = record { told = h.turns; untold = []; are = sym (append-nil h.turns); few = omega arith; text = h.text } }
 
   -- ---- all of it
