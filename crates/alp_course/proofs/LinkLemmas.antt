@@ -174,7 +174,7 @@ module _ (r after : Course) (n seen : ℕ) (Makes : Seat → List Entry → Stan
   earlier_seat : (m : ℕ) → IsSeat after m → IsSeat r m
   earlier_seat m s = record { first = s.first; last = (let all : length after.seats ≡ length r.seats = as_many r after n now a.here a.seats in let most : m ≤ length after.seats = s.last in omega (arith, all, most)) }
 
-  pub goes_on : Holds after
+  goes_on : Holds after
   goes_on = record {
     few = (let all : length after.seats ≡ length r.seats = as_many r after n now a.here a.seats in let most : length r.seats ≤ 8 = h.few in omega (arith, all, most));
     numbered = subst (AreNumbered 1) (sym a.seats) (still_numbered r n now h.numbered a.here refl);

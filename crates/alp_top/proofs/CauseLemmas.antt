@@ -14,7 +14,6 @@ use Rattle.alp_node.specs.declared.start.StartFault.TheVariants as start_fault
 use Rattle.alp_script.specs.Accepted.{servers_said}
 use Rattle.alp_script.specs.declared.numbered.NumberedLine.{NumberedLine}
 use Rattle.alp_vault.specs.declared.vault.Vault.{Ghosts as VaultGhosts}
-use Rattle.alp_cluster.specs.Fills.{IsStepAt}
 use Rattle.alp_cluster.specs.Runs.{StopNone, HasEndedEarly, HasPlayedOut}
 use Rattle.alp_cluster.specs.Servers.{AreCalm, AreCountedIn, IsFailure}
 use Rattle.alp_cluster.specs.Station.{standing, seat_for, seat_of}
@@ -95,7 +94,7 @@ module _ {V D : Type 0} (G : VaultGhosts V) (g : Ghosts D) (tells : Bool) (told 
         left_but f at c s (HasFailedOn g lines c early.due s) (among f at s (failed_at f at 1 first_one).0) (λ n here other. others_left G g tells told lines before after first left f vs early at opens calm n here other) (λ n here is.
             subst (λ (m : ℕ). HasFailedOn g lines c early.due m (at n here).at.taken (at n here).at.given) is
             (let p = place G g tells told lines before after first left f vs early at opens calm n here in
-            failed_left G g tells told lines before after first left f vs early at opens calm n here (rose_for G g tells lines before after first left T f some (gone_in f at) n here ((failed_at f at n here).1 (sym is))) (subst (λ (m : ℕ). IsStepAt m c early.due) (sym is) early.ends) p (p.own is))),
+            failed_left G g tells told lines before after first left f vs early at opens calm n here (rose_for G g tells lines before after first left T f some (gone_in f at) n here ((failed_at f at n here).1 (sym is))) p (p.own is))),
       ))
   fell_cause (run_fault.Start s (start_fault.Vault vault_fault.Failed)) early at calm =
       let f : RunFault = run_fault.Start s (start_fault.Vault vault_fault.Failed) in

@@ -32,8 +32,7 @@ use Rattle.alp_store.specs.Holding.{Holds}
 use Rattle.alp_vault.specs.Contents.{Contents}
 use Rattle.alp_vault.specs.Vault.{IsSameVault}
 use Rattle.alp_vault.specs.declared.vault.Vault.{Ghosts as VaultGhosts}
-use Rattle.alp_course.proofs.LinkLemmas.{course_on, first_holds}
-use Rattle.alp_cluster.specs.Fills.{IsEndFor, IsEventDue, IsFailing, IsFullFor, IsStepAt, server_due}
+use Rattle.alp_cluster.specs.Fills.{IsEndFor, IsEventDue, IsFailing, IsFullFor, server_due}
 use Rattle.alp_cluster.specs.Runs.{StopNone, HasEndedEarly}
 use Rattle.alp_cluster.specs.Servers.{AreCalm, StaysDown, AreCountedIn, HasFailedIn, ShowsFault}
 use Rattle.alp_cluster.specs.Station.{standing, HasVault, seat_for, seat_of}
@@ -48,7 +47,6 @@ use Rattle.alp_cluster.proofs.LeftLemmas.{end_opened}
 use Rattle.alp_cluster.proofs.StationsLemmas.{set_there, set_elsewhere}
 use Rattle.alp_top.specs.Disks.{IsServerRight, notes_in}
 use Rattle.alp_top.specs.Volumes.{IsUnstopped, IsBare, IsLeftWith, IsLeftBy, IsLeftFallen, IsOpenedNew, IsOpenedOn, IsStored, IsCutShort, HasFailedOn, HasFilled}
-use Rattle.alp_top.proofs.LinkedLemmas.{failed_linked}
 use Rattle.alp_top.proofs.BeginLemmas.{holds_by}
 use Rattle.alp_top.proofs.CutLemmas.{cut_short}
 use Rattle.alp_top.proofs.GivenLemmas.{up_vault}
@@ -444,9 +442,8 @@ module _ {V D T : Type 0} (G : VaultGhosts V) (g : Ghosts D) (tells : Bool) (tol
   -- ---- the one of the fault
 
   -- it failed in the step that was due
-  pub failed_left : (n : ℕ) (here : IsOneOf (servers_said lines) n) → Rose (g.faults (taken_at n here)) (g.faults (given_at n here)) → IsStepAt n r early.due → (p : Place n here) → Failed G r early.due p.manned.node (at n here).at.left.server
-      → HasFailedOn g lines r early.due n (taken_at n here) (given_at n here)
-  failed_left n here rose step p h =
+  pub failed_left : (n : ℕ) (here : IsOneOf (servers_said lines) n) → Rose (g.faults (taken_at n here)) (g.faults (given_at n here)) → (p : Place n here) → Failed G r early.due p.manned.node (at n here).at.left.server → HasFailedOn g lines r early.due n (taken_at n here) (given_at n here)
+  failed_left n here rose p h =
       let both = lawful_with G g tells told lines before after first last left (Err f) early.on early.count opens_last gone n here p.station p.there p.manned p.sits (was_tells n here p (h.entry ∷ []) h.stands) h.stands.node (h.entry ∷ []) (stands_known n here p (h.entry ∷ []) h.stands)
       h.stands.start h.stands.journal (stands_tells n here p (h.entry ∷ []) h.stands) in
       record {
@@ -456,7 +453,6 @@ module _ {V D T : Type 0} (G : VaultGhosts V) (g : Ghosts D) (tells : Bool) (tol
         shows = h.shows;
         lawful = both.0;
         caused = both.1;
-        linked = λ handed. failed_linked r (course_on short.run.first r short.run.happened (first_holds short.run.first short.run.begins) short.run.course) early.due h.entry n step h.its (seat_of_one n here) handed;
         with_it = stands_left n here p (h.entry ∷ []) h.stands;
         rose = rose;
       }

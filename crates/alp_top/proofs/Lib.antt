@@ -13,7 +13,6 @@ pub mod KeptOwn
 pub mod KeptLemmas
 pub mod LeaveLemmas
 pub mod LookLemmas
-pub mod LinkedLemmas
 pub mod EndedLemmas
 pub mod CutDisks
 pub mod CauseLemmas

@@ -1,5 +1,5 @@
 -- The disks of the run's servers: what each server opened on, and what its disk holds when it is given back.
-use Rattle.std.specs.Prelude.{[], ◌∷◌, ◌++◌, ◌≡◌, ◌⊎◌, ◌≤◌, ◌<◌, ℕ, ◌+◌, ◌-◌, ◌*◌, List, length, slice_set, Option, Some, Result, Ok, Err}
+use Rattle.std.specs.Prelude.{[], ◌∷◌, ◌++◌, ◌≡◌, ◌⊎◌, ◌≤◌, ◌<◌, ℕ, ◌+◌, ◌*◌, List, length, Option, Some, Result, Ok, Err}
 use Rattle.std.specs.FinMap as map
 use Rattle.alp_base.specs.Causes.{Rose}
 use Rattle.alp_base.specs.Crashes.{Only, NoMore}
@@ -34,14 +34,13 @@ use Rattle.alp_script.specs.Accepted.{servers_said}
 use Rattle.alp_script.specs.Volumes.{sizes_said}
 use Rattle.alp_script.specs.declared.numbered.NumberedLine.{NumberedLine}
 use Rattle.alp_history.specs.Handed.{ArePromisesKept}
-use Rattle.alp_history.specs.Items.{Handed}
 use Rattle.alp_history.specs.Log as logs
 use Rattle.alp_history.specs.RunLogs.{handed_of}
 use Rattle.alp_history.specs.Theorems.{IsOneThread, AreWhole}
-use Rattle.alp_cluster.specs.Fills.{IsEndFor, IsEventDue, seen_due}
+use Rattle.alp_cluster.specs.Fills.{IsEndFor, IsEventDue}
 use Rattle.alp_cluster.specs.Runs.{StopNone, StopsInLine, StopsBehindLines}
 use Rattle.alp_cluster.specs.Servers.{AreCalm, IsDone, ShowsFault}
-use Rattle.alp_course.specs.Courses.{Course, Occurrence, IsOneOf, IsSeat, seat_at, seat_after, TellAll, AreCourse}
+use Rattle.alp_course.specs.Courses.{Course, Occurrence, IsOneOf, IsSeat, seat_at, TellAll, AreCourse}
 use Rattle.alp_course.specs.Links.{IsFirst, log_of}
 use Rattle.alp_course.specs.Plays.{Due, ArePlayed, sent_of}
 use Rattle.alp_course.specs.Turns.{Turn, own_in, sent_in}
@@ -211,12 +210,8 @@ pub record IsLeftBy {D : Type 0} (g : Ghosts D) (lines : List NumberedLine) (las
   pub with_it : IsLeftWith g lines server (seat_at last server).opening (seat_at last server).journal taken given
   pub unfailed : IsUnstopped lines (seat_at last server).journal → g.faults given ≡ g.faults taken
 
--- the course with one entry more at this server, which saw that rank
-abbrev pub with_entry : Course → (server seen : ℕ) → Entry → Course
-with_entry r server seen e = record r { seats = slice_set r.seats (server - 1) (seat_after (seat_at r server) seen (e ∷ []) (seat_at r server).stand) }
-
 -- The device failed in the step that was due at the server that was started on it: the disk is left with the journal and one entry more, of the event
--- that was to come, which shows it. With it the journal is lawful, each entry has its cause, and the journals are linked.
+-- that was to come, which shows it. With it the journal is lawful, and each entry has its cause.
 pub record HasFailedOn {D : Type 0} (g : Ghosts D) (lines : List NumberedLine) (last : Course) (due : Due) (server : ℕ) (taken given : D) : Type 0 where
   pub seat : IsSeat last server
   pub entry : Entry
@@ -224,7 +219,6 @@ pub record HasFailedOn {D : Type 0} (g : Ghosts D) (lines : List NumberedLine) (
   pub shows : ShowsFault entry
   pub lawful : IsLawful (seat_at last server).opening ((seat_at last server).journal ++ entry ∷ [])
   pub caused : IsAnswered (seat_at last server).opening ((seat_at last server).journal ++ entry ∷ [])
-  pub linked : (handed : Handed) → logs.IsLinked (log_of (with_entry last server (seen_due last due) entry) handed)
   pub with_it : IsLeftWith g lines server (seat_at last server).opening ((seat_at last server).journal ++ entry ∷ []) taken given
   pub rose : Rose (g.faults taken) (g.faults given)
 
