@@ -41,8 +41,9 @@ fn tell(rt: HostRuntime, name: &str) -> io::Result<()> {
     };
     let code = status.code();
     if code != 0 {
-        let said = status_text(&status);
-        println!(rt; "status {code}: {}", said.as_str())?;
+        let text = status_text(&status);
+        let said = text.as_str();
+        println!(rt; "status {code}: {said}")?;
     }
     Ok(())
 }
