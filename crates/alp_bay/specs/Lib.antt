@@ -1,4 +1,5 @@
 pub mod Bays
+pub mod Refusals
 pub mod MemBays
 pub mod VolumeFiles
 pub mod HostDisks

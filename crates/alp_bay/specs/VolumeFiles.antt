@@ -9,7 +9,8 @@ use Rattle.alp_bay.specs.declared.volume_file.Made.{Made}
 abbrev pub volume_path : List ℕ → ℕ → List ℕ
 volume_path folder server = folder ++ codes "/server" ++ decimal server ++ codes ".vol"
 
--- A file that was found with pages has those. One that was found empty has as many as were asked for, and that length was synced.
-abbrev pub IsSizedFor : ℕ → Metadata → Option Made → ℕ → Type 0
-IsSizedFor asked found None size = metadata_len found ≡ 512 * size
-IsSizedFor asked found (Some made) size = (metadata_len found ≡ 0) × (size ≡ asked) × (made.length.bytes ≡ 512 * size)
+-- A file that was found with pages has those. One that was found empty has as many as were asked for, that length was synced, and so was the
+-- folder.
+abbrev pub IsSizedFor : ℕ → (folder : List ℕ) → Metadata → Option Made → ℕ → Type 0
+IsSizedFor asked folder found None size = metadata_len found ≡ 512 * size
+IsSizedFor asked folder found (Some made) size = (metadata_len found ≡ 0) × (size ≡ asked) × (made.bytes ≡ 512 * size) × (string_bytes made.folder.name.value ≡ folder)

@@ -1,59 +1,74 @@
 //! A folder of the host.
-ghost use Rattle.std.specs.Prelude.{◌≡◌, IfOk, IfSome, string_bytes};
+ghost use Rattle.std.specs.Prelude.{◌≡◌, IfOk, IfErr, string_bytes};
 ghost use Rattle.std.specs.Fs.{file_type, IsDir};
+ghost use Rattle.alp_bay.specs.Refusals.{IsNoFolder};
 
-use alp_base::OutOfMemory;
+use crate::mem_bay::copied;
+use crate::refusal::{HostFault, Refusal};
 use std::alloc::Global;
 use std::fs::{self, File, Files, Metadata};
 use std::io;
+use std::snapshot::Snapshot;
+
+// What the host found at a name. Only `look` makes one.
+#[derive(Drop)]
+struct AtName {
+    name: String,
+    found: Metadata,
+}
+
+// Asks the host what stands at that name.
+fn look<R: Files>(files: &R, name: String) -> io::Result<AtName>
+    ensures { IfOk result (λ at. at.name ≡ name) }
+{
+    let found = fs::metadata(files, name.as_str())?;
+    Ok(AtName { name, found })
+}
 
 /// A folder, by its name. What the host found at that name was one.
 #[derive(Drop)]
 pub(crate) struct Folder {
-    name: String,
-    found: Metadata,
-    ghost is_folder: { IsDir (file_type found) },
+    at: AtName,
+    ghost is_folder: { IsDir (file_type at.found) },
 }
 
-/// What was made in a folder stands there after a crash. Only a sync of the folder makes one.
+/// What was made in the folder of this name stands there after a crash. Only a sync of the folder makes one.
 #[derive(Drop)]
 pub(crate) struct SyncedFolder {
-    _synced: (),
+    name: Snapshot<String>,
 }
 
 impl Folder {
     /// The folder of that name, where one is there. An empty name names none.
-    pub(crate) fn find<R: Files>(
-        alloc: Global,
-        files: &R,
-        name: &str,
-    ) -> Result<Option<Folder>, OutOfMemory>
-        ensures { IfOk result (λ found. IfSome found (λ folder. string_bytes folder.name ≡ name.now)) }
+    pub(crate) fn find<R: Files>(alloc: Global, files: &R, name: &str) -> Result<Folder, HostFault>
+        ensures found { IfOk result (λ folder. string_bytes folder.at.name ≡ name.now) }
+        ensures cause { IfErr result (IsNoFolder name.now) }
     {
         if name.is_empty() {
-            return Ok(None);
+            return Err(HostFault::Refused(Refusal::NoName));
         }
-        let Ok(found) = fs::metadata(files, name) else {
-            return Ok(None);
-        };
-        if !found.is_dir() {
-            return Ok(None);
+        let name = copied(alloc, name)?;
+        let at = look(files, name)?;
+        if !at.found.is_dir() {
+            return Err(HostFault::Refused(Refusal::NoFolder(at.found)));
         }
-        let mut copy = String::new(alloc);
-        copy.push_str(name)?;
-        Ok(Some(Folder { name: copy, found }))
+        Ok(Folder { at })
     }
 
     /// Its name.
     pub(crate) fn name(&self) -> &str
-        ensures { result.now ≡ string_bytes self.now.name }
+        ensures { result.now ≡ string_bytes self.now.at.name }
     {
-        self.name.as_str()
+        self.at.name.as_str()
     }
 
     /// Syncs it.
-    pub(crate) fn sync<R: Files<File = File>>(&self, files: &R) -> io::Result<SyncedFolder> {
-        File::open(files, self.name.as_str())?.sync_all()?;
-        Ok(SyncedFolder { _synced: () })
+    pub(crate) fn sync<R: Files<File = File>>(&self, files: &R) -> io::Result<SyncedFolder>
+        ensures { IfOk result (λ synced. synced.name.value ≡ self.now.at.name) }
+    {
+        File::open(files, self.at.name.as_str())?.sync_all()?;
+        Ok(SyncedFolder {
+            name: Snapshot::of(&self.at.name),
+        })
     }
 }

@@ -1,9 +1,10 @@
 //! A bay whose disks are files of a folder, or in memory.
-ghost use Rattle.std.specs.Prelude.{◌≡◌, ℕ, IfOk, IfSome, None};
+ghost use Rattle.std.specs.Prelude.{◌≡◌, ℕ, IfOk, IfSome, None, option_map};
 
 use crate::fault_count::FaultCount;
 use crate::folder::Folder;
-use crate::open::{FileFault, open_volume};
+use crate::open::open_volume;
+use crate::refusal::Refusal;
 use crate::{Bay, BayFault, HostDisk, MemBay};
 use alp_base::OutOfMemory;
 use alp_disk::Disk;
@@ -39,11 +40,20 @@ impl<R: Files<File = File> + Drop> HostBay<R> {
             faults: FaultCount::new(),
         })
     }
+
+    /// Why the host refused the last time.
+    pub fn why(&self) -> Option<&Refusal>
+        ensures { option_map (λ refusal. refusal.now) result ≡ self.now.faults.why }
+    {
+        self.faults.why()
+    }
 }
 
 impl<R: Files<File = File> + Drop> Bay for HostBay<R> {
-    ghost use Rattle.std.specs.Prelude.{◌≤◌, not, is_some, option_map, OnOk, OnErr, IsTrue};
+    ghost use Rattle.std.specs.Prelude.{◌≤◌, not, is_some, OnOk, OnErr, IsErrOf, IsTrue};
     ghost use Rattle.alp_bay.specs.Bays.{HasBayCause, IsTaken, IsEmptied, IsFilled};
+    ghost use Rattle.alp_bay.specs.Refusals.{HasWhy, IsNoFolderAt, IsNoDiskFor};
+    ghost use Rattle.alp_bay.specs.declared.bay.BayFault.TheVariants.{Failed};
     ghost use Rattle.alp_bay.specs.HostBays.{host_disk_at, host_folder, unnamed_tells, IsOfServer, IsBackAt};
 
     type Device = HostDisk;
@@ -65,17 +75,19 @@ impl<R: Files<File = File> + Drop> Bay for HostBay<R> {
         ensures refused { OnErr result (self.new.folder ≡ self.old.folder) }
         ensures places { self.new.memory ≡ self.old.memory }
         ensures cause { HasBayCause self.old.faults.count self.new.faults.count result }
+        ensures why { IsErrOf result Failed → HasWhy (IsNoFolderAt (option_map (λ name. name.now) folder.entry)) self.new.faults.why }
     {
         let Some(name) = folder else {
             self.folder = None;
             return Ok(());
         };
-        let Some(found) = Folder::find(self.alloc, &self.files, name)? else {
-            self.faults.raise();
-            return Err(BayFault::Failed);
-        };
-        self.folder = Some(found);
-        Ok(())
+        match Folder::find(self.alloc, &self.files, name) {
+            Ok(found) => {
+                self.folder = Some(found);
+                Ok(())
+            }
+            Err(fault) => Err(self.faults.told(fault)),
+        }
     }
 
     fn take(&mut self, server: u8, pages: u32) -> Result<HostDisk, BayFault>
@@ -90,6 +102,7 @@ impl<R: Files<File = File> + Drop> Bay for HostBay<R> {
         ensures told { IsTrue (not (is_some self.old.folder)) → IfOk result (λ disk. IsTrue (⟦<HostDisk as Disk>⟧.tells disk)) }
         ensures chosen { self.new.folder ≡ self.old.folder }
         ensures cause { HasBayCause self.old.faults.count self.new.faults.count result }
+        ensures why { IsErrOf result Failed → HasWhy IsNoDiskFor self.new.faults.why }
     {
         let Some(folder) = &self.folder else {
             return match self.memory.take(server, pages) {
@@ -99,11 +112,7 @@ impl<R: Files<File = File> + Drop> Bay for HostBay<R> {
         };
         match open_volume(self.alloc, &self.files, folder, server, pages) {
             Ok(disk) => Ok(HostDisk::File(disk)),
-            Err(FileFault::OutOfMemory) => Err(BayFault::OutOfMemory),
-            Err(_) => {
-                self.faults.raise();
-                Err(BayFault::Failed)
-            }
+            Err(fault) => Err(self.faults.told(fault)),
         }
     }
 
@@ -112,7 +121,7 @@ impl<R: Files<File = File> + Drop> Bay for HostBay<R> {
         requires long { 2 ≤ ⟦<HostDisk as Disk>⟧.size device }
         requires told { IsTrue (not (is_some self.old.folder)) → IsTrue (⟦<HostDisk as Disk>⟧.tells device) }
         ensures given { IsTrue (not (is_some self.old.folder)) → IsFilled (host_disk_at self.old.memory) (host_disk_at self.new.memory) server device }
-        ensures stands { IsBackAt server self.new.memory device }
+        ensures stands { IsBackAt server self.old.memory self.new.memory device }
         ensures chosen { self.new.folder ≡ self.old.folder }
         ensures faults { self.new.faults ≡ self.old.faults }
     {

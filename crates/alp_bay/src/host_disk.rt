@@ -53,35 +53,35 @@ impl Disk for HostDisk {
     fn pages(&self) -> u32 {
         match self {
             HostDisk::Memory(disk) => disk.pages(),
-            HostDisk::File(volume) => volume.disk.pages(),
+            HostDisk::File(volume) => volume.pages(),
         }
     }
 
     fn read(&mut self, at: u32, page: &mut Page) -> Result<(), Halt> {
         match self {
             HostDisk::Memory(disk) => disk.read(at, page),
-            HostDisk::File(volume) => volume.disk.read(at, page),
+            HostDisk::File(volume) => volume.read(at, page),
         }
     }
 
     fn write(&mut self, at: u32, offset: u16, bytes: &[u8]) -> Result<(), Halt> {
         match self {
             HostDisk::Memory(disk) => disk.write(at, offset, bytes),
-            HostDisk::File(volume) => volume.disk.write(at, offset, bytes),
+            HostDisk::File(volume) => volume.write(at, offset, bytes),
         }
     }
 
     fn sync(&mut self) -> Result<(), Halt> {
         match self {
             HostDisk::Memory(disk) => disk.sync(),
-            HostDisk::File(volume) => volume.disk.sync(),
+            HostDisk::File(volume) => volume.sync(),
         }
     }
 
     fn stop_after(&mut self, calls: Option<u32>) {
         match self {
             HostDisk::Memory(disk) => disk.stop_after(calls),
-            HostDisk::File(volume) => volume.disk.stop_after(calls),
+            HostDisk::File(volume) => volume.stop_after(calls),
         }
     }
 

@@ -9,10 +9,12 @@ mod host_bay;
 mod host_disk;
 mod mem_bay;
 mod open;
+mod refusal;
 mod volume_file;
 
 pub use bay::{Bay, BayFault};
 pub use host_bay::HostBay;
 pub use host_disk::HostDisk;
 pub use mem_bay::MemBay;
+pub use refusal::Refusal;
 pub use volume_file::VolumeFile;

@@ -25,7 +25,8 @@ pub struct MemBay {
     ghost many: { length places.items ≡ 9 },
 }
 
-fn copied(alloc: Global, name: &str) -> Result<String, OutOfMemory>
+/// A name of its own.
+pub(crate) fn copied(alloc: Global, name: &str) -> Result<String, OutOfMemory>
     ensures { IfOk result (λ copy. string_bytes copy ≡ name.now) }
 {
     let mut copy = String::new(alloc);

@@ -1,53 +1,21 @@
 //! How the file of a server's volume is found in a folder, or made there.
-ghost use Rattle.std.specs.Prelude.{◌≡◌, ◌≢◌, ℕ, ◌*◌, ◌^◌, ◌≤◌, ◌<◌, IfOk, IfSome, IfNone, OnOk, Some, string_bytes};
+ghost use Rattle.std.specs.Prelude.{◌≡◌, ◌≢◌, ℕ, ◌*◌, ◌^◌, ◌≤◌, ◌<◌, IfOk, IfErr, IfSome, IfNone, string_bytes};
 ghost use Rattle.std.specs.Fs.{metadata_len};
+ghost use Rattle.alp_bay.specs.Refusals.{IsOfHost, IsNoDisk};
 ghost use Rattle.alp_bay.specs.VolumeFiles.{volume_path, IsSizedFor};
 
 use crate::folder::Folder;
-use crate::held_file::HeldFile;
-use crate::volume_file::{Made, VolumeFile};
+use crate::held_file::{HeldFile, PAGE_BYTES};
+use crate::refusal::{HostFault, Refusal};
+use crate::volume_file::VolumeFile;
 use alp_base::OutOfMemory;
 use alp_disk::{Disk, FileDisk};
 use std::alloc::Global;
 use std::fmt::Write;
-use std::fs::{File, Files, TryLockError};
-use std::io;
-
-/// The bytes of a page.
-const PAGE_BYTES: u64 = 512;
+use std::fs::{File, Files};
 
 /// The fewest pages of a disk: those of its two anchors.
 const FEWEST_PAGES: u64 = 2;
-
-/// Why a file gave no disk.
-#[derive(Drop)]
-pub enum FileFault {
-    /// The host refused a call.
-    Host(io::Error),
-    /// Another program has the file.
-    Taken,
-    /// Its length is no whole number of pages, or not one that a disk can have.
-    Length,
-    OutOfMemory,
-}
-
-impl From<io::Error> for FileFault {
-    fn from(refused: io::Error) -> FileFault {
-        FileFault::Host(refused)
-    }
-}
-
-impl From<OutOfMemory> for FileFault {
-    fn from(_refused: OutOfMemory) -> FileFault {
-        FileFault::OutOfMemory
-    }
-}
-
-impl From<TryLockError> for FileFault {
-    fn from(_refused: TryLockError) -> FileFault {
-        FileFault::Taken
-    }
-}
 
 // Where the volume of a server stands.
 fn path_of(alloc: Global, folder: &str, server: u8) -> Result<String, OutOfMemory>
@@ -60,18 +28,23 @@ fn path_of(alloc: Global, folder: &str, server: u8) -> Result<String, OutOfMemor
     }
 }
 
-// The file gets so many pages, and stands in its folder.
+// The disk that is a file which was found with no byte: it gets so many pages, and stands in its folder.
 fn make_whole<R: Files<File = File>>(
     files: &R,
     folder: &Folder,
-    file: &HeldFile,
+    file: HeldFile,
     pages: u32,
-) -> Result<Made, FileFault>
-    ensures { IfOk result (λ made. made.length.bytes ≡ 512 * pages) }
+) -> Result<VolumeFile, HostFault>
+    requires { metadata_len file.found ≡ 0 }
+    ensures path { IfOk result (λ v. v.path ≡ file.path) }
+    ensures sized { IfOk result (λ v. IsSizedFor pages (string_bytes folder.now.at.name) v.found v.made (⟦<FileDisk as Disk>⟧.size v.disk)) }
+    ensures size { IfOk result (λ v. ⟦<FileDisk as Disk>⟧.size v.disk ≡ pages) }
+    ensures unfailed { IfOk result (λ v. ⟦<FileDisk as Disk>⟧.faults v.disk ≡ 0) }
+    ensures cause { IfErr result IsOfHost }
 {
-    let length = file.set_length(PAGE_BYTES * pages as u64)?;
-    let folder = folder.sync(files)?;
-    Ok(Made { length, folder })
+    let made = file.make(pages)?;
+    let synced = folder.sync(files)?;
+    Ok(VolumeFile::made(made, synced, pages))
 }
 
 // How many pages a file of that length has, if it can be a disk.
@@ -94,23 +67,22 @@ pub(crate) fn open_volume<R: Files<File = File>>(
     folder: &Folder,
     server: u8,
     pages: u32,
-) -> Result<VolumeFile, FileFault>
+) -> Result<VolumeFile, HostFault>
     requires { 2 ≤ pages }
-    ensures path { IfOk result (λ v. string_bytes v.path ≡ volume_path (string_bytes folder.now.name) server) }
-    ensures sized { IfOk result (λ v. IsSizedFor pages v.found v.made (⟦<FileDisk as Disk>⟧.size v.disk)) }
+    ensures path { IfOk result (λ v. string_bytes v.path ≡ volume_path (string_bytes folder.now.at.name) server) }
+    ensures sized { IfOk result (λ v. IsSizedFor pages (string_bytes folder.now.at.name) v.found v.made (⟦<FileDisk as Disk>⟧.size v.disk)) }
     ensures long { IfOk result (λ v. 2 ≤ ⟦<FileDisk as Disk>⟧.size v.disk) }
     ensures unfailed { IfOk result (λ v. ⟦<FileDisk as Disk>⟧.faults v.disk ≡ 0) }
+    ensures cause { IfErr result IsNoDisk }
 {
     let path = path_of(alloc, folder.name(), server)?;
     let file = HeldFile::open(files, path)?;
-    let found = file.metadata()?;
-    let bytes = found.len();
+    let bytes = file.bytes();
     if bytes == 0 {
-        let made = make_whole(files, folder, &file, pages)?;
-        return Ok(VolumeFile::new(file, found, Some(made), pages));
+        return make_whole(files, folder, file, pages);
     }
     match pages_in(bytes) {
-        Some(long) => Ok(VolumeFile::new(file, found, None, long)),
-        None => Err(FileFault::Length),
+        Some(long) => Ok(VolumeFile::found(file, long)),
+        None => Err(HostFault::Refused(Refusal::Length(file.into_found()))),
     }
 }

@@ -58,7 +58,7 @@ impl<B: Bay + Drop> BelievedBay<B> {
 }
 
 impl<B: Bay + Drop> Bay for BelievedBay<B> {
-    ghost use Rattle.std.specs.Prelude.{OnOk, OnErr};
+    ghost use Rattle.std.specs.Prelude.{OnOk, OnErr, IsTrue};
     ghost use Rattle.std.specs.Option.{option_map};
     ghost use Rattle.alp_bay.specs.Bays.{HasBayCause, IsTaken, IsEmptied};
     ghost use Rattle.alp_belief.specs.Beliefs.{believed_at};
@@ -84,7 +84,19 @@ impl<B: Bay + Drop> Bay for BelievedBay<B> {
         }
     }
 
-    fn take(&mut self, server: u8, pages: u32) -> Result<Believed<B::Device>, BayFault> {
+    fn take(&mut self, server: u8, pages: u32) -> Result<Believed<B::Device>, BayFault>
+        requires server { (1 ≤ server) × (server ≤ 8) }
+        requires pages { 2 ≤ pages }
+        ensures taken { IfOk result (IsTaken ⟦<Believed<B::Device> as Disk>⟧ (believed_at self.old.places.items server) pages) }
+        ensures emptied { OnOk result (IsEmptied (believed_at self.old.places.items) (believed_at self.new.places.items) server) }
+        ensures refused { OnErr result (believed_at self.new.places.items ≡ believed_at self.old.places.items) }
+        ensures long { IfOk result (λ device. 2 ≤ page_count device.model) }
+        ensures chosen { B.chosen self.new.bay ≡ B.chosen self.old.bay }
+        ensures cause { HasBayCause self.old.faults.count self.new.faults.count result }
+
+        // Where none stands there, the device is what the bay below has for this server.
+        ensures device { believed_at self.old.places.items server ≡ None → IsTrue (B.tells self.old.bay) → IfOk result (λ device. IsTaken B.Device.Disk (B.at self.old.bay server) pages device.disk) }
+    {
         if let Some(standing) = self.places[server as usize].take() {
             return Ok(standing.device);
         }

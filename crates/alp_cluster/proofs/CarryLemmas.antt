@@ -131,8 +131,8 @@ module _ {V : Type 0} (G : Ghosts V) where
       brought_done : (f : RunFault) → IsEndFor f (course_of G s) (to_come (brings from to)) → EndsFor G f (to_come (brings from to)) s after → DidSome G (Just (brings from to ∷ [])) f s after
       brought_done f ends left = record { at_end = s; hs = []; due = to_come (brings from to); cut = cut_just (brings from to); goes = go_none G s on; ends = ends; left = left }
 
-      brings_one : IsSome (next_message (course_of G s) from to)
-      brings_one = subst (λ (o : Option Message). IsSome o) (sym next) refl
+      brings_one : AreTwo (course_of G s) from to × IsSome (next_message (course_of G s) from to)
+      brings_one = (two_of s from to two, subst (λ (o : Option Message). IsSome o) (sym next) refl)
 
       up_so : (seat_at (course_of G shown) to).stand.is_down ≡ false → (seat_at (course_of G s) to).stand.is_down ≡ false
       up_so up = ap (λ (r : Course). (seat_at r to).stand.is_down) (sym course) ∙ up
@@ -175,8 +175,8 @@ module _ {V : Type 0} (G : Ghosts V) where
       repeated_done : (f : RunFault) → IsEndFor f (course_of G s) (to_come (repeats from to)) → EndsFor G f (to_come (repeats from to)) s after → DidSome G (Just (repeats from to ∷ [])) f s after
       repeated_done f ends left = record { at_end = s; hs = []; due = to_come (repeats from to); cut = cut_just (repeats from to); goes = go_none G s on; ends = ends; left = left }
 
-      repeats_one : IsSome (post_at (course_of G s).posts from to).last
-      repeats_one = subst (λ (o : Option (Message × ℕ)). IsSome o) (sym last) refl
+      repeats_one : AreTwo (course_of G s) from to × IsSome (post_at (course_of G s).posts from to).last
+      repeats_one = (two_of s from to two, subst (λ (o : Option (Message × ℕ)). IsSome o) (sym last) refl)
 
       repeated_failed : (k : ℕ) → k ≡ to → FailsFor G to x.1 (event.Arrive from x.0) s after → DidSome G (Just (repeats from to ∷ [])) (fault.DiskFault k) s after
       repeated_failed k same h = subst (λ (i : ℕ). DidSome G (Just (repeats from to ∷ [])) (fault.DiskFault i) s after) (sym same) (repeated_done (fault.DiskFault to)

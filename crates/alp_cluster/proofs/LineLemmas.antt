@@ -389,8 +389,8 @@ module _ {V : Type 0} (G : Ghosts V) (servers : ℕ) (c d : Crowd) (a b : Statio
     text = sym (append-nil text);
   }
 
-  pub begins_other : (f : RunFault) (lists : List (Vec Item Global)) → AddsSomeEvents G f servers c d a b l.line → BeginsOn G f servers c d a b l lists lists
-  begins_other f lists h = record {
+  pub begins_other : (f : RunFault) (lists : List (Vec Item Global)) (text : List ℕ) → AddsSomeEvents G f servers c d a b l.line → BeginsOn G f servers c d a b l lists lists text text
+  begins_other f lists text h = record {
     turns = [];
     at_end = h.at_end;
     hs = h.hs;
@@ -399,9 +399,12 @@ module _ {V : Type 0} (G : Ghosts V) (servers : ℕ) (c d : Crowd) (a b : Statio
     ends = h.ends;
     left = h.left;
     begins = subst (λ (o : Option ℕ). BeginsOwn servers c l o [] h.hs h.due d) (sym none) (refl, h.begins, h.declared);
+    places = refl;
     lists = λ k. sym (append-nil (lists_in lists k));
+    one = omega arith;
     few = λ k. omega arith;
     said = quiet h.at_end h.goes.later h.declared;
+    text = refl;
   }
 
 -- the list at a place is the client's
@@ -423,7 +426,7 @@ set_other (x ∷ vs) zero v (suc j) h = refl
 set_other (x ∷ vs) (suc k) v zero h = refl
 set_other (x ∷ vs) (suc k) v (suc j) h = set_other vs k v j (λ e. h (ap suc e))
 
-set_many : (vs : List (Vec Item Global)) (k : ℕ) (v : Vec Item Global) → length (slice_set vs k v) ≡ length vs
+pub set_many : (vs : List (Vec Item Global)) (k : ℕ) (v : Vec Item Global) → length (slice_set vs k v) ≡ length vs
 set_many [] k v = refl
 set_many (x ∷ vs) zero v = refl
 set_many (x ∷ vs) (suc k) v = ap suc (set_many vs k v)
@@ -500,8 +503,9 @@ module _ {V : Type 0} (G : Ghosts V) (servers : ℕ) (c d : Crowd) (a b : Statio
     text = told;
   }
 
-  pub begins_item : (f : RunFault) (lists now : List (Vec Item Global)) → ((j : ℕ) → lists_in now j ≡ lists_in lists j ++ own_in j (turn_at l k xs ∷ [])) → DidOfLine G f servers (at_line c k l.line) d a b k l next.Call xs → BeginsOn G f servers c d a b l lists now
-  begins_item f lists now are h = record {
+  pub begins_item : (f : RunFault) (lists now : List (Vec Item Global)) (text told : List ℕ) → length now ≡ length lists → ((j : ℕ) → lists_in now j ≡ lists_in lists j ++ own_in j (turn_at l k xs ∷ [])) → told ≡ text → DidOfLine G f servers (at_line c k l.line) d a b k l next.Call xs
+      → BeginsOn G f servers c d a b l lists now text told
+  begins_item f lists now text told many are same h = record {
     turns = turn_at l k xs ∷ [];
     at_end = h.at_end;
     hs = h.hs;
@@ -510,9 +514,12 @@ module _ {V : Type 0} (G : Ghosts V) (servers : ℕ) (c d : Crowd) (a b : Statio
     ends = h.ends;
     left = h.left;
     begins = subst (λ (o : Option ℕ). BeginsOwn servers c l o (turn_at l k xs ∷ []) h.hs h.due d) (sym named) (xs, refl, h.number, h.sends);
+    places = many;
     lists = are;
+    one = omega arith;
     few = few_turn l k xs few;
     said = from_line h.at_end (said_turn G a h.at_end (at_line c k l.line) d l k xs h.goes.later few h.said h.others);
+    text = same;
   }
 
 -- a line that sent nothing has no item
@@ -543,7 +550,7 @@ module _ {V : Type 0} (G : Ghosts V) (servers : ℕ) (c d : Crowd) (a b : Statio
     text = h.text;
   }
 
-  pub adds_some : (f : RunFault) (z : Stations V) → DidSome G (CarriesIf servers d.settings.collects) f b z → AddsSome G f servers c d a z l lists now
+  pub adds_some : (f : RunFault) (z : Stations V) → DidSome G (CarriesIf servers d.settings.collects) f b z → AddsSome G f servers c d a z l lists now text printed
   adds_some f z cut = record {
     turns = h.turns;
     at_end = cut.at_end;
@@ -553,11 +560,27 @@ module _ {V : Type 0} (G : Ghosts V) (servers : ℕ) (c d : Crowd) (a b : Statio
     ends = cut.ends;
     left = cut.left;
     begins = inr (h.hs, cut.hs, refl, h.plays, cut.cut);
+    places = h.places;
     lists = h.lists;
     few = h.few;
     said = said_behind cut.at_end cut.goes.later;
+    text = record { told = h.turns; untold = []; are = sym (append-nil h.turns); few = omega arith; text = h.text };
   }
 
 -- a line that is not over
-pub adds_begun : {V : Type 0} (G : Ghosts V) (f : RunFault) (servers : ℕ) (c d : Crowd) (a b : Stations V) (l : NumberedLine) (lists now : List (Vec Item Global)) → BeginsOn G f servers c d a b l lists now → AddsSome G f servers c d a b l lists now
-adds_begun G f servers c d a b l lists now h = record { turns = h.turns; at_end = h.at_end; hs = h.hs; due = h.due; goes = h.goes; ends = h.ends; left = h.left; begins = inl h.begins; lists = h.lists; few = h.few; said = h.said }
+pub adds_begun : {V : Type 0} (G : Ghosts V) (f : RunFault) (servers : ℕ) (c d : Crowd) (a b : Stations V) (l : NumberedLine) (lists now : List (Vec Item Global)) (text told : List ℕ) → BeginsOn G f servers c d a b l lists now text told → AddsSome G f servers c d a b l lists now text told
+adds_begun G f servers c d a b l lists now text told h = record {
+  turns = h.turns;
+  at_end = h.at_end;
+  hs = h.hs;
+  due = h.due;
+  goes = h.goes;
+  ends = h.ends;
+  left = h.left;
+  begins = inl h.begins;
+  places = h.places;
+  lists = h.lists;
+  few = h.few;
+  said = h.said;
+  text = record { told = []; untold = h.turns; are = refl; few = h.one; text = h.text ∙ sym (append-nil text) };
+}

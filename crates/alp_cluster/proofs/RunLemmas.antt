@@ -5,7 +5,7 @@ use Rattle.std.specs.List.{AllByRecursion}
 use Rattle.std.specs.FinMap.{get-empty}
 use Rattle.std.specs.Ordering.{nat_cmp}
 use Rattle.std.specs.Option.{option_map}
-use Rattle.std.proofs.Common.{inl, inr, ◌≡◌, ℕ, zero, suc, ◌+◌, ◌*◌, ◌<◌, ◌≤◌, ◌^◌, List, [], ◌∷◌, ◌++◌, length, take, get_or, refl, sym, ◌∙◌, ap, subst, arith, append-nil, length-append}
+use Rattle.std.proofs.Common.{inl, inr, ◌≡◌, ℕ, zero, suc, ◌+◌, ◌*◌, ◌<◌, ◌≤◌, ◌^◌, List, [], ◌∷◌, ◌++◌, length, take, get_or, refl, sym, ◌∙◌, ap, subst, arith, append_assoc, append-nil, length-append}
 use Rattle.std.proofs.lemmas.List.{take_more, map-append, length-map}
 use Rattle.std.proofs.lemmas.Grind.{flat_map-append}
 use Rattle.alp_journal.specs.declared.log.Item.{Item}
@@ -28,7 +28,7 @@ use Rattle.alp_course.proofs.PlayLemmas.{Plays-push, sent_append, sent_in-append
 use Rattle.alp_course.proofs.TakenLemmas.{taken_all}
 use Rattle.alp_course.proofs.UpLemmas.{lifting_up, many_on}
 use Rattle.alp_cluster.specs.Clients.{States, come_in, session_of, HasSaid}
-use Rattle.alp_cluster.specs.Runs.{Ran, AreRested, HasPlayed, HasPlayedOut, HasEndedEarly, IsSettledDown}
+use Rattle.alp_cluster.specs.Runs.{Ran, AreRested, HasPlayed, HasPlayedOut, HasEndedEarly, HasEndedSo, IsSettledDown}
 use Rattle.alp_cluster.specs.Station.{seat_of}
 use Rattle.alp_cluster.specs.Stations.{Go, Did, DidSome, course_of, state_at}
 use Rattle.alp_cluster.specs.Steps.{Adds, AddsSome}
@@ -91,8 +91,8 @@ module _ {V : Type 0} (G : Ghosts V) (servers : ℕ) (ls : List NumberedLine) (c
   -- ---- a run that ends before its script does
 
   -- in a line
-  pub line_ended : (lines : List NumberedLine) (l : NumberedLine) (later : List NumberedLine) (known : Crowd) (f : RunFault) (now : List (Vec Item Global)) → lines ≡ ls ++ l ∷ later → length ls < 2 ^ 29 → AddsSome G f servers c known s t l lists now → HasEndedEarly G servers lines f t now
-  line_ended lines l later known f now are low e = record {
+  pub line_ended : (lines : List NumberedLine) (l : NumberedLine) (later : List NumberedLine) (known : Crowd) (f : RunFault) (now : List (Vec Item Global)) (told : List ℕ) → lines ≡ ls ++ l ∷ later → length ls < 2 ^ 29 → AddsSome G f servers c known s t l lists now text told → HasEndedEarly G servers lines f t now
+  line_ended lines l later known f now told are low e = record {
     last = e.at_end;
     on = e.goes.later.on;
     count = count_more e.at_end e.hs e.goes;
@@ -123,7 +123,22 @@ module _ {V : Type 0} (G : Ghosts V) (servers : ℕ) (ls : List NumberedLine) (c
     });
     ends = e.ends;
     ended = e.left;
+    places = e.places ∙ h.places;
     lists = λ k. e.lists k ∙ ap (λ (xs : List Item). xs ++ own_in k e.turns) (h.lists k) ∙ sym (own_append k h.turns e.turns);
+  }
+
+  pub line_ended_so : (lines : List NumberedLine) (l : NumberedLine) (later : List NumberedLine) (known : Crowd) (f : RunFault) (now : List (Vec Item Global)) (told : List ℕ) → lines ≡ ls ++ l ∷ later → length ls < 2 ^ 29 → AddsSome G f servers c known s t l lists now text told
+      → HasEndedSo G servers lines f t now told
+  unfolding line_ended
+  line_ended_so lines l later known f now told are low e = record {
+    early = line_ended lines l later known f now told are low e;
+    text = record {
+      told = h.turns ++ e.text.told;
+      untold = e.text.untold;
+      are = ap (λ (us : List Turn). h.turns ++ us) e.text.are ∙ sym (append_assoc h.turns e.text.told e.text.untold);
+      few = e.text.few;
+      text = e.text.text ∙ ap (λ (xs : List ℕ). xs ++ turns_text e.text.told) h.text ∙ sym (flat_map-append (λ (u : Turn). line_text u.line u.items) h.turns e.text.told);
+    };
   }
 
   -- or behind all lines
@@ -142,8 +157,13 @@ module _ {V : Type 0} (G : Ghosts V) (servers : ℕ) (ls : List NumberedLine) (c
     next_was = inr (record { clients = c; happened_before = h.happened; happened_now = e.hs; happened_are = refl; plays = h.plays; settles = e.cut });
     ends = e.ends;
     ended = e.left;
+    places = h.places;
     lists = h.lists;
   }
+
+  pub end_ended_so : (f : RunFault) → length ls < 2 ^ 29 → DidSome G (IsSettling servers) f s t → HasEndedSo G servers ls f t lists text
+  unfolding end_ended
+  end_ended_so f low e = record { early = end_ended f low e; text = record { told = h.turns; untold = []; are = sym (append-nil h.turns); few = omega arith; text = h.text } }
 
   -- ---- all of it
 

@@ -6,6 +6,7 @@ use Rattle.alp_base.specs.Causes.{Rose}
 use Rattle.alp_base.specs.declared.allowance.Allowance.{Allowance}
 use Rattle.alp_base.specs.declared.allowance.Allowance.TheVariants.{Free}
 use Rattle.alp_files.specs.declared.reply.Reply.{Reply}
+use Rattle.alp_journal.specs.Account.{Account}
 use Rattle.alp_journal.specs.Answered.{is_read_fault}
 use Rattle.alp_journal.specs.Desk.{Session}
 use Rattle.alp_journal.specs.declared.entry.Entry.{Entry}
@@ -15,6 +16,7 @@ use Rattle.alp_node.specs.Halts.{HaveCauses}
 use Rattle.alp_node.specs.Nodes.{IsConsistent, HasRoom, HasNoEntry, Answered, start_in, start_by}
 use Rattle.alp_node.specs.NodeStates.{NodeState}
 use Rattle.alp_node.specs.Orders.{order_in, is_fault_now}
+use Rattle.alp_node.specs.ServerState.{IsAs}
 use Rattle.alp_node.specs.Served.{IsServed}
 use Rattle.alp_node.specs.Sessions.{session_at}
 use Rattle.alp_node.specs.Steps.{IsSeated}
@@ -158,8 +160,8 @@ module _ {V : Type 0} (G : Ghosts V) (n m : NodeState V) (e : Event) (r : Option
   }
 
 -- memory was wanting
-pub wanting_left : {V : Type 0} (G : Ghosts V) (n m : NodeState V) → m.opening ≡ n.opening → IsSeated G n.kept m.kept → HasNoEntry G n m → IsUntouched G n m
-wanting_left G n m opening seat none = record {
+pub wanting_left : {V : Type 0} (G : Ghosts V) (n m : NodeState V) → m.opening ≡ n.opening → IsSeated G n.kept m.kept → HasNoEntry G n m → ((a : Account) → IsAs a (G.held n.kept.vault) n.kept → IsAs a (G.held m.kept.vault) m.kept) → IsUntouched G n m
+wanting_left G n m opening seat none kept = record {
   journal = none.journal;
   opening = opening;
   server = seat.server;
@@ -167,12 +169,17 @@ wanting_left G n m opening seat none = record {
   down = none.up;
   start = λ i. start_by G (seat.server i) (ap (λ (o : Opened _). o.vault.value) opening i);
   telling = seat.same.telling;
+  held = none.vault.held;
   faults = none.vault.faults;
+  allowance = none.vault.allowance;
+  sessions = none.sessions;
+  clock = none.clock;
+  kept = kept;
 }
 
 -- nothing was done
 pub untouched : {V : Type 0} (G : Ghosts V) (n : NodeState V) → IsUntouched G n n
-untouched G n = record { journal = refl; opening = refl; server = refl; epoch = refl; down = refl; start = refl; telling = refl; faults = refl }
+untouched G n = record { journal = refl; opening = refl; server = refl; epoch = refl; down = refl; start = refl; telling = refl; held = refl; faults = refl; allowance = refl; sessions = refl; clock = refl; kept = λ a is. is }
 
 pub wanting_gone : {V T : Type 0} (G : Ghosts V) (P : Type 0) (n m : NodeState V) → IsSeated G n.kept m.kept → HasNoEntry G n m → HasGone {T = T} G P n.kept.vault m.kept.vault (Err fault.OutOfMemory)
 wanting_gone G P n m seat none = record {

@@ -10,7 +10,7 @@ use Rattle.alp_node.specs.declared.start.StartFault.TheVariants as start_fault
 use Rattle.alp_posts.specs.Posts.{post_at}
 use Rattle.alp_rpc.specs.Frames.{request}
 use Rattle.alp_rpc.specs.declared.frame.Request.{Request}
-use Rattle.alp_course.specs.Courses.{Course, at, brings, repeats, seat_at, next_message, last_rank}
+use Rattle.alp_course.specs.Courses.{Course, at, brings, repeats, AreTwo, seat_at, next_message, last_rank}
 use Rattle.alp_course.specs.Happens.{Happening, timed_out, ticked, forced, restarted}
 use Rattle.alp_course.specs.Plays.{Due, to_send, to_come}
 use Rattle.alp_cluster.specs.declared.fault.RunFault.{RunFault}
@@ -33,12 +33,12 @@ server_due (to_come (brings from to)) = to
 server_due (to_come (repeats from to)) = to
 server_due due = 0
 
--- it makes an entry there where that is up: a request of a client, an event, or a message that is there
+-- it makes an entry there where that is up: a request of a client, an event, or a message of another server that is there
 abbrev pub IsStepDue : Course → Due → Type 0
 IsStepDue r (to_send client frame) = IsSome (whole request frame.bytes)
 IsStepDue r (to_come (at n h)) = MakesEntry h
-IsStepDue r (to_come (brings from to)) = IsSome (next_message r from to)
-IsStepDue r (to_come (repeats from to)) = IsSome (post_at r.posts from to).last
+IsStepDue r (to_come (brings from to)) = AreTwo r from to × IsSome (next_message r from to)
+IsStepDue r (to_come (repeats from to)) = AreTwo r from to × IsSome (post_at r.posts from to).last
 IsStepDue r due = ⊥
 
 -- by this event that happens

@@ -24,6 +24,7 @@ use Rattle.alp_course.specs.Turns.{Turn, lists_in, own_in, sent_in, turns_text}
 use Rattle.alp_cluster.specs.Clients.{InStep, HasSaid}
 use Rattle.alp_cluster.specs.Fills.{IsEndFor}
 use Rattle.alp_cluster.specs.Stations.{AreOn, EndsFor, course_of, state_at}
+use Rattle.alp_cluster.specs.Steps.{PrintsTo}
 use Rattle.alp_cluster.specs.declared.fault.RunFault.{RunFault}
 use Rattle.alp_cluster.specs.declared.stations.Stations.{Stations}
 
@@ -146,4 +147,10 @@ pub record HasEndedEarly {V : Type 0} (G : Ghosts V) (servers : ℕ) (lines : Li
   pub next_was : StopsInLine servers lines turns hs due ⊎ StopsBehindLines servers lines turns hs due
   pub ends : IsEndFor f (course_of G last) due
   pub ended : EndsFor G f due last left
+  pub places : length vs ≡ 17
   pub lists : (k : ℕ) → lists_in vs k ≡ own_in k turns
+
+-- and the report has the lines of those turns, of the last one maybe none
+pub record HasEndedSo {V : Type 0} (G : Ghosts V) (servers : ℕ) (lines : List NumberedLine) (f : RunFault) (left : Stations V) (vs : List (Vec Item Global)) (printed : List ℕ) : Type 0 where
+  pub early : HasEndedEarly G servers lines f left vs
+  pub text : PrintsTo early.turns [] printed

@@ -11,6 +11,7 @@ use Rattle.alp_files.specs.declared.reply.Reply.{Reply}
 use Rattle.alp_files.specs.declared.reply.Reply.TheVariants as reply
 use Rattle.alp_vault.specs.Vault.{IsSameVault}
 use Rattle.alp_vault.specs.declared.vault.Vault.{Ghosts}
+use Rattle.alp_journal.specs.Account.{Account}
 use Rattle.alp_journal.specs.Along.{Along}
 use Rattle.alp_journal.specs.State.{State, opened}
 use Rattle.alp_journal.specs.declared.act.Act.{Act}
@@ -26,6 +27,7 @@ use Rattle.alp_rpc.specs.Replies.{IsSendable}
 use Rattle.alp_node.specs.Nodes as node
 use Rattle.alp_node.specs.Nodes.{IsConsistent, HasRoom, IsFull, start_in}
 use Rattle.alp_node.specs.NodeStates.{NodeState}
+use Rattle.alp_node.specs.ServerState.{IsAs}
 use Rattle.alp_node.specs.DownStates.{DownState}
 use Rattle.alp_node.specs.Downs.{IsFallen, HasFallen, HasRestarted, IsStillDown}
 use Rattle.alp_node.specs.Sessions.{no_sessions, session_at}
@@ -174,7 +176,8 @@ pub record HasNoRoom {V : Type 0} (old new : NodeState V) : Type 0 where
   pub full : IsFull old
   pub same : new ≡ old
 
--- Memory was wanting: it took no step, and stands as it stood. Its vault may have other pages at hand.
+-- Memory was wanting: it took no step, and stands as it stood: it keeps what it kept, and its vault holds, counts and allows what it did. The
+-- vault may have other pages at hand.
 pub record IsUntouched {V : Type 0} (G : Ghosts V) (old new : NodeState V) : Type 0 where
   pub journal : new.journal ≡ old.journal
   pub opening : new.opening ≡ old.opening
@@ -183,7 +186,12 @@ pub record IsUntouched {V : Type 0} (G : Ghosts V) (old new : NodeState V) : Typ
   pub down : new.kept.is_down ≡ old.kept.is_down
   pub start : start_in G new ≡ start_in G old
   pub telling : G.tells new.kept.vault ≡ G.tells old.kept.vault
+  pub held : G.held new.kept.vault ≡ G.held old.kept.vault
   pub faults : G.faults new.kept.vault ≡ G.faults old.kept.vault
+  pub allowance : G.allowance new.kept.vault ≡ G.allowance old.kept.vault
+  pub sessions : new.kept.sessions ≡ old.kept.sessions
+  pub clock : new.kept.clock ≡ old.kept.clock
+  pub kept : (a : Account) → IsAs a (G.held old.kept.vault) old.kept → IsAs a (G.held new.kept.vault) new.kept
 
 -- an entry shows that the device failed in it: by its reply, or by an act
 abbrev pub ShowsFault : Entry → Type 0

@@ -121,8 +121,16 @@ pub record Adds {V : Type 0} (G : Ghosts V) (servers : ℕ) (old new : Crowd) (b
   pub said : SayOn old new before after turns
   pub text : text_after ≡ text_before ++ turns_text turns
 
--- some of it, and the rest could not come for that fault; each item of it stands in its client's list
-pub record AddsSome {V : Type 0} (G : Ghosts V) (f : RunFault) (servers : ℕ) (old new : Crowd) (before after : Stations V) (l : NumberedLine) (lists_before lists_after : List (Vec Item Global)) : Type 0 where
+-- the report has the lines of these turns, and of the last one maybe none
+pub record PrintsTo (turns : List Turn) (text_before text_after : List ℕ) : Type 0 where
+  pub told : List Turn
+  pub untold : List Turn
+  pub are : turns ≡ told ++ untold
+  pub few : length untold ≤ 1
+  pub text : text_after ≡ text_before ++ turns_text told
+
+-- some of it, and the rest could not come for that fault; each item of it stands in its client's list, and its line in the report, or no line does
+pub record AddsSome {V : Type 0} (G : Ghosts V) (f : RunFault) (servers : ℕ) (old new : Crowd) (before after : Stations V) (l : NumberedLine) (lists_before lists_after : List (Vec Item Global)) (text_before text_after : List ℕ) : Type 0 where
   pub turns : List Turn
   pub at_end : Stations V
   pub hs : List Occurrence
@@ -131,12 +139,14 @@ pub record AddsSome {V : Type 0} (G : Ghosts V) (f : RunFault) (servers : ℕ) (
   pub ends : IsEndFor f (course_of G at_end) due
   pub left : EndsFor G f due at_end after
   pub begins : BeginsLine servers old l turns hs due new
+  pub places : length lists_after ≡ length lists_before
   pub lists : (k : ℕ) → lists_in lists_after k ≡ lists_in lists_before k ++ own_in k turns
   pub few : (k : ℕ) → length (own_in k turns) ≤ 5
   pub said : SayOn old new before at_end turns
+  pub text : PrintsTo turns text_before text_after
 
--- of a line that is not over
-pub record BeginsOn {V : Type 0} (G : Ghosts V) (f : RunFault) (servers : ℕ) (old new : Crowd) (before after : Stations V) (l : NumberedLine) (lists_before lists_after : List (Vec Item Global)) : Type 0 where
+-- of a line that is not over: its own has no line in the report
+pub record BeginsOn {V : Type 0} (G : Ghosts V) (f : RunFault) (servers : ℕ) (old new : Crowd) (before after : Stations V) (l : NumberedLine) (lists_before lists_after : List (Vec Item Global)) (text_before text_after : List ℕ) : Type 0 where
   pub turns : List Turn
   pub at_end : Stations V
   pub hs : List Occurrence
@@ -145,9 +155,12 @@ pub record BeginsOn {V : Type 0} (G : Ghosts V) (f : RunFault) (servers : ℕ) (
   pub ends : IsEndFor f (course_of G at_end) due
   pub left : EndsFor G f due at_end after
   pub begins : BeginsOwn servers old l (client_named l.line) turns hs due new
+  pub places : length lists_after ≡ length lists_before
   pub lists : (k : ℕ) → lists_in lists_after k ≡ lists_in lists_before k ++ own_in k turns
+  pub one : length turns ≤ 1
   pub few : (k : ℕ) → length (own_in k turns) ≤ 5
   pub said : SayOn old new before at_end turns
+  pub text : text_after ≡ text_before
 
 -- a frame of a client was to go out, for which the fault is the end
 pub record ExchangesNone {V : Type 0} (G : Ghosts V) (f : RunFault) (client : ℕ) (frame : Addressed) (before after : Stations V) : Type 0 where

@@ -11,7 +11,7 @@ ghost use Rattle.alp_course.specs.Settles.{IsSettling};
 ghost use Rattle.alp_cluster.specs.Clients.{InStep};
 ghost use Rattle.alp_cluster.specs.Gathered.{AreGathered};
 ghost use Rattle.alp_cluster.specs.Fills.{OnEnd};
-ghost use Rattle.alp_cluster.specs.Runs.{StopNone, is_stop_line, HasPlayed, HasPlayedOut, HasEndedEarly, IsSettledDown};
+ghost use Rattle.alp_cluster.specs.Runs.{StopNone, is_stop_line, HasPlayed, HasPlayedOut, HasEndedEarly, HasEndedSo, IsSettledDown};
 ghost use Rattle.alp_cluster.specs.Stations.{AreOn, AreCalmSince, AreCalmBut, Did, DidSome, HaveGone, openings_of};
 ghost use Rattle.alp_cluster.specs.Steps.{Adds, AddsSome, PlaysOn, BeginsOn};
 
@@ -103,7 +103,7 @@ impl<V: Vault> Cluster<V> {
         requires ours { names_ours (length self.old.parties.stations.all.items) line.now.line ≡ true }
         requires places { length self.old.lists.items ≡ 17 }
         ensures gone { HaveGone V.Vault (is_stop_line line.now.line ≡ false) self.old.parties.stations self.new.parties.stations result }
-        ensures ended { OnEnd result (λ f. (known : Crowd) × AddsSome V.Vault f (length self.old.parties.stations.all.items) self.old.parties.clients known self.old.parties.stations self.new.parties.stations line.now self.old.lists.items self.new.lists.items) }
+        ensures ended { OnEnd result (λ f. (known : Crowd) × AddsSome V.Vault f (length self.old.parties.stations.all.items) self.old.parties.clients known self.old.parties.stations self.new.parties.stations line.now self.old.lists.items self.new.lists.items self.old.text.items self.new.text.items) }
         ensures adds { OnOk result (Adds V.Vault (length self.old.parties.stations.all.items) self.old.parties.clients self.new.parties.clients self.old.parties.stations self.new.parties.stations line.now self.old.lists.items self.new.lists.items self.old.text.items self.new.text.items) }
     {
         self.play_line(line)?;
@@ -117,7 +117,7 @@ impl<V: Vault> Cluster<V> {
         requires ours { names_ours (length self.old.parties.stations.all.items) line.now.line ≡ true }
         requires places { length self.old.lists.items ≡ 17 }
         ensures gone { HaveGone V.Vault (is_stop_line line.now.line ≡ false) self.old.parties.stations self.new.parties.stations result }
-        ensures ended { OnEnd result (λ f. (known : Crowd) × BeginsOn V.Vault f (length self.old.parties.stations.all.items) self.old.parties.clients known self.old.parties.stations self.new.parties.stations line.now self.old.lists.items self.new.lists.items) }
+        ensures ended { OnEnd result (λ f. (known : Crowd) × BeginsOn V.Vault f (length self.old.parties.stations.all.items) self.old.parties.clients known self.old.parties.stations self.new.parties.stations line.now self.old.lists.items self.new.lists.items self.old.text.items self.new.text.items) }
         ensures adds { OnOk result (PlaysOn V.Vault (length self.old.parties.stations.all.items) self.old.parties.clients self.new.parties.clients self.old.parties.stations self.new.parties.stations line.now self.old.lists.items self.new.lists.items self.old.text.items self.new.text.items) }
     {
         match line.line.client() {
@@ -134,7 +134,7 @@ impl<V: Vault> Cluster<V> {
         requires named { client_named line.now.line ≡ Some client }
         requires places { length self.old.lists.items ≡ 17 }
         ensures gone { HaveGone V.Vault (Unit {0}) self.old.parties.stations self.new.parties.stations result }
-        ensures ended { OnEnd result (λ f. (known : Crowd) × BeginsOn V.Vault f (length self.old.parties.stations.all.items) self.old.parties.clients known self.old.parties.stations self.new.parties.stations line.now self.old.lists.items self.new.lists.items) }
+        ensures ended { OnEnd result (λ f. (known : Crowd) × BeginsOn V.Vault f (length self.old.parties.stations.all.items) self.old.parties.clients known self.old.parties.stations self.new.parties.stations line.now self.old.lists.items self.new.lists.items self.old.text.items self.new.text.items) }
         ensures adds { OnOk result (PlaysOn V.Vault (length self.old.parties.stations.all.items) self.old.parties.clients self.new.parties.clients self.old.parties.stations self.new.parties.stations line.now self.old.lists.items self.new.lists.items self.old.text.items self.new.text.items) }
     {
         self.parties.clients.at_line(client, &line.line)?;
@@ -168,6 +168,7 @@ impl<V: Vault> Cluster<V> {
         requires new { HasPlayed V.Vault (servers_said lines.now) [] self.old.parties.clients self.old.parties.stations self.old.lists.items self.old.text.items }
         ensures gone { HaveGone V.Vault (StopNone lines.now) self.old.parties.stations self.new.parties.stations result }
         ensures ended { OnEnd result (λ f. HasEndedEarly V.Vault (servers_said lines.now) lines.now f self.new.parties.stations self.new.lists.items) }
+        ensures printed { OnEnd result (λ f. HasEndedSo V.Vault (servers_said lines.now) lines.now f self.new.parties.stations self.new.lists.items self.new.text.items) }
         ensures openings { OnOk result (openings_of self.new.parties.stations ≡ openings_of self.old.parties.stations) }
         ensures left { OnEnd result (λ _. openings_of self.new.parties.stations ≡ openings_of self.old.parties.stations) }
         ensures calm { OnOk result (AreCalmSince V.Vault self.old.parties.stations self.new.parties.stations) }
@@ -187,6 +188,7 @@ impl<V: Vault> Cluster<V> {
         requires new { HasPlayed V.Vault (servers_said lines.now) [] self.old.parties.clients self.old.parties.stations self.old.lists.items self.old.text.items }
         ensures gone { HaveGone V.Vault (StopNone lines.now) self.old.parties.stations self.new.parties.stations result }
         ensures ended { OnEnd result (λ f. HasEndedEarly V.Vault (servers_said lines.now) lines.now f self.new.parties.stations self.new.lists.items) }
+        ensures printed { OnEnd result (λ f. HasEndedSo V.Vault (servers_said lines.now) lines.now f self.new.parties.stations self.new.lists.items self.new.text.items) }
         ensures openings { OnOk result (openings_of self.new.parties.stations ≡ openings_of self.old.parties.stations) }
         ensures left { OnEnd result (λ _. openings_of self.new.parties.stations ≡ openings_of self.old.parties.stations) }
         ensures calm { OnOk result (AreCalmSince V.Vault self.old.parties.stations self.new.parties.stations) }

@@ -151,7 +151,7 @@ impl<V: Vault> Parties<V> {
         self.send_line(items, client, line, behind)
     }
 
-    /// The line of a client, with its line of the report.
+    /// The line of a client, with its line of the report, which is whole before it is put there.
     pub(crate) fn play_own(
         &mut self,
         items: &mut Vec<Item>,
@@ -163,12 +163,14 @@ impl<V: Vault> Parties<V> {
         requires step { InStep V.Vault self.old.clients self.old.stations }
         requires form { IsForm line.now.line }
         ensures gone { HaveGone V.Vault (Unit {0}) self.old.stations self.new.stations result }
-        ensures ended { OnEnd result (λ f. (xs : List AnItem) × (known : Crowd) × (length xs ≤ 5) × (items.new.items ≡ items.old.items ++ xs) × DidOfLine V.Vault f (length self.old.stations.all.items) self.old.clients known self.old.stations self.new.stations client line.now next.Call xs) }
+        ensures ended { OnEnd result (λ f. (xs : List AnItem) × (known : Crowd) × (length xs ≤ 5) × (items.new.items ≡ items.old.items ++ xs) × (text.new.items ≡ text.old.items) × DidOfLine V.Vault f (length self.old.stations.all.items) self.old.clients known self.old.stations self.new.stations client line.now next.Call xs) }
         ensures did { OnOk result ((xs : List AnItem) × (t : Option (ℕ × ATrans)) × (length xs ≤ 5) × (items.new.items ≡ items.old.items ++ xs) × (text.new.items ≡ text.old.items ++ turns_text (record { line = line.now.number; client = client; items = xs } ∷ [])) × DidLine V.Vault (length self.old.stations.all.items) self.old.clients self.new.clients self.old.stations self.new.stations client line.now next.Call xs t) }
     {
         let before = items.len();
         self.send_line(items, client, line, Next::Call)?;
-        put_line(text, line.number, &items[before..])?;
+        let mut own = Vec::new(self.alloc);
+        put_line(&mut own, line.number, &items[before..])?;
+        text.extend_from_slice(own.as_slice())?;
         Ok(())
     }
 

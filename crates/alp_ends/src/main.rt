@@ -21,5 +21,5 @@ fn main(rt: HostRuntime) -> ExitCode {
         return ExitCode::FAILURE;
     };
     let mut said = WriteSink::new(rt.stdout());
-    ExitCode::from(tell(rt.alloc(), &status, &mut said))
+    ExitCode::from(tell(&status, &mut said))
 }

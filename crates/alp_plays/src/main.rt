@@ -41,9 +41,8 @@ fn tell(rt: HostRuntime, name: &str) -> io::Result<()> {
     };
     let code = status.code();
     if code != 0 {
-        let Ok(said) = status_text(rt.alloc(), &status) else {
-            return Err(io::Error::from(io::ErrorKind::OutOfMemory));
-        };
+        let text = status_text(&status);
+        let said = text.as_str();
         println!(rt; "status {code}: {said}")?;
     }
     Ok(())

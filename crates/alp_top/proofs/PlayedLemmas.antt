@@ -20,12 +20,12 @@ use Rattle.alp_words.specs.Words.{folder_named, IsNamedBy}
 use Rattle.alp_words.specs.declared.command.Command.{Command}
 use Rattle.alp_words.specs.declared.command.Command.TheVariants as command
 use Rattle.alp_top.specs.Anywhere.{IsPlayedThrough, HasReported, IsDeclared, IsLimitOf}
-use Rattle.alp_top.specs.Commands.{AreToPlay, shows_lines}
+use Rattle.alp_top.specs.Commands.{AreToPlay, shows_lines, shown_as}
 use Rattle.alp_top.specs.Limits.{IsEndTold}
 use Rattle.alp_top.specs.Besides.{HasLawsFor, IsRunOf}
-use Rattle.alp_top.specs.Headline.{IsPlayed}
+use Rattle.alp_top.specs.Headline.{Lines, Correct, IsPlayed}
 use Rattle.alp_top.specs.Logs.{Log}
-use Rattle.alp_top.specs.Statuses.{OnBayFault, OnTooLong, OnBadDisk, OnUntaken, OnNoLines, Kept, OnDone, OnWriteFault, OnReport, OnLog, OnCutShort, ended_by, folder_in, IsFolderTold, IsBayFaultTold, OnDiskFault, IsHandedOver, IsPlayedOrMemory, IsReadFaultTold, IsWriteFaultTold}
+use Rattle.alp_top.specs.Statuses.{OnBayFault, OnTooLong, OnBadDisk, OnUntaken, OnNoLines, Kept, OnDone, OnWriteFault, OnReport, OnCutShort, ended_by, folder_in, IsFolderTold, IsBayFaultTold, OnDiskFault, IsHandedOver, IsPlayedOrMemory, IsReadFaultTold, IsWriteFaultTold}
 use Rattle.alp_top.specs.Volumes.{pages_of, HasRunCause, IsBayFault, IsFolderLeft, IsOfServers, IsStartable, StartsOn}
 use Rattle.alp_top.specs.declared.fault.NoReport.{NoReport}
 use Rattle.alp_top.specs.declared.fault.NoReport.TheVariants as fault
@@ -42,28 +42,26 @@ pub through_shown : {V : Type 0} (G : VaultGhosts V) (a b : Bool) (lines : List 
 through_shown G a b lines log text same h = subst (λ (d : Bool). IsPlayedThrough G d lines log text) same h
 
 module _ {V D : Type 0} (G : VaultGhosts V) (g : Ghosts D) (words : List (List ℕ)) (c : Command) (named : IsNamedBy words c) (old new : Option (List ℕ)) (before after : ℕ → Option D) (lines : List NumberedLine) (log : Log V) (text : List ℕ) (script : AreToPlay c old new lines) (x : IsRunOf G g (shows_lines c) lines log text before after) where
-  -- it is a run of the command's lines, where this was written of the text
-  pub is_played : (Written : List ℕ → Type 0) → Written text → IsPlayed G g words old new before after Written log
-  is_played Written out = record {
-    command = c;
-    named = named;
-    lines = lines;
-    script = script;
-    holds = record {
-      output = subst Written x.correct.output out;
-      faithful = x.correct.faithful;
-      lawful = x.correct.lawful;
-      stored = x.correct.stored;
-      serial = x.correct.serial;
-      whole = x.correct.whole;
-      kept = x.correct.kept;
-      charged = x.correct.charged;
-    };
+  -- it is correct, where this was written of the text
+  is_correct : (Written : List ℕ → Type 0) → Written text → Correct G g (Lines (shown_as (shows_lines c)) lines) Written before after log
+  is_correct Written out = record {
+    output = subst Written x.correct.output out;
+    faithful = x.correct.faithful;
+    lawful = x.correct.lawful;
+    stored = x.correct.stored;
+    serial = x.correct.serial;
+    whole = x.correct.whole;
+    kept = x.correct.kept;
+    charged = x.correct.charged;
   }
 
-  -- and the laws hold of it
-  pub has_laws : HasLawsFor G g words old new before after log
-  has_laws = record { command = c; named = named; lines = lines; script = script; holds = x.laws }
+  -- it is a run of the command's lines
+  pub is_played : (Written : List ℕ → Type 0) → Written text → IsPlayed G g words old new before after Written log
+  is_played Written out = record { command = c; named = named; lines = lines; script = script; holds = is_correct Written out }
+
+  -- and the laws hold of the same lines
+  pub has_laws : (Written : List ℕ → Type 0) → Written text → HasLawsFor G g words old new before after Written log
+  has_laws Written out = record { command = c; named = named; lines = lines; script = script; holds = record { correct = is_correct Written out; laws = x.laws } }
 
 -- what was written of any run
 module _ {V : Type 0} (G : VaultGhosts V) (words : List (List ℕ)) (c : Command) (named : IsNamedBy words c) (old new : Option (List ℕ)) (lines : List NumberedLine) (log : Log V) (text : List ℕ) (script : AreToPlay c old new lines) (through : IsPlayedThrough G (shows_lines c) lines log text) where
@@ -114,19 +112,6 @@ module _ {D : Type 0} {g : Ghosts D} where
     reported (status.TooLong limit) P done cut f = tt
     reported (status.NotAVolume server found) P done cut f = tt
     reported (status.Damaged server place) P done cut f = tt
-
-    -- of its log
-    pub logged : (s : Status D g) (P : Log (Kept D g) → Type 0) → OnDone s (λ l. (l ≡ log) × Appends wrote written text) → OnWriteFault s (λ l. (l ≡ log) × (count : ℕ) × Appends wrote written (take count text)) → P log → OnLog s P
-    logged (status.Done l) P done cut h = subst P (sym done.0) h
-    logged (status.WriteFault l) P done cut h = subst P (sym cut.0) h
-    logged status.BadWords P done cut h = tt
-    logged (status.BadScript line) P done cut h = tt
-    logged status.ReadFault P done cut h = tt
-    logged (status.DiskFault server) P done cut h = tt
-    logged status.OutOfMemory P done cut h = tt
-    logged (status.TooLong limit) P done cut h = tt
-    logged (status.NotAVolume server found) P done cut h = tt
-    logged (status.Damaged server place) P done cut h = tt
 
   -- ---- the bay or the disk ended the run
 
@@ -180,18 +165,6 @@ module _ {D : Type 0} {g : Ghosts D} where
   not_reported s f wrote written P is = subst (λ (q : Status D g). OnReport q wrote written P) (sym is) (go f)
     where
       go : (f : NoReport) → OnReport (ended_by {D = D} {g = g} f) wrote written P
-      go fault.Bay = tt
-      go (fault.Disk server) = tt
-      go fault.OutOfMemory = tt
-      go fault.JournalFull = tt
-      go (fault.EpochEnd server) = tt
-      go (fault.NotAVolume server found) = tt
-      go (fault.Damaged server place) = tt
-
-  pub not_logged : (s : Status D g) (f : NoReport) (P : Log (Kept D g) → Type 0) → s ≡ ended_by f → OnLog s P
-  not_logged s f P is = subst (λ (q : Status D g). OnLog q P) (sym is) (go f)
-    where
-      go : (f : NoReport) → OnLog (ended_by {D = D} {g = g} f) P
       go fault.Bay = tt
       go (fault.Disk server) = tt
       go fault.OutOfMemory = tt

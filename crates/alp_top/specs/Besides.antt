@@ -17,7 +17,7 @@ use Rattle.alp_vault.specs.declared.vault.Vault.{Ghosts}
 use Rattle.alp_course.specs.Courses.{IsOneOf}
 use Rattle.alp_cluster.specs.Servers.{IsDone}
 use Rattle.alp_top.specs.Commands.{shown_as}
-use Rattle.alp_top.specs.Headline.{Lines, lines_of, Correct, OfPlay}
+use Rattle.alp_top.specs.Headline.{Play, Lines, lines_of, Correct, OfPlay}
 use Rattle.alp_top.specs.Logs.{Log, ServerOfLog, openings, start_of, log_of}
 use Rattle.alp_top.specs.Reports.{Shown, end_of, report_for, tallied_for}
 use Rattle.alp_top.specs.Together.{BeginsSound, GoTogether}
@@ -105,11 +105,16 @@ pub record HasLaws {V D : Type 0} (G : Ghosts V) (g : DiskGhosts D) (lines : Lis
   pub rest : BeginsSound (log_of G log) → AreAtRest (log_of G log)
   pub from_disks : AreFromDisks G g lines log before after
 
--- of the lines of a command
-abbrev pub HasLawsFor : {V D : Type 0} → Ghosts V → DiskGhosts D → (words : List (List ℕ)) → (old new : Option (List ℕ)) → (before after : ℕ → Option D) → Log V → Type 0
-HasLawsFor G g words old new before after log = OfPlay words old new (λ play. HasLaws G g (lines_of play) before after log)
-
 -- ---- a run
+
+-- it is correct as the log of a play, and the laws hold besides
+pub record IsRunFor {V D : Type 0} (G : Ghosts V) (g : DiskGhosts D) (play : Play) (Written : List ℕ → Type 0) (before after : ℕ → Option D) (log : Log V) : Type 0 where
+  pub correct : Correct G g play Written before after log
+  pub laws : HasLaws G g (lines_of play) before after log
+
+-- The lines of a command were played: `IsPlayed` holds of them, and the laws do of the same lines.
+abbrev pub HasLawsFor : {V D : Type 0} → Ghosts V → DiskGhosts D → (words : List (List ℕ)) → (old new : Option (List ℕ)) → (before after : ℕ → Option D) → (Written : List ℕ → Type 0) → Log V → Type 0
+HasLawsFor G g words old new before after Written log = OfPlay words old new (λ play. IsRunFor G g play Written before after log)
 
 -- this is the text
 abbrev pub IsText : List ℕ → List ℕ → Type 0
@@ -117,6 +122,5 @@ IsText text said = text ≡ said
 
 -- A run of these lines on the disks of a bay left the log, and the text is its report, with the lines of the clients or without. It is correct, and the
 -- laws hold besides.
-pub record IsRunOf {V D : Type 0} (G : Ghosts V) (g : DiskGhosts D) (shows : Bool) (lines : List NumberedLine) (log : Log V) (text : List ℕ) (before after : ℕ → Option D) : Type 0 where
-  pub correct : Correct G g (Lines (shown_as shows) lines) (IsText text) before after log
-  pub laws : HasLaws G g lines before after log
+abbrev pub IsRunOf : {V D : Type 0} → Ghosts V → DiskGhosts D → (shows : Bool) → (lines : List NumberedLine) → Log V → (text : List ℕ) → (before after : ℕ → Option D) → Type 0
+IsRunOf G g shows lines log text before after = IsRunFor G g (Lines (shown_as shows) lines) (IsText text) before after log

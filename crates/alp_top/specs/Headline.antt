@@ -141,7 +141,7 @@ pub record Correct {V D : Type 0} (G : Ghosts V) (g : DiskGhosts D) (play : Play
   pub stored : AreReturned g (lines_of play) (servers_said (lines_of play)) before after (IsStoredBy G g (lines_of play) log)
   -- one thread does the transactions one after the other, and ends in the files of the disks
   pub serial : BeginsSound (log_of G log) → IsSerial (log_of G log) (λ n m. (here : IsOneOf (servers_said (lines_of play)) n) → (stored.each n here).left.held.cells ≡ m)
-  -- everywhere or nowhere
+  -- all parts of each of them were applied
   pub whole : BeginsSound (log_of G log) → AreEverywhere (log_of G log)
   -- what a client is told of a commit is so, and its next transaction comes behind that
   pub kept : BeginsSound (log_of G log) → ArePromisesKept (log_of G log)

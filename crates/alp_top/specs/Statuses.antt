@@ -24,9 +24,9 @@ use Rattle.alp_top.specs.declared.status.Status.TheVariants as status
 abbrev pub Kept : (D : Type 0) → Ghosts D → Type 0
 Kept D g = StoreOf (Fuse D g)
 
--- The line was written whole; or nothing was, since memory was wanting; or a part of it, and then a fault came.
-abbrev pub SaysLine : Type 0 → (written_before written : Option (List ℕ)) → (faults_before faults : ℕ) → List ℕ → Type 0
-SaysLine Same written_before written faults_before faults line = Same ⊎ Appends written_before written line ⊎ (Rose faults_before faults × (count : ℕ) × Appends written_before written (take count line))
+-- The line was written whole, or a part of it, and then a fault came.
+abbrev pub SaysLine : (written_before written : Option (List ℕ)) → (faults_before faults : ℕ) → List ℕ → Type 0
+SaysLine written_before written faults_before faults line = Appends written_before written line ⊎ (Rose faults_before faults × (count : ℕ) × Appends written_before written (take count line))
 
 module _ {D : Type 0} {g : Ghosts D} where
   abbrev pub code_of : Status D g → ℕ
@@ -78,12 +78,6 @@ module _ {D : Type 0} {g : Ghosts D} where
   OnReport (status.Done log) written_before written P = P (λ text. Appends written_before written text) log.value
   OnReport (status.WriteFault log) written_before written P = P (λ text. (count : ℕ) × Appends written_before written (take count text)) log.value
   OnReport _ written_before written P = Unit {0}
-
-  -- of the log alone
-  abbrev pub OnLog : Status D g → (Log (Kept D g) → Type 0) → Type 0
-  OnLog (status.Done log) P = P log.value
-  OnLog (status.WriteFault log) P = P log.value
-  OnLog _ P = Unit {0}
 
   -- bad words are told just where they are bad, unless memory is wanting
   abbrev pub AreWordsTold : Bool → Status D g → Type 0

@@ -14,5 +14,5 @@ mod telling;
 mod write_all;
 
 pub use run::run_alpine;
-pub use status::{Kept, Status, status_text};
+pub use status::{Kept, Status, StatusText, status_text};
 pub use telling::tell;

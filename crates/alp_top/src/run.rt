@@ -9,7 +9,7 @@ ghost use Rattle.alp_top.specs.Anywhere.{IsToldAnywhere};
 ghost use Rattle.alp_top.specs.Commands.{AreToPlay, HasNoLines, IsWithoutLines, HasFewRounds, OnMade, shows_lines};
 ghost use Rattle.alp_top.specs.Besides.{HasLawsFor};
 ghost use Rattle.alp_top.specs.Headline.{IsPlayed, HasCause, StartsHere, HasLinesFor};
-ghost use Rattle.alp_top.specs.Statuses.{AreWordsTold, IsTold, OnDone, OnReport, OnLog, OnBadWords, OnNoLines, OnWriteFault, OnCutShort, OnUntaken, folder_in, IsReadFaultTold, IsWriteFaultTold, IsBayFaultTold, IsFolderTold, OnUnwritten, IsPlayedOrMemory, IsHandedOver};
+ghost use Rattle.alp_top.specs.Statuses.{AreWordsTold, IsTold, OnDone, OnReport, OnBadWords, OnNoLines, OnWriteFault, OnCutShort, OnUntaken, folder_in, IsReadFaultTold, IsWriteFaultTold, IsBayFaultTold, IsFolderTold, OnUnwritten, IsPlayedOrMemory, IsHandedOver};
 ghost use Rattle.alp_words.specs.Words.{are_bad, folder_named, name_named};
 
 use crate::bay::run_bay;
@@ -147,11 +147,11 @@ pub fn run_alpine<S: Source, K: Sink, B: Bay>(
     bay: &mut B,
 ) -> Status<B::Device>
     // The headline: what is written is the report of a run of the script, or a prefix of it where that failed, and the disks are given back with what
-    // its journals leave. Where the disks go together the committed transactions are one thread's history, each everywhere or nowhere, and what that
+    // its journals leave. Where the disks go together the committed transactions are one thread's history, each with all of its parts, and what that
     // ends in stands on the disks that are given back.
     ensures headline { IsTold (map string_bytes words.now) (B.tells bay.new) → OnReport result (K.written out.old) (K.written out.new) (IsPlayed ⟦<Store<Fuse<B::Device>> as Vault>⟧ B.Device.Disk (map string_bytes words.now) (S.left script.old) (S.left script.new) (B.at bay.old) (B.at bay.new)) }
-    // Beside it: each reply has its cause, stamps go by locks, each transaction finds what the latest one left, and the disks go together again.
-    ensures laws { IsTold (map string_bytes words.now) (B.tells bay.new) → OnLog result (HasLawsFor ⟦<Store<Fuse<B::Device>> as Vault>⟧ B.Device.Disk (map string_bytes words.now) (S.left script.old) (S.left script.new) (B.at bay.old) (B.at bay.new)) }
+    // The same of the same lines, and beside it: each reply has its cause, stamps go by locks, each transaction finds what the latest one left, and the disks go together again.
+    ensures laws { IsTold (map string_bytes words.now) (B.tells bay.new) → OnReport result (K.written out.old) (K.written out.new) (HasLawsFor ⟦<Store<Fuse<B::Device>> as Vault>⟧ B.Device.Disk (map string_bytes words.now) (S.left script.old) (S.left script.new) (B.at bay.old) (B.at bay.new)) }
     // The words are told bad just where the program's command line has no such words, and then nothing is read.
     ensures words { AreWordsTold (are_bad (map string_bytes words.now)) result × OnBadWords result (script.new ≡ script.old) }
     // Of a script that line of what the source gave is the first outside the language, or the lines are too many, or the source failed, which is

@@ -1,17 +1,16 @@
 //! How a run ended.
-ghost use Rattle.std.specs.Prelude.{◌≡◌, ◌++◌, codes, IfOk, string_bytes};
+ghost use Rattle.std.specs.Prelude.{◌≡◌, ◌≤◌, ◌+◌, ◌++◌, length, codes};
 ghost use Rattle.std.specs.Fmt.{decimal};
 ghost use Rattle.alp_top.specs.Statuses.{code_of, status_said, ended_by as ended_by_said};
 
 use crate::fault::NoReport;
-use alp_base::OutOfMemory;
 use alp_cluster::JOURNAL_ENTRIES_MOST;
 use alp_disk::{Disk, Fuse};
 use alp_journal::RunLog;
 use alp_node::Opened;
 use alp_store::Store;
-use std::alloc::Global;
-use std::fmt::Write;
+use arrayvec::ArrayString;
+use itoa::Buffer;
 use std::snapshot::Snapshot;
 
 /// What a server of a run was started on: its vault on a disk that may be stopped.
@@ -85,54 +84,68 @@ pub fn ended_by<D: Disk>(fault: NoReport) -> Status<D>
     }
 }
 
-fn plain_text(alloc: Global, said: &str) -> Result<String, OutOfMemory>
-    ensures { IfOk result (λ text. string_bytes text ≡ said.now) }
+/// What is said of a status: the longest text has 43 bytes.
+pub type StatusText = ArrayString<64>;
+
+fn plain_text(said: &str) -> StatusText
+    requires { length said.now ≤ 32 }
+    ensures { result.bytes ≡ said.now }
 {
-    let mut text = String::new(alloc);
-    text.push_str(said)?;
-    Ok(text)
+    let mut text = ArrayString::new();
+    text.push_str(said);
+    text
 }
 
-// A text that ends in a number.
-fn numbered_text(alloc: Global, said: &str, number: u32) -> Result<String, OutOfMemory>
-    ensures { IfOk result (λ text. string_bytes text ≡ said.now ++ decimal number) }
+// Appends some words and then a number.
+fn push_numbered(text: &mut StatusText, said: &str, number: u32)
+    requires { length text.old.bytes + length said.now ≤ 48 }
+    ensures bytes { text.new.bytes ≡ text.old.bytes ++ said.now ++ decimal number }
+    ensures short { length text.new.bytes ≤ length text.old.bytes + length said.now + 10 }
 {
-    let mut text = String::new(alloc);
-    text.push_str(said)?;
-    match write!(text, "{number}") {
-        Ok(()) => Ok(text),
-        Err(_) => Err(OutOfMemory),
-    }
+    let mut digits = Buffer::new();
+    text.push_str(said);
+    text.push_str(digits.format(number));
 }
 
-fn damaged_text(alloc: Global, server: u8, place: u32) -> Result<String, OutOfMemory>
-    ensures { IfOk result (λ text. string_bytes text ≡ codes "alpine: damaged server " ++ decimal server ++ codes " place " ++ decimal place) }
+// Some words and then a number.
+fn numbered_text(said: &str, number: u32) -> StatusText
+    requires { length said.now ≤ 32 }
+    ensures bytes { result.bytes ≡ said.now ++ decimal number }
+    ensures short { length result.bytes ≤ length said.now + 10 }
 {
-    let mut text = String::new(alloc);
-    match write!(text, "alpine: damaged server {server} place {place}") {
-        Ok(()) => Ok(text),
-        Err(_) => Err(OutOfMemory),
-    }
+    let mut text = ArrayString::new();
+    push_numbered(&mut text, said, number);
+    text
 }
 
-/// What the program says of the status on standard error: nothing where the run is done.
-pub fn status_text<D: Disk>(alloc: Global, status: &Status<D>) -> Result<String, OutOfMemory>
-    ensures { IfOk result (λ text. string_bytes text ≡ status_said status.now) }
+fn damaged_text(server: u8, place: u32) -> StatusText
+    ensures bytes { result.bytes ≡ codes "alpine: damaged server " ++ decimal server ++ codes " place " ++ decimal place }
+    ensures short { length result.bytes ≤ 60 }
+{
+    let mut text = numbered_text("alpine: damaged server ", server as u32);
+    push_numbered(&mut text, " place ", place);
+    text
+}
+
+/// What the program says of the status on standard error: nothing where the run is done. Takes no memory.
+pub fn status_text<D: Disk>(status: &Status<D>) -> StatusText
+    ensures text { result.bytes ≡ status_said status.now }
+    ensures short { length result.bytes ≤ 60 }
 {
     match status {
-        Status::Done { log: _ } => plain_text(alloc, ""),
-        Status::BadWords => plain_text(alloc, "alpine: bad words"),
-        Status::BadScript { line } => numbered_text(alloc, "alpine: bad script line ", *line),
-        Status::ReadFault => plain_text(alloc, "alpine: read fault"),
-        Status::WriteFault { log: _ } => plain_text(alloc, "alpine: write fault"),
+        Status::Done { log: _ } => plain_text(""),
+        Status::BadWords => plain_text("alpine: bad words"),
+        Status::BadScript { line } => numbered_text("alpine: bad script line ", *line),
+        Status::ReadFault => plain_text("alpine: read fault"),
+        Status::WriteFault { log: _ } => plain_text("alpine: write fault"),
         Status::DiskFault { server } => {
-            numbered_text(alloc, "alpine: disk fault server ", *server as u32)
+            numbered_text("alpine: disk fault server ", *server as u32)
         }
-        Status::OutOfMemory => plain_text(alloc, "alpine: out of memory"),
-        Status::TooLong { limit } => numbered_text(alloc, "alpine: too long ", *limit),
+        Status::OutOfMemory => plain_text("alpine: out of memory"),
+        Status::TooLong { limit } => numbered_text("alpine: too long ", *limit),
         Status::NotAVolume { server, found: _ } => {
-            numbered_text(alloc, "alpine: not a volume server ", *server as u32)
+            numbered_text("alpine: not a volume server ", *server as u32)
         }
-        Status::Damaged { server, place } => damaged_text(alloc, *server, *place),
+        Status::Damaged { server, place } => damaged_text(*server, *place),
     }
 }

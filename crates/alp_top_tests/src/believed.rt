@@ -2,7 +2,7 @@
 ghost use Rattle.std.specs.Prelude.{map, string_bytes};
 ghost use Rattle.alp_top.specs.Besides.{HasLawsFor};
 ghost use Rattle.alp_top.specs.Headline.{IsPlayed};
-ghost use Rattle.alp_top.specs.Statuses.{OnReport, OnLog};
+ghost use Rattle.alp_top.specs.Statuses.{OnReport};
 
 use alp_base::{Sink, Source};
 use alp_bay::Bay;
@@ -23,7 +23,7 @@ pub fn run_believed<S: Source, K: Sink, B: Bay + Drop>(
     bay: &mut BelievedBay<B>,
 ) -> Status<Believed<B::Device>>
     ensures headline { OnReport result (K.written out.old) (K.written out.new) (IsPlayed ⟦<Store<Fuse<Believed<B::Device>>> as Vault>⟧ ⟦<Believed<B::Device> as Disk>⟧ (map string_bytes words.now) (S.left script.old) (S.left script.new) (⟦<BelievedBay<B> as Bay>⟧.at bay.old) (⟦<BelievedBay<B> as Bay>⟧.at bay.new)) }
-    ensures laws { OnLog result (HasLawsFor ⟦<Store<Fuse<Believed<B::Device>>> as Vault>⟧ ⟦<Believed<B::Device> as Disk>⟧ (map string_bytes words.now) (S.left script.old) (S.left script.new) (⟦<BelievedBay<B> as Bay>⟧.at bay.old) (⟦<BelievedBay<B> as Bay>⟧.at bay.new)) }
+    ensures laws { OnReport result (K.written out.old) (K.written out.new) (HasLawsFor ⟦<Store<Fuse<Believed<B::Device>>> as Vault>⟧ ⟦<Believed<B::Device> as Disk>⟧ (map string_bytes words.now) (S.left script.old) (S.left script.new) (⟦<BelievedBay<B> as Bay>⟧.at bay.old) (⟦<BelievedBay<B> as Bay>⟧.at bay.new)) }
 {
     run_alpine(alloc, words, script, out, bay)
 }

@@ -11,7 +11,7 @@ mod storms;
 
 use alp_base::{MemSink, MemSource};
 use alp_bay::{Bay, MemBay};
-use alp_top::{run_alpine, status_text};
+use alp_top::{StatusText, run_alpine, status_text};
 use std::alloc::Global;
 use std::test::Fail;
 
@@ -75,7 +75,7 @@ fn calls(alloc: Global, each: u64) -> Result<Vec<u64>, Fail> {
 #[derive(Drop)]
 struct Told {
     code: u8,
-    said: String,
+    said: StatusText,
     written: Vec<u8>,
 }
 
@@ -106,7 +106,7 @@ fn run_in<B: Bay>(
     let status = run_alpine(alloc, &words, &mut script, &mut out, bay);
     Ok(Told {
         code: status.code(),
-        said: status_text(alloc, &status)?,
+        said: status_text(&status),
         written: out.into_bytes(),
     })
 }

@@ -191,3 +191,12 @@ storm_lacks_seed rows e = from_seed rows (none_of (is_some (number_in 0 18446744
 
 pub storm_lacks_patience : (rows : List Row) → number_in 1 1000 (first_of (codes "patience") rows) ≡ None → lacks_of_storm rows ≡ true
 storm_lacks_patience rows e = from_seed rows (and_right (is_some (number_in 0 18446744073709551615 (first_of (codes "seed") rows))) (patience_there rows) (ap is_some e))
+
+-- ---- all numbers are there
+
+pub drill_has_both : (rows : List Row) (seed size : ℕ) → number_in 0 18446744073709551615 (first_of (codes "seed") rows) ≡ Some seed → number_in 1 5000 (first_of (codes "size") rows) ≡ Some size → lacks_in rows ≡ false
+drill_has_both rows seed size a b = λ i. not (is_some (a i) && is_some (b i))
+
+pub storm_has_all : (rows : List Row) (servers clients size seed patience : ℕ) → number_in 1 8 (first_of (codes "servers") rows) ≡ Some servers → number_in 1 15 (first_of (codes "clients") rows) ≡ Some clients → number_in 1 200 (first_of (codes "size") rows) ≡ Some size
+    → number_in 0 18446744073709551615 (first_of (codes "seed") rows) ≡ Some seed → number_in 1 1000 (first_of (codes "patience") rows) ≡ Some patience → lacks_of_storm rows ≡ false
+storm_has_all rows servers clients size seed patience a b c d e = λ i. not (is_some (a i) && (is_some (b i) && (is_some (c i) && (is_some (d i) && is_some (e i)))))

@@ -87,10 +87,12 @@ fn number_in(matches: &ArgMatches, option: &str, least: u64, most: u64) -> Optio
 }
 
 // The drill that stands in the matches of its command.
-#[tactic(auto, using(crate::proofs::Named::lacks_seed, crate::proofs::Named::lacks_size))]
+#[tactic(auto, using(crate::proofs::Named::lacks_seed, crate::proofs::Named::lacks_size, crate::proofs::Named::drill_has_both))]
 fn drill_in(alloc: Global, matches: &ArgMatches) -> Result<Command, WordsFault>
     ensures made { IfOk result (IsDrillOf (rows_of (found_of matches.now))) }
     ensures bad { IfErr result (λ fault. fault ≡ WordsFault.Bad → lacks_in (rows_of (found_of matches.now)) ≡ true) }
+    // Want of memory is told only where no number is missing.
+    ensures wanting { IfErr result (λ fault. fault ≡ WordsFault.OutOfMemory → lacks_in (rows_of (found_of matches.now)) ≡ false) }
 {
     let Some(seed) = number_in(matches, "seed", 0, u64::MAX) else {
         return Err(WordsFault::Bad);
@@ -107,10 +109,11 @@ fn drill_in(alloc: Global, matches: &ArgMatches) -> Result<Command, WordsFault>
 }
 
 // The storm that stands in the matches of its command.
-#[tactic(auto, using(crate::proofs::Named::storm_lacks_servers, crate::proofs::Named::storm_lacks_clients, crate::proofs::Named::storm_lacks_size, crate::proofs::Named::storm_lacks_seed, crate::proofs::Named::storm_lacks_patience))]
+#[tactic(auto, using(crate::proofs::Named::storm_lacks_servers, crate::proofs::Named::storm_lacks_clients, crate::proofs::Named::storm_lacks_size, crate::proofs::Named::storm_lacks_seed, crate::proofs::Named::storm_lacks_patience, crate::proofs::Named::storm_has_all))]
 fn storm_in(alloc: Global, matches: &ArgMatches) -> Result<Command, WordsFault>
     ensures made { IfOk result (IsStormOf (rows_of (found_of matches.now))) }
     ensures bad { IfErr result (λ fault. fault ≡ WordsFault.Bad → lacks_of_storm (rows_of (found_of matches.now)) ≡ true) }
+    ensures wanting { IfErr result (λ fault. fault ≡ WordsFault.OutOfMemory → lacks_of_storm (rows_of (found_of matches.now)) ≡ false) }
 {
     let Some(servers) = number_in(matches, "servers", 1, SERVERS_MOST) else {
         return Err(WordsFault::Bad);

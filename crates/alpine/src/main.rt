@@ -33,5 +33,5 @@ fn run(rt: HostRuntime) -> Status<HostDisk> {
 fn main(rt: HostRuntime) -> ExitCode {
     let status = run(rt);
     let mut err = WriteSink::new(rt.stderr());
-    ExitCode::from(tell(rt.alloc(), &status, &mut err))
+    ExitCode::from(tell(&status, &mut err))
 }

@@ -123,7 +123,10 @@ fn reply(alloc: Global, reply: Reply) -> Result<Option<Bytes>, OutOfMemory>
     Ok(Some(encode_reply(alloc, &frame)?))
 }
 
-// Client 2, and what the words of the script stand for.
+// What threads may share and hand over.
+fn crosses<T: Send + Sync>(_value: &T) {}
+
+// Client 2, and what the words of the script stand for. A client crosses threads.
 #[derive(Drop)]
 struct Desk {
     client: Client,
@@ -134,6 +137,7 @@ impl Desk {
     // Nobody was greeted, and the client is ann.
     fn new(alloc: Global) -> Result<Desk, Fail> {
         let mut client = Client::new(alloc);
+        crosses(&client);
         client.name = name(b"ann")?;
         Ok(Desk {
             client,

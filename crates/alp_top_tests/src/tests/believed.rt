@@ -33,7 +33,7 @@ fn run_there(alloc: Global, folder: &str, text: &[u8], bay: &mut Bay) -> Result<
     let status = run_believed(alloc, &words, &mut script, &mut out, bay);
     Ok(Told {
         code: status.code(),
-        said: status_text(alloc, &status)?,
+        said: status_text(&status),
         written: out.into_bytes(),
     })
 }

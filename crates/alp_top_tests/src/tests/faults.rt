@@ -64,7 +64,7 @@ fn end_of(alloc: Global, asked: &[&str], room: u32) -> Result<(u8, Vec<u8>), Fai
     let mut bay = MemBay::new(alloc)?;
     let status = run_alpine(alloc, &words, &mut script, &mut out, &mut bay);
     let mut err = MemSink::new(alloc, room, Vec::new(alloc))?;
-    let code = tell(alloc, &status, &mut err);
+    let code = tell(&status, &mut err);
     Ok((code, err.into_bytes()))
 }
 

@@ -45,7 +45,7 @@ returns-in_err-reply-clause-gone g c =
 pub returns-in_err-reply-clause-ended : goal.returns-in_err-reply-clause-ended
 returns-in_err-reply-clause-ended g c =
     end_any fault.OutOfMemory c.from_residual.result _ (handed_on fault.OutOfMemory c.from_residual.result c.from_residual.ensures.0 c.from_residual.ensures.1)
-    (wanting_left g.V.Vault c.args.node.now c.step.new.self c.step.ensures.opening c.step.ensures.seat c.in_err-reply.ensures.err)
+    (wanting_left g.V.Vault c.args.node.now c.step.new.self c.step.ensures.opening c.step.ensures.seat c.in_err-reply.ensures.err c.in_err-reply.ensures.still)
 
 -- ---- it took the step
 

@@ -8,7 +8,7 @@ use Rattle.alp_top.specs.Commands.{AreToPlay}
 use Rattle.alp_top.specs.Headline.{HasCause}
 use Rattle.alp_top.specs.Volumes.{IsFolderLeft}
 use Rattle.alp_top.proofs.CommandLemmas.{few_rounds}
-use Rattle.alp_top.proofs.PlayedLemmas.{run_shown, through_shown, is_played, has_laws, reported, logged, done_then, cut_then, caused, folder_left, handed_folder, disk_counted, handed_counted, has_reported, has_reported_part, handed_limits, handed_bay, bay_asked, handed_disk, not_done, not_cut, limited, of_declared, bay_told, read_well, wrote_well, named_folder, folder_told, plays_on, had_lines, not_untaken}
+use Rattle.alp_top.proofs.PlayedLemmas.{run_shown, through_shown, is_played, has_laws, reported, done_then, cut_then, caused, folder_left, handed_folder, disk_counted, handed_counted, has_reported, has_reported_part, handed_limits, handed_bay, bay_asked, handed_disk, not_done, not_cut, limited, of_declared, bay_told, read_well, wrote_well, named_folder, folder_told, plays_on, had_lines, not_untaken}
 use Rattle.alp_top.proofs.run.run_alpine.Goals as goal
 
 pub lines_of-requires : goal.lines_of-requires
@@ -36,8 +36,8 @@ returns-in-Ok-run_bay-clause-laws g c told =
     let script : AreToPlay c.in-Ok.command (g.S.Source.left c.args.script.now) (g.S.Source.left c.lines_of.new.script) lines = subst (AreToPlay c.in-Ok.command _ _) (sym c.deref-played.ensures.value) c.in-Ok-lines_of.ensures.lines in
     let asked = folder_told (λ name. name.now) c.folder_of.result _ _ (c.folder_of.ensures ∙ named_folder _ c.in-Ok.command c.in-Ok.ensures.named) told in
     let ended = c.in-Ok-run_bay.ended in
-    logged _ _ ended.text.items ended.log c.hand_over.result _ c.hand_over.ensures.done c.hand_over.ensures.cut_off
-    (has_laws _ g.B.Device.Disk _ c.in-Ok.command c.in-Ok.ensures.named _ _ _ _ lines ended.log ended.text.items script (run_shown _ g.B.Device.Disk _ _ lines ended.log ended.text.items _ _ c.shows.ensures (c.in-Ok-run_bay.ensures.ran asked)))
+    reported _ _ ended.text.items ended.log c.hand_over.result _ c.hand_over.ensures.done c.hand_over.ensures.cut_off
+    (λ Written out. has_laws _ g.B.Device.Disk _ c.in-Ok.command c.in-Ok.ensures.named _ _ _ _ lines ended.log ended.text.items script (run_shown _ g.B.Device.Disk _ _ lines ended.log ended.text.items _ _ c.shows.ensures (c.in-Ok-run_bay.ensures.ran asked)) Written out)
 
 pub returns-in-Ok-run_bay-clause-any_bay : goal.returns-in-Ok-run_bay-clause-any_bay
 returns-in-Ok-run_bay-clause-any_bay g c =

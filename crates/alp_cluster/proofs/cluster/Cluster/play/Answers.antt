@@ -10,7 +10,7 @@ use Rattle.alp_cluster.specs.Steps.{Adds, AddsSome}
 use Rattle.alp_cluster.proofs.DidLemmas.{calm_none, calm_both, gone_none, gone_both, all_where, all_on}
 use Rattle.alp_cluster.proofs.GoneLemmas.{end_on, handed_on}
 use Rattle.alp_cluster.proofs.LeftLemmas.{split_at, end_opened, end_calm, calm_then}
-use Rattle.alp_cluster.proofs.RunLemmas.{front_at, front_long, at_place, played_more, line_ended}
+use Rattle.alp_cluster.proofs.RunLemmas.{front_at, front_long, at_place, played_more, line_ended, line_ended_so}
 use Rattle.alp_cluster.proofs.cluster.Cluster.play.Goals as goal
 
 pub loop-line-init : goal.loop-line-init
@@ -55,8 +55,26 @@ returns-in_err-play_step-clause-ended g c =
     end_on c.in_err-play_step.field-0.0 c.from_residual.result _ _ (handed_on c.in_err-play_step.field-0.0 c.from_residual.result c.from_residual.ensures.0 c.from_residual.ensures.1)
     (λ f h.
     let (known, some) = h in
-    line_ended g.V.Vault (servers_said ls) (take i ls) q.parties.clients q.parties.stations z q.lists.items q.text.items c.loop-line.invariant.played ls l (drop (i + 1) ls) known f c.play_step.new.self.lists.items (split_at ls i l front) short
-    (subst (λ (n : ℕ). AddsSome g.V.Vault f n q.parties.clients known q.parties.stations z l q.lists.items c.play_step.new.self.lists.items) c.loop-line.invariant.played.count some))
+    line_ended g.V.Vault (servers_said ls) (take i ls) q.parties.clients q.parties.stations z q.lists.items q.text.items c.loop-line.invariant.played ls l (drop (i + 1) ls) known f c.play_step.new.self.lists.items c.play_step.new.self.text.items (split_at ls i l front) short
+    (subst (λ (n : ℕ). AddsSome g.V.Vault f n q.parties.clients known q.parties.stations z l q.lists.items c.play_step.new.self.lists.items q.text.items c.play_step.new.self.text.items) c.loop-line.invariant.played.count some))
+    c.in_err-play_step.ensures.ended
+
+pub returns-in_err-play_step-clause-printed : goal.returns-in_err-play_step-clause-printed
+returns-in_err-play_step-clause-printed g c =
+    let i : ℕ = c.loop-line.line-index in
+    let ls : List NumberedLine = c.args.lines.now in
+    let q = c.loop-line.self in
+    let z = c.play_step.new.self.parties.stations in
+    let l = c.line-item.result in
+    let front : take (i + 1) ls ≡ take i ls ++ l ∷ [] = front_at ls i l c.loop-line-test.true c.line-item.is in
+    let few : length ls ≤ 200000 = c.requires.accepted.few in
+    let long : length (take i ls) ≤ length ls = front_long ls i in
+    let short : length (take i ls) < 2 ^ 29 = omega (arith, few, long) in
+    end_on c.in_err-play_step.field-0.0 c.from_residual.result _ _ (handed_on c.in_err-play_step.field-0.0 c.from_residual.result c.from_residual.ensures.0 c.from_residual.ensures.1)
+    (λ f h.
+    let (known, some) = h in
+    line_ended_so g.V.Vault (servers_said ls) (take i ls) q.parties.clients q.parties.stations z q.lists.items q.text.items c.loop-line.invariant.played ls l (drop (i + 1) ls) known f c.play_step.new.self.lists.items c.play_step.new.self.text.items (split_at ls i l front) short
+    (subst (λ (n : ℕ). AddsSome g.V.Vault f n q.parties.clients known q.parties.stations z l q.lists.items c.play_step.new.self.lists.items q.text.items c.play_step.new.self.text.items) c.loop-line.invariant.played.count some))
     c.in_err-play_step.ensures.ended
 
 pub returns-in_err-play_step-clause-left : goal.returns-in_err-play_step-clause-left

@@ -23,7 +23,7 @@ returns-in-None-clause-ended g c =
     let p = c.args.self.now.parties in
     let q = c.play_event.new.self in
     end_map c.play_event.result _ _
-    (λ f h. (q.clients, begins_other g.V.Vault (length p.stations.all.items) p.clients q.clients p.stations q.stations c.args.line.now (sym c.client.ensures ∙ c.in-None.is) c.requires.step f c.args.self.now.lists.items h)) c.play_event.ensures.ended
+    (λ f h. (q.clients, begins_other g.V.Vault (length p.stations.all.items) p.clients q.clients p.stations q.stations c.args.line.now (sym c.client.ensures ∙ c.in-None.is) c.requires.step f c.args.self.now.lists.items c.args.self.now.text.items h)) c.play_event.ensures.ended
 
 pub returns-in-None-clause-adds : goal.returns-in-None-clause-adds
 returns-in-None-clause-adds g c =

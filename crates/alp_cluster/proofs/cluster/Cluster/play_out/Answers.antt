@@ -5,12 +5,12 @@ use Rattle.std.proofs.lemmas.Result.{on_ok_weaker}
 use Rattle.alp_journal.specs.declared.log.Item.{Item}
 use Rattle.alp_script.specs.Accepted.{servers_said}
 use Rattle.alp_course.specs.Settles.{IsSettling}
-use Rattle.alp_cluster.specs.Runs.{HasPlayedOut, HasEndedEarly, StopNone}
+use Rattle.alp_cluster.specs.Runs.{HasPlayedOut, HasEndedEarly, HasEndedSo, StopNone}
 use Rattle.alp_cluster.proofs.DidLemmas.{calm_both, gone_both, all_where, all_handed}
 use Rattle.alp_cluster.proofs.GoneLemmas.{end_on, end_map, handed_on}
 use Rattle.alp_cluster.proofs.LeftLemmas.{end_opened, end_calm, calm_then}
 use Rattle.alp_cluster.proofs.LoopLemmas.{did_count, some_count}
-use Rattle.alp_cluster.proofs.RunLemmas.{end_ended, played_out}
+use Rattle.alp_cluster.proofs.RunLemmas.{end_ended, end_ended_so, played_out}
 use Rattle.alp_cluster.proofs.cluster.Cluster.play_out.Goals as goal
 
 pub returns-in_err-play-clause-gone : goal.returns-in_err-play-clause-gone
@@ -21,6 +21,10 @@ returns-in_err-play-clause-gone g c =
 pub returns-in_err-play-clause-ended : goal.returns-in_err-play-clause-ended
 returns-in_err-play-clause-ended g c =
     end_on c.in_err-play.field-0.0 c.from_residual.result _ _ (handed_on c.in_err-play.field-0.0 c.from_residual.result c.from_residual.ensures.0 c.from_residual.ensures.1) (λ f h. h) c.in_err-play.ensures.ended
+
+pub returns-in_err-play-clause-printed : goal.returns-in_err-play-clause-printed
+returns-in_err-play-clause-printed g c =
+    end_on c.in_err-play.field-0.0 c.from_residual.result _ _ (handed_on c.in_err-play.field-0.0 c.from_residual.result c.from_residual.ensures.0 c.from_residual.ensures.1) (λ f h. h) c.in_err-play.ensures.printed
 
 pub returns-in_err-play-clause-left : goal.returns-in_err-play-clause-left
 returns-in_err-play-clause-left g c =
@@ -50,6 +54,17 @@ returns-clause-ended g c =
     (λ f d. subst (λ (vs : Vec (Vec Item Global) Global). HasEndedEarly g.V.Vault (servers_said c.args.lines.now) c.args.lines.now f c.settle.new.self.parties.stations vs.items) (sym c.settle.ensures.lists)
     (end_ended g.V.Vault (servers_said c.args.lines.now) c.args.lines.now q.parties.clients q.parties.stations c.settle.new.self.parties.stations q.lists.items q.text.items c.in_ok-play.ensures.played f short
     (some_count g.V.Vault IsSettling (length q.parties.stations.all.items) (servers_said c.args.lines.now) f q.parties.stations c.settle.new.self.parties.stations c.in_ok-play.ensures.played.count d))) c.settle.ensures.ended
+
+pub returns-clause-printed : goal.returns-clause-printed
+returns-clause-printed g c =
+    let q = c.play.new.self in
+    let few : length c.args.lines.now ≤ 200000 = c.requires.accepted.few in
+    let short : length c.args.lines.now < 2 ^ 29 = omega (arith, few) in
+    end_map c.settle.result _ _
+    (λ f d. subst (λ (vs : Vec (Vec Item Global) Global). HasEndedSo g.V.Vault (servers_said c.args.lines.now) c.args.lines.now f c.settle.new.self.parties.stations vs.items c.settle.new.self.text.items) (sym c.settle.ensures.lists)
+    (subst (λ (t : Vec ℕ Global). HasEndedSo g.V.Vault (servers_said c.args.lines.now) c.args.lines.now f c.settle.new.self.parties.stations q.lists.items t.items) (sym c.settle.ensures.text)
+    (end_ended_so g.V.Vault (servers_said c.args.lines.now) c.args.lines.now q.parties.clients q.parties.stations c.settle.new.self.parties.stations q.lists.items q.text.items c.in_ok-play.ensures.played f short
+    (some_count g.V.Vault IsSettling (length q.parties.stations.all.items) (servers_said c.args.lines.now) f q.parties.stations c.settle.new.self.parties.stations c.in_ok-play.ensures.played.count d)))) c.settle.ensures.ended
 
 pub returns-clause-left : goal.returns-clause-left
 returns-clause-left g c =

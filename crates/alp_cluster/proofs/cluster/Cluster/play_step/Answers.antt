@@ -21,7 +21,7 @@ pub returns-in_err-play_line-clause-ended : goal.returns-in_err-play_line-clause
 returns-in_err-play_line-clause-ended g c =
     let p = c.args.self.now.parties in
     end_on c.in_err-play_line.field-0.0 c.from_residual.result _ _ (handed_on c.in_err-play_line.field-0.0 c.from_residual.result c.from_residual.ensures.0 c.from_residual.ensures.1)
-    (λ f h. (let (known, begins) = h in (known, adds_begun g.V.Vault f (length p.stations.all.items) p.clients known p.stations c.play_line.new.self.parties.stations c.args.line.now c.args.self.now.lists.items c.play_line.new.self.lists.items begins))) c.in_err-play_line.ensures.ended
+    (λ f h. (let (known, begins) = h in (known, adds_begun g.V.Vault f (length p.stations.all.items) p.clients known p.stations c.play_line.new.self.parties.stations c.args.line.now c.args.self.now.lists.items c.play_line.new.self.lists.items c.args.self.now.text.items c.play_line.new.self.text.items begins))) c.in_err-play_line.ensures.ended
 
 pub carry_behind-requires : goal.carry_behind-requires
 carry_behind-requires g c = record { on = c.in_ok-play_line.ensures.adds.step.on }
