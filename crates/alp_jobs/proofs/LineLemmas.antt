@@ -1,6 +1,7 @@
 -- the lines that are left, and the servers that they speak of
 use Rattle.std.specs.Prelude.{Bool, true, false, ◌&&◌, cond, Option, None, Some, IfSome, if◌then◌else◌}
 use Rattle.std.specs.List.{list_all, AllByRecursion}
+use Rattle.std.specs.Option.{option_map}
 use Rattle.std.proofs.Common.{◌≡◌, ℕ, List, [], ◌∷◌, refl, sym, ◌∙◌, ap, subst}
 use Rattle.alp_base.specs.declared.ids.TransId.{TransId}
 use Rattle.alp_journal.specs.declared.log.Item.{Item}
@@ -93,13 +94,16 @@ module _ (n : ℕ) (j : JobState) (ours : IsJobOf n j) where
   pub tick_ours : (server : ℕ) → tick_due j.stage ≡ Some server → IsServer n server
   tick_ours server due = subst (λ (o : Option ℕ). IfSome o (IsServer n)) due ours.ticks
 
+  same_number : (a b : ℕ) → ◌≡◌ {A = Option ℕ} (Some a) (Some b) → a ≡ b
+  same_number a b e = cc
+
   waiting_ours : (ws : List Waiting) (t : Option TransId) (server : ℕ) (trans : TransId) → AllByRecursion (WaitsThere n) ws → due_in (first_of ws) t ≡ Some (server, trans) → IsServer n server
   waiting_ours [] t server trans all due = let wrong : ◌≡◌ {A = Option (ℕ × TransId)} None (Some (server, trans)) = due in absurd (cc)
   waiting_ours (w ∷ ws) None server trans all due = let wrong : ◌≡◌ {A = Option (ℕ × TransId)} None (Some (server, trans)) = due in absurd (cc)
   waiting_ours (w ∷ ws) (Some t) server trans all due = subst (IsServer n) (same_server w.server t due) all.0
     where
       same_server : (a : ℕ) (u : TransId) → ◌≡◌ {A = Option (ℕ × TransId)} (Some (a, u)) (Some (server, trans)) → a ≡ server
-      same_server a u e = cc
+      same_server a u e = same_number a server (ap (λ (o : Option (ℕ × TransId)). option_map (λ (x : ℕ × TransId). x.0) o) e)
 
   out_ours : (m : Next) (server : ℕ) (trans : TransId) → times_out j.crowd j.number m ≡ Some (server, trans) → IsServer n server
   out_ours next.TimeOut server trans due = waiting_ours (client_at j.crowd j.number).waiting (client_at j.crowd j.number).trans server trans (ours.crowd.each j.number).2 due

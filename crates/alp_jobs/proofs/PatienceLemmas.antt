@@ -167,10 +167,13 @@ IsNextRow p n next.Over ws = Unit {0}
 begins_low : (p : ℕ) → 0 < most_of p
 begins_low p = omega arith
 
+abbrev waits_so : Client → Sending → Purpose → (a b : Bool) → Client × Next
+waits_so c q u a b = if a then (c, next.Over) else (record c { waiting = waiting_for q u ∷ c.waiting }, collects_by_itself b)
+
 await_row : (p : ℕ) (c : Client) (q : Sending) (u : Purpose) → IsNextRow p 0 (awaiting c q u).1 (awaiting c q u).0.waiting
 await_row p c q u = go (is_waiting_at c.waiting q.server) q.settings.collects
   where
-    go : (a b : Bool) → IsNextRow p 0 (cond a (c, next.Over) (record c { waiting = waiting_for q u ∷ c.waiting }, collects_by_itself b)).1 (cond a (c, next.Over) (record c { waiting = waiting_for q u ∷ c.waiting }, collects_by_itself b)).0.waiting
+    go : (a b : Bool) → IsNextRow p 0 (waits_so c q u a b).1 (waits_so c q u a b).0.waiting
     go true b = tt
     go false true = (refl, begins_low p)
     go false false = tt
@@ -334,7 +337,7 @@ no_tick : (t : ℕ × Next) → ◌≡◌ {A = Option (ℕ × Next)} None (Some 
 no_tick t e = cc
 
 same_tick : (a b : ℕ) (m n : Next) → ◌≡◌ {A = Option (ℕ × Next)} (Some (a, m)) (Some (b, n)) → m ≡ n
-same_tick a b m n e = cc
+same_tick a b m n e = (let ends : ◌≡◌ {A = Option Next} (Some m) (Some n) = ap (λ (o : Option (ℕ × Next)). option_map (λ (t : ℕ × Next). t.1) o) e in cc)
 
 due_some : (c : Crowd) (k : ℕ) (due : ℕ × TransId) → times_out c k next.TimeOut ≡ Some due → IsSome (client_at c k).waiting
 due_some c k due is = go (client_at c k).waiting is

@@ -1,5 +1,5 @@
 //! A job: the transactions of a client thread, line by line.
-ghost use Rattle.std.specs.Prelude.{◌≡◌, ◌≤◌, [], List, OnOk, OnErr, IfOk, IfSome, None, Some, map, not, ◌&&◌};
+ghost use Rattle.std.specs.Prelude.{◌≡◌, ◌≤◌, [], List, OnOk, OnErr, IfOk, IfSome, None, Some, true, map, not, ◌&&◌};
 ghost use Rattle.std.specs.List.{AllByRecursion};
 ghost use Rattle.alp_rpc.specs.Frames.{request};
 ghost use Rattle.alp_session.specs.Calls.{IsAskable};
