@@ -14,7 +14,6 @@ use Rattle.alp_journal.specs.Answered.{entries_limit}
 use Rattle.alp_journal.specs.Moves.{stops}
 use Rattle.alp_journal.specs.declared.act.Act.{Act}
 use Rattle.alp_journal.specs.declared.act.Act.TheVariants as act
-use Rattle.alp_journal.specs.declared.entry.Entry.{Entry}
 use Rattle.alp_journal.specs.declared.event.Event.{Event}
 use Rattle.alp_journal.specs.declared.event.Event.TheVariants as event
 use Rattle.alp_journal.specs.declared.message.Envelope.{Envelope}

@@ -103,8 +103,8 @@ module _ {S B E : Type 0} (base_of : S → B) (log : Log B E) where
   for_servers ms k (fault.JournalFull server) job now ring ring_now h asking ours told = tt
   for_servers ms k fault.OutOfMemory job now ring ring_now h asking ours told = tt
   for_servers ms k (fault.NoServer server) job now ring ring_now h asking ours told =
-      let (still, same, none, (e, due)) = h.why in
-      out_of (length ms) server none (due_ours (length ms) h.mid server e (still_ours ms k (fault.NoServer server) job now ring ring_now h still ours told) due)
+      let (still, same, none, there) = h.why in
+      out_of (length ms) server none (due_ours (length ms) h.mid server there.asked (still_ours ms k (fault.NoServer server) job now ring ring_now h still ours told) there.due)
   for_servers ms k fault.BadFrame job now ring ring_now h asking ours told =
       let (still, same, bad) = h.why in
       no_bad h.mid (h.worked.lines is_asking refl asking) bad

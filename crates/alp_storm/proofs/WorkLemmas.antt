@@ -247,4 +247,4 @@ module _ {S B E : Type 0} (base_of : S → B) (log : Log B E) (ms : List (Monito
 
   -- there is no server of that number
   pub no_turn : (job now : JobState) → now ≡ job → (server ≡ 0) ⊎ (length ms < server) → HasDue job server e → EndsWork base_of log ms (fault.NoServer server) job ps now ps
-  no_turn job now still none due = (still, refl, none, (e, due))
+  no_turn job now still none due = (still, refl, none, record { asked = e; due = due })

@@ -91,6 +91,11 @@ HasDue j server (event.Timeout t) = timeout_due j ≡ Some (server, t)
 HasDue j server event.Tick = tick_due j.stage ≡ Some server
 HasDue j server e = ⊥
 
+-- its next deed goes to that server
+pub record HasDueThere (j : JobState) (server : ℕ) : Type 0 where
+  pub asked : Event
+  pub due : HasDue j server asked
+
 -- its frame spells no request, and is none that its client asks anew
 pub record HasBadFrame (j : JobState) : Type 0 where
   pub frame : Addressed
@@ -179,7 +184,7 @@ module _ {S B E : Type 0} (base_of : S → B) (log : Log B E) where
   -- Why a worker does not come to the end of its job, from where it stood. A number that is no server's has its cause in what was due, and so
   -- have a frame that spells no request, a device that failed, a server that is down, and a journal that is full.
   abbrev pub EndsWork : List (Monitor S B E) → StormFault → JobState → List (Pass S B E) → JobState → List (Pass S B E) → Type 0
-  EndsWork ms (fault.NoServer server) job before now ring = (now ≡ job) × (ring ≡ before) × ((server ≡ 0) ⊎ (length ms < server)) × ((asked : Event) × HasDue job server asked)
+  EndsWork ms (fault.NoServer server) job before now ring = (now ≡ job) × (ring ≡ before) × ((server ≡ 0) ⊎ (length ms < server)) × HasDueThere job server
   EndsWork ms fault.BadFrame job before now ring = (now ≡ job) × (ring ≡ before) × HasBadFrame job
   EndsWork ms fault.OutOfMemory job before now ring = WantsMemory ms job now before ring
   EndsWork ms f job before now ring = (now ≡ job) × EndsDue ms f job before ring
