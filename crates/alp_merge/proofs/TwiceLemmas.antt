@@ -8,7 +8,7 @@ use Rattle.alp_carrier.specs.declared.taken.Taken.{Taken}
 use Rattle.alp_carrier.proofs.PlanLemmas.{weigh, few_planned}
 use Rattle.alp_journal.specs.declared.message.Message.{Message}
 use Rattle.alp_course.specs.Courses.{Occurrence}
-use Rattle.alp_merge.specs.Carried.{sent_in, AreBroughtTo, nothing, one_came, one_missed, AreCarriedBy, messages_by, ComeTwiceAtMost}
+use Rattle.alp_merge.specs.Carried.{sent_in, AreBroughtTo, nothing, one_came, one_missed, AreCarriedBy, messages_by}
 use Rattle.alp_merge.specs.Served.{Ranked}
 
 -- what came weighs at most what was to come
@@ -26,7 +26,8 @@ taken_weight : (w : Message → ℕ) (xs : List Taken) → weigh (λ (x : Taken)
 taken_weight w [] = refl
 taken_weight w (x ∷ xs) = ap (λ (n : ℕ). w x.message + n) (taken_weight w xs)
 
-pub come_twice : ComeTwiceAtMost
+pub come_twice : (Starved : ℕ → Message → Type 0) (seed first from to : ℕ) (there here there_more here_more : List Ranked) (taken : List Taken) (done : List Occurrence) → (h : AreCarriedBy Starved seed first from to there here there_more here_more taken done)
+    (w : Message → ℕ) → weight_of w (messages_by done) ≤ 2 * weight_of w (addressed_to to (drop first (take h.next (sent_in (there ++ there_more)))))
 come_twice Starved seed first from to there here there_more here_more taken done h w =
     let came : weight_of w (messages_by done) ≤ weigh (λ (x : Taken). w x.message) (planned seed taken) = brought_weight Starved from to here here_more w 0 (planned seed taken) done h.brought in
     let few : weigh (λ (x : Taken). w x.message) (planned seed taken) ≤ 2 * weigh (λ (x : Taken). w x.message) taken = few_planned (λ (x : Taken). w x.message) seed taken in

@@ -146,7 +146,8 @@ messages_by [] = []
 messages_by (o ∷ os) = message_by o ++ messages_by os
 
 -- Whatever messages weigh, those that were brought weigh at most twice those that were taken: each comes at most twice as often as it was sent.
+-- So it is even where memory may have been refused each time.
 abbrev pub ComeTwiceAtMost : Type 0
-ComeTwiceAtMost = (Starved : ℕ → Message → Type 0) (seed first from to : ℕ) (there here there_more here_more : List Ranked) (taken : List Taken) (done : List Occurrence)
-    → (h : AreCarriedBy Starved seed first from to there here there_more here_more taken done) (w : Message → ℕ)
+ComeTwiceAtMost = (seed first from to : ℕ) (there here there_more here_more : List Ranked) (taken : List Taken) (done : List Occurrence)
+    → (h : AreCarriedBy (λ (behind : ℕ) (m : Message). Unit {0}) seed first from to there here there_more here_more taken done) (w : Message → ℕ)
     → weight_of w (messages_by done) ≤ 2 * weight_of w (addressed_to to (drop first (take h.next (sent_in (there ++ there_more)))))
