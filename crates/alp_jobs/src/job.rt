@@ -271,7 +271,8 @@ impl Job {
         ensures now { OnOk result (self.new ≡ with_room self.old) }
         ensures goes { OnOk result (GoesOn self.old self.new) }
         ensures due { OnOk result (frame_due self.new ≡ frame_due self.old) }
-        ensures asked { OnOk result (request_next self.new.crowd self.new.number self.new.line (asked_said self.new.stage) ≡ request_next self.old.crowd self.old.number self.old.line (asked_said self.old.stage)) }
+        ensures asked { OnOk result (request_next self.new.crowd self.new.number self.new.line (asked_said self.new.stage)
+            ≡ request_next self.old.crowd self.old.number self.old.line (asked_said self.old.stage)) }
         ensures err { OnErr result (self.new ≡ self.old) }
     {
         self.reserve()

@@ -15,5 +15,6 @@ pub fn ticks_follow_collects()
 /// Where no line of a job sends a frame again, sends bytes, or collects, each call is collected at most `patience` times while it waits, and
 /// once more behind a Timeout. A Timeout stands just behind so many collects that were answered that the call waits.
 pub fn jobs_are_patient()
-    ensures { (k : ℕ) (ts : List (List ALine)) (c d : Crowd) (ds : List Deed) → DoesJob k ts c ds d → ArePlain ts → k < length c.places → c.settings.patience < 2 ^ 32 → ArePatient c.settings.patience (Some 0) ds }
+    ensures { (k : ℕ) (ts : List (List ALine)) (c d : Crowd) (ds : List Deed) → DoesJob k ts c ds d → ArePlain ts
+        → k < length c.places → c.settings.patience < 2 ^ 32 → ArePatient c.settings.patience (Some 0) ds }
 {}

@@ -150,7 +150,9 @@ fn is_stormy<R: Threads + Wait + Sync>(rt: &R, alloc: Global) -> Result<bool, Fa
     }
     let mut server = 2u8;
     for berth in states {
-        if !has_come(berth.node().journal().entries(), server) || !is_ranked(berth) {
+        let come = has_come(berth.node().journal().entries(), server);
+        let ranked = is_ranked(berth);
+        if !come || !ranked {
             return Ok(false);
         }
         server = 1;
