@@ -14,6 +14,17 @@ use Rattle.alp_storm.proofs.worker.Worker.ask.Goals as goal
 pub turn-requires-clause-due : goal.turn-requires-clause-due
 turn-requires-clause-due g c = record { frame = c.args.frame; due = c.requires.asked; there = refl; spelled = ap (read_as c.args.frame.bytes) c.in-Ok.ensures.ok.1 }
 
+pub returns-in-Err-clause-err : goal.returns-in-Err-clause-err
+returns-in-Err-clause-err g c =
+    unread g.S.Story.base g.S.Host.log c.args.monitors.now c.args.self.now.number _ c.args.self.now.job c.args.self.now.ring.items c.args.frame c.requires.asked c.requires.fits c.in-Err.ensures.err c.requires.ring
+
+pub returns-in_default-clause-err : goal.returns-in_default-clause-err
+returns-in_default-clause-err g c = wanting g.S.Story.base g.S.Host.log c.args.monitors.now c.args.self.now.number c.args.self.now.job c.args.self.now.job c.args.self.now.ring.items refl c.requires.ring
+
+pub returns-in-Err-turn-clause-err : goal.returns-in-Err-turn-clause-err
+returns-in-Err-turn-clause-err g c =
+    stopped g.S.Story.base g.S.Host.log c.args.monitors.now c.args.self.now.number c.turn.new.self.number _ c.args.self.now.job c.turn.new.self.job c.args.self.now.ring.items c.turn.new.self.ring.items c.turn.ensures.still.0 c.turn.ensures.ring c.in-Err-turn.ensures.err
+
 pub returns-in-Ok-hear-clause-ok : goal.returns-in-Ok-hear-clause-ok
 returns-in-Ok-hear-clause-ok g c =
     let r = c.in-Ok.request in
