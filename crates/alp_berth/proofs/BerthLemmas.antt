@@ -11,7 +11,7 @@ use Rattle.alp_files.specs.declared.refusal.Refusal.TheVariants as refusal
 use Rattle.alp_files.specs.declared.reply.Reply.{Reply}
 use Rattle.alp_files.specs.declared.reply.Reply.TheVariants as reply
 use Rattle.alp_rpc.specs.Replies as replies
-use Rattle.alp_journal.specs.Answered.{is_read_fault}
+use Rattle.alp_journal.specs.Answered.{entries_limit, is_read_fault}
 use Rattle.alp_journal.specs.Moves.{is_stop, stops}
 use Rattle.alp_journal.specs.State.{State}
 use Rattle.alp_journal.specs.declared.act.Act.{Act}
@@ -22,7 +22,7 @@ use Rattle.alp_vault.specs.Vault.{IsSameVault}
 use Rattle.alp_vault.specs.declared.vault.Vault.{Ghosts}
 use Rattle.alp_node.specs.Halts.{HaveCauses}
 use Rattle.alp_node.specs.NodeStates.{NodeState}
-use Rattle.alp_node.specs.Nodes.{IsConsistent, HasNoEntry, Answered, state_of, start_in}
+use Rattle.alp_node.specs.Nodes.{IsConsistent, HasNoEntry, HasRoom, Answered, state_of, start_in}
 use Rattle.alp_node.specs.Orders.{order_in, is_answered, is_fault_now}
 use Rattle.alp_node.specs.Served.{IsServed}
 use Rattle.alp_node.specs.Steps.{IsSeated}
@@ -134,6 +134,7 @@ module _ {V : Type 0} (G : Ghosts V) where
         ranks_are = ([], append-nil made.ranks.value.items ∙ ranked);
         stood_long = ap length ranked ∙ (may.long ∙ sym (ap (λ (m : NodeState V). length m.journal) is));
         long = may.long;
+        room = may.room;
         rising = may.rising;
         bounded = may.bounded;
         opening = sym (ap (λ (m : NodeState V). m.opening) is);
@@ -148,7 +149,7 @@ module _ {V : Type 0} (G : Ghosts V) where
 
   -- ---- after a step
 
-  module _ (made : Made V) (n m : NodeState V) (ranks : List ℕ) (seen : ℕ) (e : Event) (r : Option Reply) (old : IsBerth G made n ranks) (was : IsConsistent G n) (served : IsServed e) (up : n.kept.is_down ≡ false) (early : seen < 2 ^ 62)
+  module _ (made : Made V) (n m : NodeState V) (ranks : List ℕ) (seen : ℕ) (e : Event) (r : Option Reply) (old : IsBerth G made n ranks) (was : IsConsistent G n) (served : IsServed e) (up : n.kept.is_down ≡ false) (has_room : HasRoom n) (early : seen < 2 ^ 62)
       (a : Answered (order_in n.kept e) (G.tells n.kept.vault) (state_of (start_in G n) n.journal) n.journal m.journal e r (G.faults n.kept.vault) (G.faults m.kept.vault) (G.allowance m.kept.vault) m.kept.is_down)
       (opening : m.opening ≡ n.opening) (seat : IsSeated G n.kept m.kept) (turned : m.kept.is_down ≡ false → HasTurned (order_in n.kept e) n.kept m.kept e r) (kept : IsConsistent G m) where
     abbrev made_entry : Entry
@@ -205,6 +206,7 @@ module _ {V : Type 0} (G : Ghosts V) where
           ranks_are = prefix_more made.ranks.value.items ranks (rank_after ranks seen) old.ranks_are;
           stood_long = old.stood_long;
           long = many ∙ (ap (λ k. k + 1) old.long ∙ sym (ap length a.entry ∙ length-append n.journal (made_entry ∷ [])));
+          room = (let all : length m.journal ≡ length n.journal + 1 = ap length a.entry ∙ length-append n.journal (made_entry ∷ []) in let low : length n.journal < entries_limit = has_room in omega (arith, all, low));
           rising = rising_more 0 ranks (rank_after ranks seen) old.rising (omega arith) (omega arith);
           bounded = omega (arith, last, many, bound, early);
           opening = opening ∙ old.opening;
@@ -234,6 +236,7 @@ module _ {V : Type 0} (G : Ghosts V) where
         ranks_are = old.ranks_are;
         stood_long = old.stood_long;
         long = old.long ∙ sym (ap length none.journal);
+        room = (let all : length m.journal ≡ length n.journal = ap length none.journal in let low : length n.journal ≤ entries_limit = old.room in omega (arith, all, low));
         rising = old.rising;
         bounded = old.bounded;
         opening = opening ∙ old.opening;

@@ -4,10 +4,10 @@ use Rattle.std.specs.List.{list_any, AllByRecursion}
 use Rattle.std.proofs.Common.{inl, inr, ◌⊎◌, ◌≡◌, ℕ, zero, suc, ◌+◌, ◌-◌, ◌<◌, ◌≤◌, ◌^◌, List, [], ◌∷◌, ◌++◌, length, refl, sym, ap, ◌∙◌, subst, arith, length-append}
 use mathlib.Core.List.{IsPrefix, append_assoc, append-nil}
 use Rattle.alp_journal.specs.Answered.{entries_limit}
+use Rattle.alp_journal.specs.Moves.{stops}
 use Rattle.alp_journal.specs.declared.entry.Entry.{Entry}
 use Rattle.alp_vault.specs.declared.vault.Vault.{Ghosts}
 use Rattle.alp_node.specs.NodeStates.{NodeState}
-use Rattle.alp_storm.specs.Logs.{shows_fault}
 use Rattle.alp_berth.specs.Berths.{ranked, entry_of, rank_of, last_in, stood, since_of, last_of, IsShut, further_of, entries_of, IsBerth}
 use Rattle.alp_berth.specs.BerthStates.{BerthState}
 use Rattle.alp_berth.specs.declared.made.Made.{Made}
@@ -112,7 +112,7 @@ module _ {V : Type 0} (G : Ghosts V) (made : Made V) (n : NodeState V) (ranks : 
 
   -- it takes no step more
   pub shut_down : n.kept.is_down ≡ true → IsShut made es
-  shut_down down = inl (any_all shows_fault ∙ h.halted down)
+  shut_down down = inl (any_all stops ∙ (sym h.down ∙ down))
 
   pub shut_full : entries_limit ≤ length n.journal → IsShut made es
   shut_full full = inr (let l = entries_long in omega (arith, full, l))

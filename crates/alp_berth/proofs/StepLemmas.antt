@@ -3,6 +3,7 @@ use Rattle.std.specs.Prelude.{max, Bool, true, false, Option, Some, IfSome, drop
 use Rattle.std.specs.List.{list_any}
 use Rattle.std.proofs.Common.{inl, inr, ◌⊎◌, ◌≡◌, ℕ, ◌+◌, ◌<◌, ◌≤◌, ◌^◌, List, [], ◌∷◌, ◌++◌, length, refl, sym, ap, ◌∙◌, subst, arith}
 use Rattle.alp_journal.specs.Answered.{entries_limit}
+use Rattle.alp_journal.specs.Moves.{stops}
 use Rattle.alp_journal.specs.declared.event.Event.{Event}
 use Rattle.alp_journal.specs.declared.event.Event.TheVariants as event
 use Rattle.alp_journal.specs.declared.message.Message.{Message}
@@ -46,9 +47,9 @@ module _ {V : Type 0} (G : Ghosts V) (old new : BerthState V) (h : IsBerth G old
             ∙ ap (arrival_at from m) rank_is,
       )
 
-  module _ (zero_is : seen ≡ 0) (few : length (entries_of old) < 2 ^ 62) where
+  module _ (zero_is : seen ≡ 0) (few : length (entries_of old) < 2 ^ 62) (room : since_of old.made + length (entries_of old) < entries_limit) (quiet : list_any (λ (x : Ranked). stops x.entry) (entries_of old) ≡ false) where
     pub made_of_it : IsMadeOf log_of old.made (entries_of old) e one
-    made_of_it = record { event_is = s.event_is; rank_is = rank_is ∙ (ap (λ n. max (last_of old.made (entries_of old)) n + 1) zero_is ∙ max_zero (last_of old.made (entries_of old))) }
+    made_of_it = record { event_is = s.event_is; room = room; up = quiet; rank_is = rank_is ∙ (ap (λ n. max (last_of old.made (entries_of old)) n + 1) zero_is ∙ max_zero (last_of old.made (entries_of old))) }
 
     -- it answered
     pub answers : (a : Answer) → a.reply ≡ r → a.place ≡ since_of old.made + length (entries_of old) → a.epoch ≡ old.made.node.value.kept.epoch → shows_fault s.entry ≡ false → HasAnswered log_of old.made (entries_of old) (entries_of new) e a

@@ -87,9 +87,9 @@ module _ {V : Type 0} where
   abbrev pub last_of : Made V → List Ranked → ℕ
   last_of b es = last_in (b.ranks.value.items ++ map rank_of es)
 
-  -- its device failed, or its journal is full
+  -- one of these stopped it, or its journal is full
   abbrev pub IsShut : Made V → List Ranked → Type 0
-  IsShut b es = (list_any (λ x. shows_fault x.entry) es ≡ true) ⊎ (entries_limit ≤ since_of b + length es)
+  IsShut b es = (list_any (λ x. stops x.entry) es ≡ true) ⊎ (entries_limit ≤ since_of b + length es)
 
   abbrev pub made_of : BerthState V → Made V
   made_of b = b.made
@@ -139,13 +139,14 @@ pub record IsSameServer {V : Type 0} (G : Ghosts V) (old new : ServerState V) : 
   pub epoch : new.epoch ≡ old.epoch
   pub same : IsSameVault G.tells G.volume G.server G.servers old.vault new.vault
 
--- Its journal and its ranks go on from those that stood when it was made. It is the same server, whose count of faults did not fall, and
+-- Its journal and its ranks go on from those that stood when it was made, and it has no more entries than it may have. It is the same server, whose count of faults did not fall, and
 -- whose vault nobody stops. While no further entry shows that the device failed, the count stayed, and the server is up.
 pub record IsBerth {V : Type 0} (G : Ghosts V) (made : Made V) (n : NodeState V) (ranks : List ℕ) : Type 0 where
   pub journal : IsPrefix made.node.value.journal n.journal
   pub ranks_are : IsPrefix made.ranks.value.items ranks
   pub stood_long : length made.ranks.value.items ≡ length made.node.value.journal
   pub long : length ranks ≡ length n.journal
+  pub room : length n.journal ≤ entries_limit
   pub rising : AreRising 0 ranks
   pub bounded : last_in ranks ≤ 2 ^ 62 + length ranks
   pub opening : n.opening ≡ made.node.value.opening
@@ -178,6 +179,7 @@ pub record MayBerth {V : Type 0} (G : Ghosts V) (n : NodeState V) (ranks : List 
   pub up : n.kept.is_down ≡ false
   pub free : G.allowance n.kept.vault ≡ Free
   pub long : length ranks ≡ length n.journal
+  pub room : length n.journal ≤ entries_limit
   pub rising : AreRising 0 ranks
   pub bounded : last_in ranks ≤ 2 ^ 62 + length ranks
   pub sendable : AreSendable n.kept

@@ -18,6 +18,9 @@ use std::sync::Wait;
 use std::sync::atomic::{AtomicBool, Ordering};
 use std::thread;
 
+// A carrier that finds nothing yields so many times at most before it looks again.
+const MOST_YIELDS: u32 = 64;
+
 /// The passes of a carrier that is done.
 #[derive(Drop)]
 pub struct Carried<S: Station> {
@@ -146,10 +149,26 @@ fn finish<S: Station, R: Wait>(rt: &R, monitor: &Monitor<S>, from: u8, way: Way<
     }
 }
 
+// A carrier that found nothing gives the processor to others so many times. Gives how often it does the next time: twice as often, up to a
+// limit, and once after it found something.
+fn rest_for(times: u32, took: bool) -> u32 {
+    if took {
+        return 1;
+    }
+    for _ in 0..times {
+        thread::yield_now();
+    }
+    if times >= MOST_YIELDS {
+        return MOST_YIELDS;
+    }
+    times * 2
+}
+
 /// Takes what the first server of the route sent to the second, in order and each once, and brings
 /// it as the plan says. It ends once `over` was read as true and nothing more stood there, or where
-/// the numbers of places end. A message comes less often than the plan says only where the receiver
-/// is shut, memory is refused or ranks end.
+/// the numbers of places end. While it finds nothing it looks less and less often, up to a limit. A
+/// message comes less often than the plan says only where the receiver is shut, memory is refused or
+/// ranks end.
 pub fn carry<S: Station, R: Wait>(
     rt: &R,
     route: &Route<S>,
@@ -173,6 +192,7 @@ pub fn carry<S: Station, R: Wait>(
         dice: plan.dice(),
         delayed: None,
     };
+    let mut rest = 1u32;
     for _ in rt.forever() {
         let last = over.load(Ordering::SeqCst);
         if way.next == u32::MAX {
@@ -183,9 +203,7 @@ pub fn carry<S: Station, R: Wait>(
         if !took && last {
             return finish(rt, route.to, route.pair.from, way);
         }
-        if !took {
-            thread::yield_now();
-        }
+        rest = rest_for(rest, took);
     }
     unreachable!()
 }

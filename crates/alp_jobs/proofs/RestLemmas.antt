@@ -1,23 +1,27 @@
 -- what the rest of a job does before a deed and after it
-use Rattle.std.specs.Prelude.{Bool, true, false, not, ◌&&◌, ◌||◌, ◌++◌, cond, Option, None, Some, IfSome, Result, Ok, Err, OnOk, IfOk}
+use Rattle.std.specs.Prelude.{Bool, true, false, not, ◌&&◌, ◌||◌, ◌++◌, cond, Option, None, Some, IfSome, Result, Ok, Err, OnOk, IfOk, Vec}
+use Rattle.std.specs.Global.{Global}
 use Rattle.std.specs.List.{list_any}
-use Rattle.std.proofs.Common.{◌≡◌, ℕ, List, [], ◌∷◌, refl, sym, ◌∙◌, ap, subst, append_assoc}
+use Rattle.std.specs.Vec.{vec_len, vec_capacity}
+use Rattle.std.proofs.Common.{◌≡◌, ℕ, ◌<◌, List, [], ◌∷◌, refl, sym, ◌∙◌, ap, subst, append_assoc}
 use Rattle.alp_base.specs.declared.ids.TransId.{TransId}
 use Rattle.alp_journal.specs.declared.log.Item.{Item}
 use Rattle.alp_lines.specs.declared.line.Line.{Line}
 use Rattle.alp_lines.specs.declared.line.Line.TheVariants as line
 use Rattle.alp_session.specs.Crowd.{Crowd}
-use Rattle.alp_session.specs.Crowds.{asks, hears, at_line, times_out}
+use Rattle.alp_rpc.specs.Frames.{request}
+use Rattle.alp_session.specs.Crowds.{asks, hears, at_line, request_next, times_out}
 use Rattle.alp_session.specs.Frames.{IsOfFrame}
 use Rattle.alp_session.specs.declared.frames.Addressed.{Addressed}
 use Rattle.alp_session.specs.declared.waiting.Next.{Next}
 use Rattle.alp_session.specs.declared.waiting.Next.TheVariants as next
 use Rattle.alp_jobs.specs.Deeds.{Deed, sends, gives_tick, gives_timeout, waits_on, is_refusal, is_refusing}
-use Rattle.alp_jobs.specs.Does.{asked_at, tick_at, tick_due, after_tick, after_reply, stage_after, IsOver, DoesLine, DoesAll, EitherIf, DoesTransaction, DoesJob}
+use Rattle.alp_jobs.specs.Does.{asked_at, tick_at, tick_due, after_tick, after_reply, stage_after, IsOver, IsAsked, DoesLine, DoesAll, EitherIf, DoesTransaction, DoesJob}
 use Rattle.alp_jobs.specs.declared.to_do.ToDo.{ToDo}
 use Rattle.alp_jobs.specs.declared.to_do.ToDo.TheVariants.{Done}
 use Rattle.alp_jobs.specs.States.{JobState}
-use Rattle.alp_jobs.specs.Jobs.{IsToDo, new_job, frame_due, timeout_due, IsBehind, is_coming, is_lost, is_nil, is_ended, way_after, DoesFrom, DoesBehind, DoesOthers, DoesRest, Does, GoesOn, after_frame, stage_ticked, after_tick_given, after_timeout, at_its_line, giving_up, at_next, gone_on}
+use Rattle.alp_jobs.proofs.AskedLemmas.{asked_is}
+use Rattle.alp_jobs.specs.Jobs.{HasPlaceIf, with_room, IsToDo, new_job, frame_due, timeout_due, IsBehind, is_coming, is_lost, is_nil, is_ended, way_after, DoesFrom, DoesBehind, DoesOthers, DoesRest, Does, GoesOn, after_frame, stage_ticked, after_tick_given, after_timeout, at_its_line, giving_up, at_next, gone_on}
 use Rattle.alp_jobs.specs.declared.stage.Stage.{Stage}
 use Rattle.alp_jobs.specs.declared.stage.Stage.TheVariants as stage
 use Rattle.alp_jobs.specs.declared.stage.Way.{Way}
@@ -129,8 +133,8 @@ rest_over j ds d come over does =
 -- ---- deeds
 
 -- the rest of a job is that of the one that has sent this, and before it this
-pub sent_does : (j : JobState) (frame : Addressed) (x : Item) → frame_due j ≡ Some frame → IsOfFrame j.line frame x → Does j (sends x) (after_frame j frame x)
-sent_does j frame x asked of_frame ds d does =
+pub sent_does : (j : JobState) (frame : Addressed) (x : Item) → frame_due j ≡ Some frame → IfSome (request_next j.crowd j.number j.line (asked_at j.stage)) request.Fits → IsOfFrame j.line frame x → Does j (sends x) (after_frame j frame x)
+sent_does j frame x asked fits of_frame ds d does =
     record {
       own = sends x ∷ does.own;
       others = does.others;
@@ -140,6 +144,7 @@ sent_does j frame x asked of_frame ds d does =
         frame,
         asked,
         of_frame,
+        asked_is j.crowd j.number j.line (asked_at j.stage) frame x.sent asked fits of_frame.sent,
         of_line j.number j.line (after_frame j frame x).stage (after_frame j frame x).crowd does.own does.mid
             (come_after j.stage x (hears j.crowd j.number j.line (asked_at j.stage) frame x.reply).1) does.line,
       );
@@ -307,10 +312,33 @@ ended_does j over ended =
 
 -- ---- as the calls say it
 
-pub sent_if : {A E : Type 0} (r : Result A E) (j now : JobState) (frame : Addressed) (x : Item) → frame_due j ≡ Some frame → IsOfFrame j.line frame x
+pub sent_if : {A E : Type 0} (r : Result A E) (j now : JobState) (frame : Addressed) (x : Item) → frame_due j ≡ Some frame → IfSome (request_next j.crowd j.number j.line (asked_at j.stage)) request.Fits → IsOfFrame j.line frame x
     → OnOk r (now ≡ after_frame j frame x) → OnOk r (Does j (sends x) now)
-sent_if (Ok a) j now frame x asked of_frame same = subst (λ (s : JobState). Does j (sends x) s) (sym same) (sent_does j frame x asked of_frame)
-sent_if (Err e) j now frame x asked of_frame same = tt
+sent_if (Ok a) j now frame x asked fits of_frame same = subst (λ (s : JobState). Does j (sends x) s) (sym same) (sent_does j frame x asked fits of_frame)
+sent_if (Err e) j now frame x asked fits of_frame same = tt
+
+-- ---- room
+
+-- that there is room changes nothing of what the rest does
+pub room_goes : (j : JobState) → GoesOn j (with_room j)
+room_goes j ds d does = record { own = does.own; others = does.others; mid = does.mid; are = does.are; line = does.line; after = does.after }
+
+pub room_if : {A E : Type 0} (r : Result A E) (j now : JobState) → OnOk r (now ≡ with_room j) → OnOk r (GoesOn j now)
+room_if (Ok a) j now same = subst (λ (s : JobState). GoesOn j s) (sym same) (room_goes j)
+room_if (Err e) j now same = tt
+
+pub due_if : {A E : Type 0} (r : Result A E) (j now : JobState) → OnOk r (now ≡ with_room j) → OnOk r (frame_due now ≡ frame_due j)
+due_if (Ok a) j now same = ap (λ (s : JobState). frame_due s) same
+due_if (Err e) j now same = tt
+
+pub asked_if : {A E : Type 0} (r : Result A E) (j now : JobState) → OnOk r (now ≡ with_room j)
+    → OnOk r (request_next now.crowd now.number now.line (asked_at now.stage) ≡ request_next j.crowd j.number j.line (asked_at j.stage))
+asked_if (Ok a) j now same = ap (λ (s : JobState). request_next s.crowd s.number s.line (asked_at s.stage)) same
+asked_if (Err e) j now same = tt
+
+pub placed : (said : Bool) (xs : Vec Item Global) → said ≡ true → HasPlaceIf said xs → vec_len xs < vec_capacity xs
+placed true xs is place = place
+placed false xs is place = let wrong : false ≡ true = is in absurd (cc)
 
 pub gone_if : {A E : Type 0} (r : Result A E) (j now : JobState) → IsBehind j → OnOk r (now ≡ gone_on j) → OnOk r (GoesOn j now)
 gone_if (Ok a) j now over same = subst (λ (s : JobState). GoesOn j s) (sym same) (gone_goes j over)

@@ -49,7 +49,7 @@ line_ticked : (k : ℕ) (l : Line) (s : Stage) (c : Crowd) (ds : List Deed) (d :
 line_ticked k l s c [] d does = subst (λ (o : Option ℕ). AreTicked o []) (sym does.0.ticked) tt
 line_ticked k l s c (sends x ∷ ds) d does =
     let behind : Stage = stage_after s x (hears c k l (asked_at s) does.0 x.reply).1 in
-    let more : AreTicked (tick_due behind) ds = line_ticked k l behind (hears c k l (asked_at s) does.0 x.reply).0 ds d does.3 in
+    let more : AreTicked (tick_due behind) ds = line_ticked k l behind (hears c k l (asked_at s) does.0 x.reply).0 ds d does.4 in
     let now : AreTicked None (sends x ∷ ds) = subst (λ (o : Option ℕ). AreTicked o ds) (due_after s x (hears c k l (asked_at s) does.0 x.reply).1) more in
     subst (λ (o : Option ℕ). AreTicked o (sends x ∷ ds)) (sym (sends_none k l s c does.0 does.1)) now
 line_ticked k l s c (gives_tick server ∷ ds) d does =

@@ -2,10 +2,13 @@
 use Rattle.std.specs.Prelude.{◌≡◌, ℕ, Bool, true, false, List, [], ◌∷◌, ◌++◌, Option, None, Some, if◌then◌else◌}
 use Rattle.std.specs.List.{list_any}
 use Rattle.alp_journal.specs.declared.log.Item.{Item}
+use Rattle.alp_journal.specs.declared.log.Sent.{Sent}
+use Rattle.alp_journal.specs.declared.log.Sent.TheVariants as sent
 use Rattle.alp_lines.specs.declared.line.Line.{Line}
 use Rattle.alp_lines.specs.declared.line.Line.TheVariants as line
+use Rattle.alp_rpc.specs.declared.frame.Request.{Request}
 use Rattle.alp_session.specs.Crowd.{Crowd}
-use Rattle.alp_session.specs.Crowds.{asks, hears, at_line, times_out}
+use Rattle.alp_session.specs.Crowds.{asks, hears, at_line, request_next, times_out}
 use Rattle.alp_session.specs.Frames.{IsOfFrame}
 use Rattle.alp_session.specs.declared.frames.Addressed.{Addressed}
 use Rattle.alp_session.specs.declared.waiting.Next.{Next}
@@ -57,13 +60,18 @@ pub record IsOver (k : ℕ) (l : Line) (s : Stage) (c : Crowd) : Type 0 where
   pub ticked : tick_due s ≡ None
   pub timed_out : times_out c k (asked_at s) ≡ None
 
+-- what was sent is what the client asks anew, if it asks so
+abbrev pub IsAsked : Option Request → Sent → Type 0
+IsAsked None s = Unit {0}
+IsAsked (Some r) s = s ≡ sent.Call r.client r.epoch r.number r.call
+
 -- The deeds of a line of client k from such a stage on, and what is known after them. A collect that is answered that the call waits is
 -- followed by a Tick at that server, and nothing else is. At the end of patience a Timeout follows the Tick, and one last collect follows
 -- the Timeout, whatever it is answered.
 abbrev pub DoesLine : ℕ → Line → Stage → Crowd → List Deed → Crowd → Type 0
 DoesLine k l s c [] d = IsOver k l s c × (d ≡ c)
 DoesLine k l s c (sends x ∷ ds) d =
-    (frame : Addressed) × (asks c k l (asked_at s) ≡ Some frame) × IsOfFrame l frame x
+    (frame : Addressed) × (asks c k l (asked_at s) ≡ Some frame) × IsOfFrame l frame x × IsAsked (request_next c k l (asked_at s)) x.sent
     × DoesLine k l (stage_after s x (hears c k l (asked_at s) frame x.reply).1) (hears c k l (asked_at s) frame x.reply).0 ds d
 DoesLine k l s c (gives_tick server ∷ ds) d = (after : Next) × (tick_at s ≡ Some (server, after)) × DoesLine k l (stage.Asking after) c ds d
 DoesLine k l s c (gives_timeout server t ∷ ds) d = (times_out c k (asked_at s) ≡ Some (server, t)) × DoesLine k l stage.Last c ds d

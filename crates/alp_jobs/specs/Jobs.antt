@@ -1,6 +1,8 @@
 -- Where a job stands, and what the rest of it does.
-use Rattle.std.specs.Prelude.{◌≡◌, ℕ, ◌≤◌, Bool, true, false, not, ◌&&◌, List, [], ◌∷◌, ◌++◌, Option, None, Some, if◌then◌else◌}
+use Rattle.std.specs.Prelude.{◌≡◌, ℕ, ◌<◌, ◌≤◌, Bool, true, false, not, ◌&&◌, List, [], ◌∷◌, ◌++◌, Option, None, Some, Vec, if◌then◌else◌}
+use Rattle.std.specs.Global.{Global}
 use Rattle.std.specs.List.{list_any, AllByRecursion}
+use Rattle.std.specs.Vec.{vec_len, vec_capacity}
 use Rattle.alp_base.specs.declared.ids.TransId.{TransId}
 use Rattle.alp_journal.specs.declared.log.Item.{Item}
 use Rattle.alp_lines.specs.declared.line.Line.{Line}
@@ -9,6 +11,7 @@ use Rattle.alp_session.specs.Calls.{IsAskable}
 use Rattle.alp_session.specs.Crowd.{Crowd}
 use Rattle.alp_session.specs.Crowds.{asks, hears, at_line, times_out}
 use Rattle.alp_session.specs.declared.frames.Addressed.{Addressed}
+use Rattle.alp_session.specs.declared.waiting.Next.{Next}
 use Rattle.alp_session.specs.declared.waiting.Next.TheVariants as next
 use Rattle.alp_jobs.specs.Deeds.{Deed, is_refusal, is_refusing}
 use Rattle.alp_jobs.specs.Does.{asked_at, tick_due, stage_after, IsOver, DoesLine, DoesAll, DoesTransaction, DoesJob}
@@ -22,14 +25,20 @@ use Rattle.alp_jobs.specs.declared.to_do.ToDo.TheVariants as to_do
 
 -- before the first transaction it stands after a line that is over
 abbrev pub new_job : ℕ → List (List Line) → Crowd → JobState
-new_job k ts c = record { number = k; line = line.Abort k; stage = stage.Asking next.Over; way = way.Going; rest = []; others = ts; crowd = c; items = [] }
+new_job k ts c = record { number = k; line = line.Abort k; stage = stage.Asking next.Over; way = way.Going; rest = []; others = ts; crowd = c; items = []; room = false }
 
--- its client's number is one of the run's, and all its lines have frames
-pub record IsSound (k : ℕ) (l : Line) (rest : List Line) (others : List (List Line)) : Type 0 where
+-- where that is said, a list has a place for one more
+abbrev pub HasPlaceIf : Bool → Vec Item Global → Type 0
+HasPlaceIf true xs = vec_len xs < vec_capacity xs
+HasPlaceIf false xs = Unit {0}
+
+-- its client's number is one of the run's, all its lines have frames, and room is there where it says so
+pub record IsSound (k : ℕ) (l : Line) (rest : List Line) (others : List (List Line)) (said : Bool) (xs : Vec Item Global) : Type 0 where
   pub few : k ≤ 16
   pub at_line : IsAskable l
   pub in_transaction : AllByRecursion IsAskable rest
   pub in_others : AllByRecursion (AllByRecursion IsAskable) others
+  pub place : HasPlaceIf said xs
 
 -- ---- what it does next
 
@@ -126,7 +135,20 @@ after_frame j frame x = record j {
   way = way_after (is_refusal x.reply) j.way;
   crowd = (hears j.crowd j.number j.line (asked_at j.stage) frame x.reply).0;
   items = j.items ++ x ∷ [];
+  room = false;
 }
+
+-- its client heard the reply of this item, and this comes next for the line
+abbrev pub heard_so : JobState → Item → Next → JobState
+heard_so j x n = record j { stage = stage_after j.stage x n; way = way_after (is_refusal x.reply) j.way; items = j.items ++ x ∷ []; room = false }
+
+-- there is room for the next item
+abbrev pub with_room : JobState → JobState
+with_room j = record j { room = true }
+
+-- the item tells what was answered, and the client did not hear it
+abbrev pub after_unheard : JobState → Item → JobState
+after_unheard j x = record j { items = j.items ++ x ∷ []; room = false }
 
 abbrev pub stage_ticked : Stage → Stage
 stage_ticked stage.Coming = stage.Coming

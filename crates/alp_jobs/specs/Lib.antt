@@ -3,3 +3,5 @@ pub mod Does
 pub mod States
 pub mod Jobs
 pub mod Ticks
+pub mod Lines
+pub mod Patience

@@ -1,5 +1,5 @@
 //! A job: the transactions of a client thread, line by line.
-ghost use Rattle.std.specs.Prelude.{◌≡◌, ◌≤◌, [], List, OnOk, OnErr, IfOk, IfSome, None, Some, map, not, ◌&&◌};
+ghost use Rattle.std.specs.Prelude.{◌≡◌, ◌≤◌, [], List, OnOk, OnErr, IfOk, IfSome, None, Some, true, map, not, ◌&&◌};
 ghost use Rattle.std.specs.List.{AllByRecursion};
 ghost use Rattle.alp_rpc.specs.Frames.{request};
 ghost use Rattle.alp_session.specs.Calls.{IsAskable};
@@ -8,7 +8,7 @@ ghost use Rattle.alp_session.specs.Crowds.{client_at, request_next};
 ghost use Rattle.alp_session.specs.Frames.{IsOfFrame, IsReady, told_by};
 ghost use Rattle.alp_jobs.specs.Deeds.{Deed, sends, gives_tick, gives_timeout};
 ghost use Rattle.alp_jobs.specs.Does.{asked_at as asked_said, tick_due as tick_said, after_tick as after_tick_said, after_reply as after_reply_said, stage_after as stage_said, DoesJob};
-ghost use Rattle.alp_jobs.specs.Jobs.{IsBehind, IsToDo, DoesRest, Does, GoesOn, new_job, frame_due, timeout_due, is_coming as is_coming_said, is_lost as is_lost_said, is_ended as is_ended_said, way_after as way_said, stage_ticked as stage_ticked_said, after_frame, after_tick_given, after_timeout, at_its_line, giving_up, at_next, gone_on};
+ghost use Rattle.alp_jobs.specs.Jobs.{IsBehind, IsToDo, DoesRest, Does, GoesOn, new_job, with_room, heard_so, after_unheard, frame_due, timeout_due, is_coming as is_coming_said, is_lost as is_lost_said, is_ended as is_ended_said, way_after as way_said, stage_ticked as stage_ticked_said, after_frame, after_tick_given, after_timeout, at_its_line, giving_up, at_next, gone_on};
 ghost use Rattle.alp_jobs.specs.declared.to_do.ToDo.TheVariants.{Done};
 
 use crate::items::{is_refusal, waits_on};
@@ -36,6 +36,8 @@ pub struct Job {
     clients: Clients,
     // What its client sent and was handed.
     items: Vec<Item>,
+    // Whether a place for one item more is reserved.
+    room: bool,
 }
 
 impl Model for Job {
@@ -47,9 +49,9 @@ impl Model for Job {
 
     ghost coded = { job_code };
 
-    ghost view = { λ j. record { number = j.number; line = j.line; stage = j.stage; way = j.way; rest = j.rest.items; others = map (λ ls. ls.items) j.others.items; crowd = j.clients; items = j.items.items } };
+    ghost view = { λ j. record { number = j.number; line = j.line; stage = j.stage; way = j.way; rest = j.rest.items; others = map (λ ls. ls.items) j.others.items; crowd = j.clients; items = j.items.items; room = j.room } };
 
-    ghost invariant = { λ j. IsSound j.number j.line j.rest.items (map (λ ls. ls.items) j.others.items) };
+    ghost invariant = { λ j. IsSound j.number j.line j.rest.items (map (λ ls. ls.items) j.others.items) j.room j.items };
 }
 
 // What the client is asked for.
@@ -161,6 +163,7 @@ impl Job {
             others: VecDeque::from(transactions),
             clients,
             items: Vec::new(alloc),
+            room: false,
         }
     }
 
@@ -254,6 +257,46 @@ impl Job {
         self.due(alloc)
     }
 
+    fn reserve(&mut self) -> Result<(), OutOfMemory>
+        ensures now { OnOk result (self.new ≡ with_room self.old) }
+        ensures err { OnErr result (self.new ≡ self.old) }
+    {
+        self.items.reserve(1)?;
+        self.room = true;
+        Ok(())
+    }
+
+    /// Makes room for the next item, before the turn that it tells of. So it is kept whatever memory is refused behind that.
+    pub fn make_room(&mut self) -> Result<(), OutOfMemory>
+        ensures now { OnOk result (self.new ≡ with_room self.old) }
+        ensures goes { OnOk result (GoesOn self.old self.new) }
+        ensures due { OnOk result (frame_due self.new ≡ frame_due self.old) }
+        ensures asked { OnOk result (request_next self.new.crowd self.new.number self.new.line (asked_said self.new.stage)
+            ≡ request_next self.old.crowd self.old.number self.old.line (asked_said self.old.stage)) }
+        ensures err { OnErr result (self.new ≡ self.old) }
+    {
+        self.reserve()
+    }
+
+    /// It sent its frame, and the item tells what was answered, but its client does not hear it.
+    pub fn keeps(&mut self, item: Item)
+        requires room { self.old.room ≡ true }
+        ensures { self.new ≡ after_unheard self.old item }
+    {
+        self.room = false;
+        self.items.push_reserved(item);
+    }
+
+    // Its client heard the reply, and this comes next for the line.
+    fn hears_on(&mut self, item: Item, next: Next)
+        requires room { self.old.room ≡ true }
+        ensures { self.new ≡ heard_so self.old item next }
+    {
+        self.stage = stage_after(self.stage, &item, next);
+        self.way = way_after(is_refusal(&item.reply), self.way);
+        self.keeps(item);
+    }
+
     // Its client hears the reply, and the item is kept.
     fn hear(
         &mut self,
@@ -262,22 +305,29 @@ impl Job {
         item: Item,
         handed: &Option<Bytes>,
     ) -> Result<(), OutOfMemory>
+        requires room { self.old.room ≡ true }
         requires told { told_by handed.now ≡ item.reply }
         ensures now { OnOk result (self.new ≡ after_frame self.old frame item) }
-        ensures err { OnErr result (self.new ≡ self.old) }
+        ensures err { OnErr result (self.new ≡ after_unheard self.old item) }
     {
-        self.items.reserve(1)?;
         let next = asked_at(self.stage);
-        let after = self
+        match self
             .clients
-            .hears(alloc, self.number, &self.line, next, frame, handed)?;
-        self.stage = stage_after(self.stage, &item, after);
-        self.way = way_after(is_refusal(&item.reply), self.way);
-        self.items.push_reserved(item);
-        Ok(())
+            .hears(alloc, self.number, &self.line, next, frame, handed)
+        {
+            Ok(next) => {
+                self.hears_on(item, next);
+                Ok(())
+            }
+            Err(OutOfMemory) => {
+                self.keeps(item);
+                Err(OutOfMemory)
+            }
+        }
     }
 
-    /// It sent its frame, and is handed the bytes of the reply, or silence. The item says so, and is kept.
+    /// It sent its frame, and is handed the bytes of the reply, or silence. The item says so, and is kept. Where memory is refused its
+    /// client did not hear it, and all else is as before.
     pub fn hears(
         &mut self,
         alloc: Global,
@@ -285,12 +335,14 @@ impl Job {
         item: Item,
         handed: &Option<Bytes>,
     ) -> Result<(), OutOfMemory>
+        requires room { self.old.room ≡ true }
         requires asked { frame_due self.old ≡ Some frame }
+        requires fits { IfSome (request_next self.old.crowd self.old.number self.old.line (asked_said self.old.stage)) request.Fits }
         requires sent { IsOfFrame self.old.line frame item }
         requires told { told_by handed.now ≡ item.reply }
         ensures now { OnOk result (self.new ≡ after_frame self.old frame item) }
         ensures does { OnOk result (Does self.old (sends item) self.new) }
-        ensures err { OnErr result (self.new ≡ self.old) }
+        ensures err { OnErr result (self.new ≡ after_unheard self.old item) }
     {
         self.hear(alloc, frame, item, handed)
     }

@@ -11,6 +11,6 @@ mod to_do;
 
 pub use gate::{Gate, OpenGate};
 pub use job::Job;
-pub use laws::ticks_follow_collects;
+pub use laws::{jobs_are_patient, ticks_follow_collects};
 pub use stage::{Stage, Way};
 pub use to_do::ToDo;

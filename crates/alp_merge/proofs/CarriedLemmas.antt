@@ -13,7 +13,7 @@ use Rattle.alp_carrier.specs.declared.carrying.Carried.{Carried}
 use Rattle.alp_carrier.specs.declared.route.Route.{Route}
 use Rattle.alp_carrier.specs.declared.taken.Taken.{Taken}
 use Rattle.alp_carrier.proofs.PlanLemmas.{all_planned}
-use Rattle.alp_carrier.proofs.TakeLemmas.{WasSeenAmong, all_among}
+use Rattle.alp_carrier.proofs.TakeLemmas.{WasSeenAmong, all_among, all_other}
 use Rattle.alp_journal.specs.declared.act.Act.{Act}
 use Rattle.alp_journal.specs.declared.act.Act.TheVariants as act
 use Rattle.alp_journal.specs.declared.entry.Entry.{Entry}
@@ -27,7 +27,7 @@ use Rattle.alp_monitor.specs.Passes.{front, turns, number, first_base}
 use Rattle.alp_course.specs.Courses.{Seat, last_rank, IsSentBy, Occurrence, comes}
 use Rattle.alp_course.proofs.LinkLemmas.{get_left}
 use Rattle.alp_course.proofs.RankLemmas.{get_below}
-use Rattle.alp_merge.specs.Carried.{sent_by, ranked_as, sent_at, sent_in, arrival_by, IsShutBehind, IsReadAs, IsBased, IsKeptOff, shut, starved, ranks_end_here, ranks_end_there, AreBroughtTo, nothing, one_came, one_missed, base_there, base_here, all_read, read_turn, was_starved, WasSentThere, CarriersTakeTurns}
+use Rattle.alp_merge.specs.Carried.{sent_by, ranked_as, sent_at, sent_in, arrival_by, IsShutBehind, IsReadAs, IsBased, IsKeptOff, shut, starved, ranks_end_here, ranks_end_there, WasTakenBehind, AreBroughtTo, nothing, one_came, one_missed, base_there, base_here, all_read, read_turn, was_starved, WasSentThere, CarriersTakeTurns}
 use Rattle.alp_merge.specs.Served.{Ranked, entry_of, rank_of, entries_of, ranks_of, seat_behind, IsTurnOf, AreTurnsOf}
 
 -- ---- which entry sent it
@@ -152,6 +152,23 @@ module _ {S B E : Type 0} (base_of : S → B) (sight : Sight B E) (base : B → 
             omega (arith, is, rank, low, last));
       }
 
+  -- it was taken behind so many of the sender's entries
+  taken_behind : (x : Taken) → Seen x → WasTakenBehind (base_there base_of sight base read r) (all_read base_of sight base read there) x
+  taken_behind x (seen, low, high) =
+      let b : B = first_base base_of r.from.now in
+      let early : List E = take seen.after (entries_in (front c.sender)) in
+      let same : list_map read early ≡ take seen.after (all_read base_of sight base read there) = ap (list_map read) (front_there seen.after seen.within) ∙ sym (take_map read seen.after (entries_in there)) in
+      record {
+        behind = seen.after;
+        within =
+            (let below : seen.after ≤ length (front c.sender) = seen.within in
+            let all : length there ≡ length (front c.sender) + length begins_there.0 = ap (λ (l : List (ℕ × E)). length l) (sym begins_there.1) ∙ length-append (front c.sender) begins_there.0 in
+            let one : length (entries_in there) ≡ length there = length-map there entry_there in
+            let two : length (all_read base_of sight base read there) ≡ length (entries_in there) = length-map (entries_in there) read in
+            omega (arith, below, all, one, two));
+        seen_is = seen.seen_is ∙ (reads_there.last_is early ∙ ap (λ (l : List Ranked). last_rank (ranks_of (base b ++ l))) same);
+      }
+
   -- the turn that brought it
   came_by : (x : Taken) (u : ℕ × E) → Came sight (first_base base_of r.to.now) r.pair.from x (front c.receiver) u → IsTurnOf t r.pair.to (all_read base_of sight base read here) (comes r.pair.from r.pair.to x.message x.seen) (read_turn base_of sight base read u)
   came_by x u came =
@@ -258,6 +275,8 @@ module _ {S B E : Type 0} (base_of : S → B) (sight : Sight B E) where
           let long : length (sent_in (base_there base_of sight base read r ++ all_read base_of sight base read there)) ≡ length (sent_before base_of sight r.from.now c.sender) + length more = ap (λ (l : List (ℕ × Envelope)). length l) whole ∙ length-append (sent_before base_of sight r.from.now c.sender) more in
           omega (arith, low, long));
       are = h.are_taken.are ∙ ap (λ (l : List (ℕ × Envelope)). addressed_to r.pair.to (drop r.pair.first l)) (sym (take-append-le c.next (sent_before base_of sight r.from.now c.sender) more h.are_taken.within) ∙ ap (take c.next) (sym whole));
+      seen = all_other (λ (x : Taken). WasSeenAmong base_of sight r.from.now r.pair.to r.pair.first c.next c.sender x) (WasTakenBehind (base_there base_of sight base read r) (all_read base_of sight base read there)) h.taken
+          (taken_behind base_of sight base read r reads_there reads_here s t based_there based_here there here c begins_there begins_here) among;
       brought = subst (λ (n : ℕ). AreBroughtTo (was_starved base_of sight base read r here) r.pair.from r.pair.to (base_here base_of sight base read r) (all_read base_of sight base read here) n (planned seed h.taken) d.done) (ap (λ (l : List (ℕ × E)). length l) no_front) d.brought;
     };
   }
@@ -274,7 +293,10 @@ module _ {S B E : Type 0} (base_of : S → B) (sight : Sight B E) where
       stand : AllByRecursion (λ (u : ℕ × E). slice_get (entries_in here) u.0 ≡ Some u.1) (turns c.receiver)
       stand = turns_stand 0 (number c.receiver) (front c.receiver) here (λ i x is. ap (slice_get here) (let same : 0 + i ≡ i = omega arith in same) ∙ (ap (λ (l : List (ℕ × E)). slice_get l i) (sym begins_here.1) ∙ (get_left (front c.receiver) begins_here.0 i (get_below (front c.receiver) i x is) ∙ is)))
 
+      among : AllByRecursion (λ (x : Taken). WasSeenAmong base_of sight r.from.now r.pair.to r.pair.first c.next c.sender x) h.taken
+      among = all_among base_of sight r.from.now r.pair.to r.pair.first c.sender c.next r.pair.first h.taken (omega arith) h.are_taken.seen
+
       d : AreDone base_of sight base read r reads_there reads_here s t based_there based_here there here c begins_there begins_here (length (front receiver)) (planned seed h.taken) h.brings.more
       d = done_by base_of sight base read r reads_there reads_here s t based_there based_here there here c begins_there begins_here (length (front receiver)) (planned seed h.taken) h.brings.more
-          (all_planned (λ (x : Taken). WasSeenAmong base_of sight r.from.now r.pair.to r.pair.first c.next c.sender x) seed h.taken (all_among base_of sight r.from.now r.pair.to r.pair.first c.sender c.next r.pair.first h.taken (omega arith) h.are_taken.seen))
+          (all_planned (λ (x : Taken). WasSeenAmong base_of sight r.from.now r.pair.to r.pair.first c.next c.sender x) seed h.taken among)
           (subst (AllByRecursion (λ (u : ℕ × E). slice_get (entries_in here) u.0 ≡ Some u.1)) turns_are stand) h.brings.brought

@@ -6,3 +6,4 @@ pub mod ClosedLemmas
 pub mod CarriedLemmas
 pub mod StormLemmas
 pub mod AgreeLemmas
+pub mod TwiceLemmas

@@ -20,10 +20,10 @@ use Rattle.alp_course.specs.Languages.{Language, Just, Each}
 use Rattle.alp_course.specs.Midway.{IsMidway}
 use Rattle.alp_course.proofs.LanguageLemmas.{course_append}
 use Rattle.alp_course.proofs.MidwayLemmas.{midway_on}
-use Rattle.alp_merge.specs.Carried.{sent_in, IsBased, AreCarriedBy}
+use Rattle.alp_merge.specs.Carried.{IsBased, AreCarriedBy}
 use Rattle.alp_merge.specs.Closed.{AreServed, IsOfPass, HasGoneOn, AreOneCourse}
 use Rattle.alp_merge.specs.Served.{Ranked, entries_of, ranks_of, ranked_in, done_by}
-use Rattle.alp_merge.specs.Storms.{is_worker, is_carrier, deeds_at, pair_seed, ranked_with, entries_at, times, IfOther, AreCounted, IsBy, IsCarriedPair, IsStorm}
+use Rattle.alp_merge.specs.Storms.{is_worker, is_carrier, deeds_at, pair_seed, ranked_with, entries_at, first_place, entries_since, times, IfOther, AreCounted, IsBy, IsCarriedPair, IsStorm}
 use Rattle.alp_merge.specs.Stormed.{IsStormed, occurred_in}
 use Rattle.alp_merge.specs.Threads.{HasOwnPass, HasCarrierPass, AreByThreads, IsStormy, starved_in, ThreadsMakeAStorm}
 use Rattle.alp_merge.specs.Turns.{Who, Turn, occurrence_in, turns_at}
@@ -92,6 +92,23 @@ counted_all servers took c many =
     count_each (λ from. Each (λ to. IfOther (from == to) (Just (times (length (took from to)) (loses from to)))) servers) servers servers
     (λ d from all one near. count_each (λ to. IfOther (from == to) (Just (times (length (took from to)) (loses from to)))) servers servers (λ e to every two far. count_pair servers took e from to every one near two far) d all) c many
 
+-- ---- what stands behind it
+
+with_self : (xs : List Ranked) → ranked_with (entries_of xs) (ranks_of xs) ≡ xs
+with_self [] = refl
+with_self (x ∷ xs) = ap (λ (l : List Ranked). x ∷ l) (with_self xs)
+
+with_more : (es : List Entry) (rs : List ℕ) (xs : List Ranked) → length rs ≡ length es → ranked_with (es ++ entries_of xs) (rs ++ ranks_of xs) ≡ ranked_with es rs ++ xs
+with_more [] [] xs same = with_self xs
+with_more [] (r ∷ rs) xs same = absurd (omega (arith, same))
+with_more (e ∷ es) [] xs same = absurd (omega (arith, same))
+with_more (e ∷ es) (r ∷ rs) xs same = ap (λ (l : List Ranked). record { entry = e; rank = r } ∷ l) (with_more es rs xs (omega (arith, same)))
+
+-- a server of a course on its way has further entries
+entries_behind : (r after : Course) (n : ℕ) (xs : List Ranked) → IsMidway r → IsSeat r n → HasGoneOn (seat_at r n) (seat_at after n) xs → entries_at after n ≡ entries_at r n ++ xs
+entries_behind r after n xs midway s g =
+    (λ i. ranked_with (g.journal i) (g.ranks i)) ∙ with_more (seat_at r n).journal (seat_at r n).ranks xs (midway.holds.rising n s.first).many
+
 -- ---- the storm
 
 module _ (plan : ℕ) (is_job : ℕ → Bool) (Starved : ℕ → ℕ → ℕ → Message → Type 0) (r : Course) (passes : ℕ → ℕ) (who : (server pass : ℕ) → Who) (history : ℕ → List (ℕ × Ranked)) (done : (server pass : ℕ) → List Occurrence) (deeds : ℕ → List Deed) (took : (from to : ℕ) → List Taken)
@@ -105,7 +122,7 @@ module _ (plan : ℕ) (is_job : ℕ → Bool) (Starved : ℕ → ℕ → ℕ →
       let there : entries_in (history from) ≡ list_map ranked_in (turns_at from a.turns) = sym (a.entries from two.sender) in
       let here : entries_in (history to) ≡ list_map ranked_in (turns_at to a.turns) = sym (a.entries to two.receiver) in
       let own : done to w.pass ≡ done_by (is_carrier from to) (turns_at to a.turns) = sym (a.own to w.pass (is_carrier from to) two.receiver w.within w.only) in
-      subst (λ (y : List Ranked × (List Ranked × List Occurrence)). AreCarriedBy (Starved from to) (pair_seed plan from to) (length (sent_in (entries_at r from))) from to (entries_at r from) (entries_at r to) y.0 y.1.0 (took from to) y.1.1)
+      subst (λ (y : List Ranked × (List Ranked × List Occurrence)). AreCarriedBy (Starved from to) (pair_seed plan from to) (first_place r from) from to (entries_at r from) (entries_at r to) y.0 y.1.0 (took from to) y.1.1)
       (λ i. (there i, (here i, own i))) w.did
 
   by_them : (xs : List Turn) → AllByRecursion (IsOfPass r passes who history done) xs → AllByRecursion (λ (x : Turn). IsBy is_job x.who x.occurrence) xs
@@ -119,7 +136,9 @@ pub storm_of : (plan : ℕ) (is_job : ℕ → Bool) (job : ℕ → List (List Li
     → (after : Course) × IsStorm plan is_job job Starved c r after deeds knows × IsStormy r after history
 storm_of plan is_job job Starved c r passes who history done deeds took knows midway served_by threads works =
     let a : AreOneCourse r passes who history done = one_course r passes who history done midway served_by in
-    let (xs, word, counts) = counted_all (length r.seats) took a.after a.many in (
+    let (xs, word, counts) = counted_all (length r.seats) took a.after a.many in
+    let stands : (n : ℕ) → IsSeat r n → HasGoneOn (seat_at r n) (seat_at counts.now n) (entries_in (history n)) =
+    λ n s. subst (λ (ss : List Seat). HasGoneOn (seat_at r n) (seat_at (record { seats = ss; posts = counts.now.posts }) n) (entries_in (history n))) (sym counts.seats) (a.stands n s) in (
       counts.now,
       record {
         turns = a.turns;
@@ -132,13 +151,14 @@ storm_of plan is_job job Starved c r passes who history done deeds took knows mi
         carried = carried_pair plan is_job Starved r passes who history done deeds took a threads;
         others = by_them plan is_job Starved r passes who history done deeds took a threads a.turns a.all;
         calm = a.calm;
+        entries = λ n s. entries_behind r counts.now n (entries_in (history n)) midway s (stands n s) ∙ ap (λ (l : List Ranked). entries_at r n ++ l) (sym (a.entries n s));
         are_counted = word;
         course = course_append r a.after counts.now (list_map occurrence_in a.turns) xs a.course counts.course;
       },
       record {
         midway = midway_on a.after counts.now xs a.midway counts.course;
         many = ap (λ (ss : List Seat). length ss) counts.seats ∙ a.many;
-        stands = λ n s. subst (λ (ss : List Seat). HasGoneOn (seat_at r n) (seat_at (record { seats = ss; posts = counts.now.posts }) n) (entries_in (history n))) (sym counts.seats) (a.stands n s);
+        stands = stands;
       },
     )
 

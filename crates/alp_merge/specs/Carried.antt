@@ -1,19 +1,19 @@
 -- What carriers brought to a server, as turns of a storm.
-use Rattle.std.specs.Prelude.{◌≡◌, ℕ, ◌+◌, ◌≤◌, ◌^◌, ◌||◌, Bool, true, false, List, [], ◌∷◌, ◌++◌, length, take, drop, flat_map, map as list_map, slice_get, Option, None, Some}
+use Rattle.std.specs.Prelude.{◌≡◌, ℕ, ◌+◌, ◌≤◌, ◌^◌, ◌*◌, true, List, [], ◌∷◌, ◌++◌, length, take, drop, flat_map, map as list_map, slice_get, Option, None, Some}
 use Rattle.std.specs.List.{AllByRecursion, list_any}
 use mathlib.Core.List.{IsPrefix}
 use Rattle.alp_carrier.specs.Carries.{HasCarried}
+use Rattle.alp_carrier.specs.Claims.{weight_of}
 use Rattle.alp_carrier.specs.Plans.{planned}
 use Rattle.alp_carrier.specs.Sights.{Arrival, Sight}
 use Rattle.alp_carrier.specs.Takes.{addressed_to, message_of}
 use Rattle.alp_carrier.specs.declared.carrying.Carried.{Carried}
 use Rattle.alp_carrier.specs.declared.route.Route.{Route}
 use Rattle.alp_carrier.specs.declared.taken.Taken.{Taken}
-use Rattle.alp_journal.specs.Answered.{entries_limit, is_read_fault}
+use Rattle.alp_journal.specs.Answered.{entries_limit}
 use Rattle.alp_journal.specs.Moves.{stops}
 use Rattle.alp_journal.specs.declared.act.Act.{Act}
 use Rattle.alp_journal.specs.declared.act.Act.TheVariants as act
-use Rattle.alp_journal.specs.declared.entry.Entry.{Entry}
 use Rattle.alp_journal.specs.declared.event.Event.{Event}
 use Rattle.alp_journal.specs.declared.event.Event.TheVariants as event
 use Rattle.alp_journal.specs.declared.message.Envelope.{Envelope}
@@ -44,18 +44,9 @@ abbrev pub arrival_by : ℕ → Event → Option Arrival
 arrival_by rank (event.Arrive from m) = Some (record { from = from; message = m; rank = rank })
 arrival_by rank e = None
 
-abbrev pub is_failed : Act → Bool
-is_failed act.Failed = true
-is_failed a = false
-
--- the device failed in this entry: the server is down by it, or its reply tells that a read failed
-abbrev pub shows_failure : Entry → Bool
-shows_failure e = is_read_fault e.reply || list_any is_failed e.acts
-
--- A server takes no entry more behind these: the last one stopped it, its device failed in one of them, or it has no place left.
+-- A server takes no entry more behind these: one of them stopped it, or it has no place left.
 pub data IsShutBehind (xs : List Ranked) : Type 0 where
-  stopped : (before : List Ranked) (x : Ranked) → xs ≡ before ++ x ∷ [] → stops x.entry ≡ true → IsShutBehind xs
-  failed : list_any (λ (x : Ranked). shows_failure x.entry) xs ≡ true → IsShutBehind xs
+  stopped : list_any (λ (x : Ranked). stops x.entry) xs ≡ true → IsShutBehind xs
   full : entries_limit ≤ length xs → IsShutBehind xs
 
 -- What carriers see of a server with this base is what its entries say, those of the base first.
@@ -89,6 +80,12 @@ module _ (Starved : ℕ → Message → Type 0) (from to : ℕ) (base entries : 
     one_missed : (place behind : ℕ) (x : Taken) (xs : List Taken) (os : List Occurrence) → place ≤ behind → behind ≤ length entries → IsKeptOff (Starved behind x.message) x.seen (base ++ take behind entries)
         → AreBroughtTo behind xs os → AreBroughtTo place (x ∷ xs) os
 
+-- A message was taken behind so many of its sender's further entries. What it saw is the last rank there.
+pub record WasTakenBehind (there there_more : List Ranked) (x : Taken) : Type 0 where
+  pub behind : ℕ
+  pub within : behind ≤ length there_more
+  pub seen_is : x.seen ≡ last_rank (ranks_of (there ++ take behind there_more))
+
 -- These are the messages to a server from this place of all that the sender sent up to some next one, in order and each once. They were
 -- brought as the plan of the seed says.
 pub record AreCarriedBy (Starved : ℕ → Message → Type 0) (seed first : ℕ) (from to : ℕ) (there here : List Ranked) (there_more here_more : List Ranked) (taken : List Taken) (done : List Occurrence) : Type 0 where
@@ -96,6 +93,7 @@ pub record AreCarriedBy (Starved : ℕ → Message → Type 0) (seed first : ℕ
   pub from_first : first ≤ next
   pub within : next ≤ length (sent_in (there ++ there_more))
   pub are : list_map message_of taken ≡ addressed_to to (drop first (take next (sent_in (there ++ there_more))))
+  pub seen : AllByRecursion (WasTakenBehind there there_more) taken
   pub brought : AreBroughtTo Starved from to here here_more 0 (planned seed taken) done
 
 -- ---- the law
@@ -135,3 +133,21 @@ module _ {S B E : Type 0} (base_of : S → B) (sight : Sight B E) where
   CarriersTakeTurns = (base : B → List Ranked) (read : E → Ranked) (r : Route S B E) → IsReadAs sight base read (first_base base_of r.from.now) → IsReadAs sight base read (first_base base_of r.to.now) → (seed : ℕ) (sender receiver : Pass S B E) (c : Carried S B E) → HasCarried base_of sight r seed sender receiver c
       → turns receiver ≡ [] → front receiver ≡ [] → (s t : Seat) → IsBased s (base_there base_of sight base read r) → IsBased t (base_here base_of sight base read r)
       → (there here : List (ℕ × E)) → IsPrefix (front c.sender) there → IsPrefix (front c.receiver) here → IsCarrying base_of sight base read r seed s t there here c
+
+-- ---- how often a message comes
+
+abbrev pub message_by : Occurrence → List Message
+message_by (comes from to m seen) = m ∷ []
+message_by o = []
+
+-- the messages that these occurrences brought, in order
+abbrev pub messages_by : List Occurrence → List Message
+messages_by [] = []
+messages_by (o ∷ os) = message_by o ++ messages_by os
+
+-- Whatever messages weigh, those that were brought weigh at most twice those that were taken: each comes at most twice as often as it was sent.
+-- So it is even where memory may have been refused each time.
+abbrev pub ComeTwiceAtMost : Type 0
+ComeTwiceAtMost = (seed first from to : ℕ) (there here there_more here_more : List Ranked) (taken : List Taken) (done : List Occurrence)
+    → (h : AreCarriedBy (λ (behind : ℕ) (m : Message). Unit {0}) seed first from to there here there_more here_more taken done) (w : Message → ℕ)
+    → weight_of w (messages_by done) ≤ 2 * weight_of w (addressed_to to (drop first (take h.next (sent_in (there ++ there_more)))))

@@ -1,5 +1,5 @@
 -- A storm: client threads and carriers take turns at servers, and the turns of all are a course.
-use Rattle.std.specs.Prelude.{◌≡◌, ℕ, zero, suc, ◌+◌, ◌*◌, ◌%◌, ◌^◌, ◌==◌, ◌&&◌, Bool, true, false, IsTrue, List, [], ◌∷◌, ◌++◌, length, filter, flat_map, map as list_map}
+use Rattle.std.specs.Prelude.{◌≡◌, ℕ, zero, suc, ◌+◌, ◌*◌, ◌%◌, ◌^◌, ◌==◌, ◌&&◌, min, Bool, true, false, IsTrue, List, [], ◌∷◌, ◌++◌, length, filter, flat_map, map as list_map}
 use Rattle.std.specs.List.{AllByRecursion}
 use Rattle.alp_carrier.specs.declared.taken.Taken.{Taken}
 use Rattle.alp_jobs.specs.Deeds.{Deed, sends, gives_tick, gives_timeout}
@@ -65,14 +65,18 @@ ranked_with es ns = []
 abbrev pub entries_at : Course → ℕ → List Ranked
 entries_at r n = ranked_with (seat_at r n).journal (seat_at r n).ranks
 
+-- The place behind all that a server sent so far, as a number of 32 bits. Carriers begin there.
+abbrev pub first_place : Course → ℕ → ℕ
+first_place r n = min (length (sent_in (entries_at r n))) 4294967295
+
 -- and those that turns made since
 abbrev pub entries_since : ℕ → List Turn → List Ranked
 entries_since n turns = list_map ranked_in (turns_at n turns)
 
--- From the first message on that the sender had not sent as the storm began, the carrier of the pair took all up to some place, and brought them by its plan.
+-- From the first message on that the sender had not sent as the storm began, as long as places have numbers, the carrier of the pair took all up to some place, and brought them by its plan.
 abbrev pub IsCarriedPair : (Starved : ℕ → ℕ → ℕ → Message → Type 0) (plan : ℕ) → Course → List Turn → (from to : ℕ) → List Taken → Type 0
 IsCarriedPair Starved plan r turns from to taken =
-    AreCarriedBy (Starved from to) (pair_seed plan from to) (length (sent_in (entries_at r from))) from to (entries_at r from) (entries_at r to) (entries_since from turns) (entries_since to turns) taken
+    AreCarriedBy (Starved from to) (pair_seed plan from to) (first_place r from) from to (entries_at r from) (entries_at r to) (entries_since from turns) (entries_since to turns) taken
     (done_by (is_carrier from to) (turns_at to turns))
 
 -- ---- what was taken
@@ -98,7 +102,8 @@ IsBy is_job (carrier from to) (comes f t m seen) = (f ≡ from) × (t ≡ to)
 IsBy is_job w o = ⊥
 
 -- From a course to another one. Each job's client does what its lines say by what it is handed, all at servers of the run, and its turns at
--- each server are its deeds there, in its order. Carriers bring what was sent, by the plan. Nothing else happens, and no server stops. What was taken is counted behind.
+-- each server are its deeds there, in its order. Carriers bring what was sent, by the plan. Nothing else happens, and no server stops: each
+-- server's journal has just the entries of its turns more, with their ranks. What was taken is counted behind.
 -- That memory was refused is no matter of the journals, so it is told of each pair, place and message.
 pub record IsStorm (plan : ℕ) (is_job : ℕ → Bool) (job : ℕ → List (List Line)) (Starved : ℕ → ℕ → ℕ → Message → Type 0) (c : Crowd) (r after : Course) (deeds : ℕ → List Deed) (knows : ℕ → Crowd) : Type 0 where
   pub turns : List Turn
@@ -111,5 +116,6 @@ pub record IsStorm (plan : ℕ) (is_job : ℕ → Bool) (job : ℕ → List (Lis
   pub carried : (from to : ℕ) → AreTwo r from to → IsCarriedPair Starved plan r turns from to (took from to)
   pub others : AllByRecursion (λ (x : Turn). IsBy is_job x.who x.occurrence) turns
   pub calm : AllByRecursion (λ (x : Turn). stops x.entry ≡ false) turns
+  pub entries : (n : ℕ) → IsSeat r n → entries_at after n ≡ entries_at r n ++ entries_since n turns
   pub are_counted : AreCounted (length r.seats) took counted
   pub course : AreCourse r (list_map occurrence_in turns ++ counted) after

@@ -12,10 +12,10 @@ use Rattle.alp_session.specs.Crowd.{Crowd}
 use Rattle.alp_session.specs.Crowds.{lent_crowd}
 use Rattle.alp_course.specs.Courses.{Course, seat_at, IsSeat, AreTwo, Occurrence}
 use Rattle.alp_course.specs.Midway.{IsMidway}
-use Rattle.alp_merge.specs.Carried.{sent_in, AreCarriedBy}
+use Rattle.alp_merge.specs.Carried.{AreCarriedBy}
 use Rattle.alp_merge.specs.Closed.{AreServed, HasGoneOn}
 use Rattle.alp_merge.specs.Served.{Ranked}
-use Rattle.alp_merge.specs.Storms.{is_worker, is_carrier, place_of, deeds_at, pair_seed, entries_at, IsBy, IsStorm}
+use Rattle.alp_merge.specs.Storms.{is_worker, is_carrier, place_of, deeds_at, pair_seed, entries_at, first_place, IsBy, IsStorm}
 use Rattle.alp_merge.specs.Turns.{Who}
 
 module _ (plan : ℕ) (is_job : ℕ → Bool) (Starved : ℕ → ℕ → ℕ → Message → Type 0) (r : Course) (passes : ℕ → ℕ) (who : (server pass : ℕ) → Who) (history : ℕ → List (ℕ × Ranked)) (done : (server pass : ℕ) → List Occurrence) (deeds : ℕ → List Deed) (took : (from to : ℕ) → List Taken) where
@@ -31,7 +31,7 @@ module _ (plan : ℕ) (is_job : ℕ → Bool) (Starved : ℕ → ℕ → ℕ →
     pub pass : ℕ
     pub within : pass < passes to
     pub only : (i : ℕ) → is_carrier from to (who to i) ≡ (i == pass)
-    pub did : AreCarriedBy (Starved from to) (pair_seed plan from to) (length (sent_in (entries_at r from))) from to (entries_at r from) (entries_at r to) (entries_in (history from)) (entries_in (history to)) (took from to) (done to pass)
+    pub did : AreCarriedBy (Starved from to) (pair_seed plan from to) (first_place r from) from to (entries_at r from) (entries_at r to) (entries_in (history from)) (entries_in (history to)) (took from to) (done to pass)
 
   -- So it is with each client of a job and with each pair. Whoever has a pass did by it what it may.
   pub record AreByThreads : Type 0 where

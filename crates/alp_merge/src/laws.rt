@@ -1,5 +1,5 @@
 //! What holds of each storm, whatever its schedule.
-ghost use Rattle.alp_merge.specs.Carried.{CarriersTakeTurns};
+ghost use Rattle.alp_merge.specs.Carried.{CarriersTakeTurns, ComeTwiceAtMost};
 ghost use Rattle.alp_merge.specs.Closed.{StormsAreCourses};
 ghost use Rattle.alp_merge.specs.Threads.{ThreadsMakeAStorm};
 
@@ -20,4 +20,9 @@ pub fn carriers_take_turns<S: Station>()
 /// Behind it the servers have all that was made, and a settling may follow.
 pub fn threads_make_a_storm<S: Station>()
     ensures { ThreadsMakeAStorm S.sight }
+{}
+
+/// What a carrier brought of a pair's messages weighs at most twice what was sent and taken of them: each message comes at most twice.
+pub fn messages_come_at_most_twice()
+    ensures { ComeTwiceAtMost }
 {}

@@ -3,4 +3,6 @@
 
 mod laws;
 
-pub use laws::{carriers_take_turns, storms_are_courses, threads_make_a_storm};
+pub use laws::{
+    carriers_take_turns, messages_come_at_most_twice, storms_are_courses, threads_make_a_storm,
+};

@@ -16,3 +16,4 @@ mod BackLemmas
 mod ErrandLemmas
 mod CarrierLemmas
 mod RunLemmas
+mod CauseLemmas

@@ -1,6 +1,6 @@
 -- a worker on its way: one deed more, or none
 use Rattle.std.specs.Prelude.{slice_get, ◌⊎◌, ◌==◌, Bool, true, false, cond, Option, Some, Result, Ok, Err, IfOk, IfErr, IfSome, if◌then◌else◌}
-use Rattle.std.proofs.Common.{inl, inr, ◌≡◌, ◌≢◌, ℕ, ◌+◌, ◌≤◌, List, [], ◌∷◌, ◌++◌, length, take, set, refl, sym, ap, ◌∙◌, subst, arith, eq-eqb, ne_eqb}
+use Rattle.std.proofs.Common.{inl, inr, ◌≡◌, ◌≢◌, ℕ, ◌+◌, ◌<◌, ◌≤◌, List, [], ◌∷◌, ◌++◌, length, take, set, refl, sym, ap, ◌∙◌, subst, arith, eq-eqb, ne_eqb}
 use Rattle.std.specs.List.{AllByRecursion}
 use mathlib.Core.List.{IsPrefix, append-nil, append_assoc}
 use Rattle.alp_files.specs.declared.reply.Reply.{Reply}
@@ -8,11 +8,14 @@ use Rattle.alp_rpc.specs.Replies as replies
 use Rattle.alp_journal.specs.declared.entry.Entry.{Entry}
 use Rattle.alp_journal.specs.declared.event.Event.{Event}
 use Rattle.alp_journal.specs.declared.log.Item.{Item}
+use Rattle.alp_lines.specs.declared.line.Line.TheVariants as line
+use Rattle.alp_lines.specs.declared.line.Line.{Line}
 use Rattle.alp_session.specs.Crowd.{Crowd}
 use Rattle.alp_session.specs.Crowds.{client_at}
 use Rattle.alp_session.specs.Frames.{IsReady}
 use Rattle.alp_jobs.specs.Deeds.{Deed, sends, gives_tick, gives_timeout}
 use Rattle.alp_jobs.specs.Jobs.{DoesRest, Does, GoesOn}
+use Rattle.alp_jobs.specs.Lines.{has_lines, KeepsLines, IsJobOf, GivesIn}
 use Rattle.alp_jobs.specs.States.{JobState}
 use Rattle.alp_monitor.specs.History.{entries_in}
 use Rattle.alp_monitor.specs.Passes.{IsHeld, front, turns, first_base}
@@ -23,7 +26,7 @@ use Rattle.alp_storm.proofs.Fronts.{begins_through, not_longer, same_entries, ge
 use Rattle.alp_storm.specs.Logs.{Log, IsMadeOf}
 use Rattle.alp_storm.specs.Turns.{WasMade, WasAnswered, IsIdle, IsBroken, HasTaken, EndsTurn, Took}
 use Rattle.alp_storm.specs.Rings.{IsRing, IsTurned, StandsAt}
-use Rattle.alp_storm.specs.Works.{server_of, deeds_at, item_of, items_of, IsEventOf, IsItemOf, IsTurnOf, AreTurnsOf, Takes, TakeAll, HasWorked, HasTurned, IsLast, EndsWork, HasStopped, WorksOn, StopsIn}
+use Rattle.alp_storm.specs.Works.{server_of, deeds_at, item_of, items_of, IsEventOf, IsItemOf, IsTurnOf, AreTurnsOf, Takes, TakeAll, HasWorked, HasDue, HasTurned, EndsDue, WantsMemory, before_turn, in_turn, behind_turn, EndsWork, HasStopped, WorksOn, StopsIn}
 use Rattle.alp_storm.specs.declared.fault.StormFault.{StormFault}
 use Rattle.alp_storm.specs.declared.fault.StormFault.TheVariants as fault
 use Rattle.alp_storm.specs.declared.host.Answer.{Answer}
@@ -59,6 +62,15 @@ one_within : (servers : ℕ) (ds : List Deed) (d : Deed) → AllByRecursion (λ 
     → AllByRecursion (λ (x : Deed). (1 ≤ server_of x) × (server_of x ≤ servers)) (ds ++ d ∷ [])
 one_within servers [] d all one = (one, tt)
 one_within servers (x ∷ ds) d all one = (all.0, one_within servers ds d all.1 one)
+
+-- one more that gives ids of the run
+all_first : (P : Deed → Type 0) (ds : List Deed) (d : Deed) → AllByRecursion P (ds ++ d ∷ []) → AllByRecursion P ds
+all_first P [] d all = tt
+all_first P (x ∷ ds) d all = (all.0, all_first P ds d all.1)
+
+all_last : (P : Deed → Type 0) (ds : List Deed) (d : Deed) → AllByRecursion P (ds ++ d ∷ []) → P d
+all_last P [] d all = all.0
+all_last P (x ∷ ds) d all = all_last P ds d all.1
 
 -- ---- turns
 
@@ -131,29 +143,40 @@ module _ {S B E : Type 0} (base_of : S → B) (log : Log B E) (ms : List (Monito
     taken_later : (e : Event) (a : Answer) (m : Monitor S B E) (p q : Pass S B E) → HasTaken base_of log m e p q a → IsLater base_of m p q
     taken_later e a m p q h = h.later
 
+    lines_on : (old job now : JobState) → job.number ≡ old.number → KeepsLines old job → KeepsLines job now → KeepsLines old now
+    lines_on old job now number before behind p given_up all = behind p (subst (λ (n : ℕ). p (line.Abort n) ≡ true) (sym number) given_up) (before p given_up all)
+
     -- a worker after one deed more
     pub one_more : (d : Deed) (e : Event) (a : Answer) (job now : JobState) (qs rs : List (Pass S B E)) → IsEventOf a.epoch d e → IsItemOf d a.reply a.place → HasTurned base_of log ms (server_of d) e qs rs a → Does job d now → now.items ≡ job.items ++ item_of d
+        → now.number ≡ job.number → KeepsLines job now → ((n : ℕ) → IsJobOf n job → GivesIn n d → IsJobOf n now)
         → (IsReady job.number (client_at job.crowd job.number) → IsReady now.number (client_at now.crowd now.number)) → WorksOn base_of log ms k job qs now rs
-    one_more d e a job now qs rs event item h does items ready old first w = record {
+    one_more d e a job now qs rs event item h does items number lines ours ready old first w = record {
       ring_is = ring_turned base_of ms k h.place (λ m p q. HasTaken base_of log m e p q a) qs rs (taken_later e a) h.turned w.ring_is;
       ready = ready w.ready;
+      number_is = number ∙ w.number_is;
       deeds = w.deeds ++ d ∷ [];
       did = λ ds c rest. subst (λ (l : List Deed). DoesRest old l c) (sym (append_assoc w.deeds (d ∷ []) ds)) (w.did (d ∷ ds) c (does ds c rest));
       took = take_all_more w.deeds d e a first qs rs event item h w.took;
       within = one_within (length ms) w.deeds d w.within (let one : server_of d ≡ h.place + 1 = h.stands.from_one in omega (arith, one), h.stands.to_last);
       items_are = items ∙ (ap (λ l. l ++ item_of d) w.items_are ∙ (append_assoc old.items (items_of w.deeds) (item_of d) ∙ ap (λ l. old.items ++ l) (sym (items_one w.deeds d))));
+      lines = lines_on old job now w.number_is w.lines lines;
+      ours = λ n is gives. ours n (w.ours n is (all_first (GivesIn n) w.deeds d gives)) (all_last (GivesIn n) w.deeds d gives);
     }
 
     -- and after none
-    pub none_more : (job now : JobState) (qs : List (Pass S B E)) → GoesOn job now → now.items ≡ job.items → (IsReady job.number (client_at job.crowd job.number) → IsReady now.number (client_at now.crowd now.number)) → WorksOn base_of log ms k job qs now qs
-    none_more job now qs goes items ready old first w = record {
+    pub none_more : (job now : JobState) (qs : List (Pass S B E)) → GoesOn job now → now.items ≡ job.items → now.number ≡ job.number → KeepsLines job now → ((n : ℕ) → IsJobOf n job → IsJobOf n now)
+        → (IsReady job.number (client_at job.crowd job.number) → IsReady now.number (client_at now.crowd now.number)) → WorksOn base_of log ms k job qs now qs
+    none_more job now qs goes items number lines ours ready old first w = record {
       ring_is = w.ring_is;
       ready = ready w.ready;
+      number_is = number ∙ w.number_is;
       deeds = w.deeds;
       did = λ ds c rest. w.did ds c (goes ds c rest);
       took = w.took;
       within = w.within;
       items_are = items ∙ w.items_are;
+      lines = lines_on old job now w.number_is w.lines lines;
+      ours = λ n is gives. ours n (w.ours n is gives);
     }
 
     -- a worker that did nothing yet
@@ -161,6 +184,7 @@ module _ {S B E : Type 0} (base_of : S → B) (log : Log B E) (ms : List (Monito
     begun job ps ring ready = record {
       ring_is = ring;
       ready = ready;
+      number_is = refl;
       deeds = [];
       did = λ ds d rest. rest;
       took = λ i m p q m_is p_is q_is. subst (λ (x : Pass S B E). Takes base_of log m [] p x) (same_some p q (sym p_is ∙ q_is)) (record {
@@ -171,11 +195,13 @@ module _ {S B E : Type 0} (base_of : S → B) (log : Log B E) (ms : List (Monito
       });
       within = tt;
       items_are = sym (append-nil job.items);
+      lines = λ p given_up all. all;
+      ours = λ n is gives. is;
     }
 
     -- a worker that stops where it is
-    pub stops_here : (f : StormFault) (job : JobState) (qs rs : List (Pass S B E)) → IsRing base_of ms k rs → EndsWork base_of log ms f qs rs → StopsIn base_of log ms k f job qs job rs
-    stops_here f job qs rs ring why old first w = record { before = qs; worked = w; ring_is = ring; why = why }
+    pub stops_here : (f : StormFault) (job now : JobState) (qs rs : List (Pass S B E)) → IsRing base_of ms k rs → EndsWork base_of log ms f job qs now rs → StopsIn base_of log ms k f job qs now rs
+    stops_here f job now qs rs ring why old first w = record { mid = job; before = qs; worked = w; ring_is = ring; why = why }
 
 -- ---- how a turn ends a worker's way
 
@@ -197,39 +223,17 @@ module _ {S B E : Type 0} (base_of : S → B) (log : Log B E) (ms : List (Monito
   pub ring_took : (k : ℕ) (r : Result Answer StormFault) → IsTurned base_of ms i (λ m p q. Took base_of log m e p q r) ps qs → IsRing base_of ms k ps → IsRing base_of ms k qs
   ring_took k r t ring = ring_turned base_of ms k i (λ m p q. Took base_of log m e p q r) ps qs (took_later r) t ring
 
-  pub turn_ended : (r : Result Answer StormFault) (f : StormFault) → r ≡ Err f → IsTurned base_of ms i (λ m p q. Took base_of log m e p q r) ps qs → EndsWork base_of log ms f ps qs
-  turn_ended (Ok a) f is t = cc
-  turn_ended (Err (fault.DiskFault server)) f is t = subst (λ (x : StormFault). EndsWork base_of log ms x ps qs) (same_err (fault.DiskFault server) f is) (i, e, t)
-  turn_ended (Err (fault.JournalFull server)) f is t = subst (λ (x : StormFault). EndsWork base_of log ms x ps qs) (same_err (fault.JournalFull server) f is) (i, e, t)
-  turn_ended (Err fault.OutOfMemory) f is t = subst (λ (x : StormFault). EndsWork base_of log ms x ps qs) (same_err fault.OutOfMemory f is) (inr (
-    i,
-    record {
-      monitor = t.monitor;
-      old = t.old;
-      new = t.new;
-      monitor_is = t.monitor_is;
-      old_is = t.old_is;
-      now_is = t.now_is;
-      went = (let w : IsIdle base_of log t.monitor t.old t.new = t.went in record { later = w.later; at_most = inl w.none });
-    },
-  ))
-  turn_ended (Err (fault.NoServer server)) f is t = absurd t.went
-  turn_ended (Err fault.BadFrame) f is t = absurd t.went
+  module _ (job now : JobState) (still : now ≡ job) (due : HasDue job (i + 1) e) where
+    ended_due : (f : StormFault) → IsTurned base_of ms i (λ m p q. EndsTurn base_of log m e p q f) ps qs → EndsDue base_of log ms f job ps qs
+    ended_due f t = record { place = i; asked = e; due = due; ended = t }
 
-  -- memory was refused behind it
-  pub turn_unheard : (a : Answer) (server : ℕ) → HasTurned base_of log ms server e ps qs a → EndsWork base_of log ms fault.OutOfMemory ps qs
-  turn_unheard a server h = inr (
-    h.place,
-    record {
-      monitor = h.turned.monitor;
-      old = h.turned.old;
-      new = h.turned.new;
-      monitor_is = h.turned.monitor_is;
-      old_is = h.turned.old_is;
-      now_is = h.turned.now_is;
-      went = record { later = h.turned.went.later; at_most = inr (h.turned.went.turn, h.turned.went.one) };
-    },
-  )
+    turn_ended : (r : Result Answer StormFault) (f : StormFault) → r ≡ Err f → IsTurned base_of ms i (λ m p q. Took base_of log m e p q r) ps qs → EndsWork base_of log ms f job ps now qs
+    turn_ended (Ok a) f is t = cc
+    turn_ended (Err (fault.DiskFault server)) f is t = subst (λ (x : StormFault). EndsWork base_of log ms x job ps now qs) (same_err (fault.DiskFault server) f is) (still, ended_due (fault.DiskFault server) t)
+    turn_ended (Err (fault.JournalFull server)) f is t = subst (λ (x : StormFault). EndsWork base_of log ms x job ps now qs) (same_err (fault.JournalFull server) f is) (still, ended_due (fault.JournalFull server) t)
+    turn_ended (Err fault.OutOfMemory) f is t = subst (λ (x : StormFault). EndsWork base_of log ms x job ps now qs) (same_err fault.OutOfMemory f is) (in_turn still (ended_due fault.OutOfMemory t))
+    turn_ended (Err (fault.NoServer server)) f is t = absurd t.went
+    turn_ended (Err fault.BadFrame) f is t = absurd t.went
 
 -- a turn at the server of a number that was answered, or was not
 module _ {S B E : Type 0} (base_of : S → B) (log : Log B E) (ms : List (Monitor S B E)) (server i : ℕ) (e : Event) (ps qs : List (Pass S B E)) where
@@ -237,6 +241,10 @@ module _ {S B E : Type 0} (base_of : S → B) (log : Log B E) (ms : List (Monito
   ok_turn (Ok a) stands t = record { place = i; stands = stands; turned = t }
   ok_turn (Err f) stands t = tt
 
-  pub err_turn : (r : Result Answer StormFault) → IsTurned base_of ms i (λ m p q. Took base_of log m e p q r) ps qs → IfErr r (λ f. EndsWork base_of log ms f ps qs)
-  err_turn (Ok a) t = tt
-  err_turn (Err f) t = turn_ended base_of log ms i e ps qs (Err f) f refl t
+  pub err_turn : (job now : JobState) → now ≡ job → (r : Result Answer StormFault) → StandsAt (length ms) server i → HasDue job server e → IsTurned base_of ms i (λ m p q. Took base_of log m e p q r) ps qs → IfErr r (λ f. EndsWork base_of log ms f job ps now qs)
+  err_turn job now still (Ok a) stands due t = tt
+  err_turn job now still (Err f) stands due t = turn_ended base_of log ms i e ps qs job now still (subst (λ (n : ℕ). HasDue job n e) stands.from_one due) (Err f) f refl t
+
+  -- there is no server of that number
+  pub no_turn : (job now : JobState) → now ≡ job → (server ≡ 0) ⊎ (length ms < server) → HasDue job server e → EndsWork base_of log ms (fault.NoServer server) job ps now ps
+  no_turn job now still none due = (still, refl, none, record { asked = e; due = due })

@@ -5,3 +5,4 @@ pub mod Works
 pub mod Errands
 pub mod Storms
 pub mod Lists
+pub mod Causes

@@ -5,6 +5,7 @@ use Rattle.alp_rpc.specs.Frames.{request, IsSendable}
 use Rattle.alp_rpc.specs.Replies as replies
 use Rattle.alp_rpc.specs.declared.frame.Request.{Request}
 use Rattle.alp_journal.specs.Answered.{is_read_fault, entries_limit}
+use Rattle.alp_journal.specs.Moves.{stops}
 use Rattle.alp_journal.specs.declared.act.Act.{Act}
 use Rattle.alp_journal.specs.declared.act.Act.TheVariants as act
 use Rattle.alp_journal.specs.declared.entry.Entry.{Entry}
@@ -50,10 +51,12 @@ module _ {B E : Type 0} (log : Log B E) (b : B) where
   abbrev pub has_failed : List E → Bool
   has_failed es = list_any (λ x. shows_fault (log.entry x)) es
 
-  -- the entry that a worker makes of an event, after these entries
+  -- The entry that a worker makes of an event, after these entries. None of them stopped the server, and its journal had room for one more.
   pub record IsMadeOf (before : List E) (e : Event) (x : E) : Type 0 where
     pub event_is : (log.entry x).event ≡ e
     pub rank_is : log.rank x ≡ log.last b before + 1
+    pub room : log.since b + length before < entries_limit
+    pub up : list_any (λ y. stops (log.entry y)) before ≡ false
 
   -- one entry more, which has this answer
   pub record HasAnswered (before now : List E) (e : Event) (a : Answer) : Type 0 where

@@ -4,13 +4,13 @@ ghost use Rattle.alp_fields.specs.Forms.{whole};
 ghost use Rattle.alp_journal.specs.declared.log.Sent.TheVariants as sent_as;
 ghost use Rattle.alp_rpc.specs.Frames.{request, IsHead};
 ghost use Rattle.alp_rpc.specs.Replies.{IsSendable};
-ghost use Rattle.alp_session.specs.Crowds.{client_at};
+ghost use Rattle.alp_session.specs.Crowds.{client_at, request_next};
 ghost use Rattle.alp_session.specs.Frames.{IsReady, sent_by};
-ghost use Rattle.alp_jobs.specs.Does.{tick_due as tick_said};
-ghost use Rattle.alp_jobs.specs.Jobs.{IsBehind, DoesRest, frame_due, timeout_due};
+ghost use Rattle.alp_jobs.specs.Does.{asked_at, tick_due as tick_said};
+ghost use Rattle.alp_jobs.specs.Jobs.{IsBehind, DoesRest, frame_due, timeout_due, after_unheard};
 ghost use Rattle.alp_storm.specs.Logs.{IsSpelled, IsWorkers};
 ghost use Rattle.alp_storm.specs.Rings.{IsRing};
-ghost use Rattle.alp_storm.specs.Works.{HasTurned, IsUnread, EndsWork, Hears, item_for, WorksOn, StopsIn, IsBack};
+ghost use Rattle.alp_storm.specs.Works.{HasDue, HasTurned, IsUnread, EndsWork, Hears, item_for, WorksOn, StopsIn, IsBack};
 
 use crate::exchange::{mark_of, spell};
 use crate::fault::StormFault;
@@ -50,7 +50,7 @@ fn sent_of(request: &Request) -> Result<Sent, OutOfMemory>
 // The request that a frame spells.
 fn read(alloc: Global, bytes: &Bytes) -> Result<Request, StormFault>
     ensures ok { IfOk result (λ r. IsSpelled r × (whole request bytes.now ≡ Some r)) }
-    ensures err { IfErr result IsUnread }
+    ensures err { IfErr result (IsUnread bytes.now) }
 {
     match decode_request(alloc, bytes.as_slice()) {
         Ok(Some(request)) => Ok(request),
@@ -70,9 +70,10 @@ impl<S: Host> Worker<S> {
     ) -> Result<Answer, StormFault>
         requires ring { IsRing S.base monitors.now self.old.number self.old.ring.items }
         requires asked { IsWorkers event }
+        requires due { HasDue self.old.job server event }
         ensures still { (self.new.number ≡ self.old.number) × (self.new.job ≡ self.old.job) }
         ensures ok { IfOk result (HasTurned S.base S.log monitors.now server event self.old.ring.items self.new.ring.items) }
-        ensures err { IfErr result (λ f. EndsWork S.base S.log monitors.now f self.old.ring.items self.new.ring.items) }
+        ensures err { IfErr result (λ f. EndsWork S.base S.log monitors.now f self.old.job self.old.ring.items self.new.job self.new.ring.items) }
         ensures ring { IsRing S.base monitors.now self.new.number self.new.ring.items }
     {
         let Some(at) = place_of(server, monitors.len()) else {
@@ -138,7 +139,7 @@ impl<S: Host> Worker<S> {
         }
     }
 
-    // The reply to its frame is spelled, and its client hears it.
+    // The reply to its frame is spelled, and its client hears it. Where memory is refused for that the item tells it all the same.
     fn hear(
         &mut self,
         alloc: Global,
@@ -149,11 +150,13 @@ impl<S: Host> Worker<S> {
     ) -> Result<(), OutOfMemory>
         requires head { IsHead head.0 head.1 }
         requires sendable { IfSome answer.reply IsSendable }
+        requires room { self.old.job.room ≡ true }
         requires asked { frame_due self.old.job ≡ Some frame }
+        requires fits { IfSome (request_next self.old.job.crowd self.old.job.number self.old.job.line (asked_at self.old.job.stage)) request.Fits }
         requires sent { sent ≡ sent_by frame.bytes }
         ensures still { (self.new.number ≡ self.old.number) × (self.new.ring ≡ self.old.ring) }
         ensures ok { OnOk result (Hears self.old.job frame (item_for self.old.job.line frame sent answer) head.0 head.1 answer self.new.job) }
-        ensures err { OnErr result (self.new.job ≡ self.old.job) }
+        ensures err { OnErr result (self.new.job ≡ after_unheard self.old.job (item_for self.old.job.line frame sent answer)) }
     {
         let Answer {
             reply,
@@ -161,7 +164,6 @@ impl<S: Host> Worker<S> {
             epoch,
         } = answer;
         let (bytes, reply) = spell(alloc, epoch, head.0, head.1, reply);
-        let bytes = bytes?;
         let item = Item {
             line: 0,
             server: frame.server,
@@ -170,11 +172,17 @@ impl<S: Host> Worker<S> {
             reply,
             place: Some(place),
         };
-        self.job.hears(alloc, frame, item, &bytes)
+        match bytes {
+            Ok(bytes) => self.job.hears(alloc, frame, item, &bytes),
+            Err(OutOfMemory) => {
+                self.job.keeps(item);
+                Err(OutOfMemory)
+            }
+        }
     }
 
-    // It sends its frame, and hears what it is handed once the gate lets it.
-    fn send<R: Wait, G: Gate>(
+    // It sends its frame, and hears what it is handed once the gate lets it. There is room for the item.
+    fn ask<R: Wait, G: Gate>(
         &mut self,
         rt: &R,
         gate: &G,
@@ -183,7 +191,9 @@ impl<S: Host> Worker<S> {
         frame: Addressed,
     ) -> Result<bool, StormFault>
         requires ring { IsRing S.base monitors.now self.old.number self.old.ring.items }
+        requires room { self.old.job.room ≡ true }
         requires asked { frame_due self.old.job ≡ Some frame }
+        requires fits { IfSome (request_next self.old.job.crowd self.old.job.number self.old.job.line (asked_at self.old.job.stage)) request.Fits }
         ensures still { self.new.number ≡ self.old.number }
         ensures ok { IfOk result (λ over. (over ≡ false) × WorksOn S.base S.log monitors.now self.old.number self.old.job self.old.ring.items self.new.job self.new.ring.items) }
         ensures err { IfErr result (λ f. StopsIn S.base S.log monitors.now self.old.number f self.old.job self.old.ring.items self.new.job self.new.ring.items) }
@@ -214,6 +224,28 @@ impl<S: Host> Worker<S> {
         gate.hold(frame.server, client, number);
         match self.hear(alloc, frame, sent, (client, number), answer) {
             Ok(()) => Ok(false),
+            Err(OutOfMemory) => Err(StormFault::OutOfMemory),
+        }
+    }
+
+    // It makes room for the item, and sends its frame.
+    fn send<R: Wait, G: Gate>(
+        &mut self,
+        rt: &R,
+        gate: &G,
+        alloc: Global,
+        monitors: &[Monitor<S>],
+        frame: Addressed,
+    ) -> Result<bool, StormFault>
+        requires ring { IsRing S.base monitors.now self.old.number self.old.ring.items }
+        requires asked { frame_due self.old.job ≡ Some frame }
+        requires fits { IfSome (request_next self.old.job.crowd self.old.job.number self.old.job.line (asked_at self.old.job.stage)) request.Fits }
+        ensures still { self.new.number ≡ self.old.number }
+        ensures ok { IfOk result (λ over. (over ≡ false) × WorksOn S.base S.log monitors.now self.old.number self.old.job self.old.ring.items self.new.job self.new.ring.items) }
+        ensures err { IfErr result (λ f. StopsIn S.base S.log monitors.now self.old.number f self.old.job self.old.ring.items self.new.job self.new.ring.items) }
+    {
+        match self.job.make_room() {
+            Ok(()) => self.ask(rt, gate, alloc, monitors, frame),
             Err(OutOfMemory) => Err(StormFault::OutOfMemory),
         }
     }

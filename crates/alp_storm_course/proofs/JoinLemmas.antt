@@ -14,26 +14,31 @@ use Rattle.alp_journal.specs.declared.entry.Entry.{Entry}
 use Rattle.alp_journal.specs.declared.message.Message.{Message}
 use Rattle.alp_lines.specs.declared.line.Line.{Line}
 use Rattle.alp_monitor.specs.History.{entries_in, entry_of as entry_there}
+use Rattle.alp_monitor.specs.declared.monitor.Monitor.{Monitor}
+use Rattle.alp_monitor.specs.declared.monitor.Pass.{Pass}
 use Rattle.alp_session.specs.Crowd.{Crowd}
 use Rattle.alp_session.specs.Crowds.{lent_crowd}
 use Rattle.alp_course.specs.Courses.{Course, seat_at, IsSeat, AreTwo, Occurrence}
 use Rattle.alp_course.specs.Midway.{IsMidway}
-use Rattle.alp_merge.specs.Carried.{sent_in, AreCarriedBy}
+use Rattle.alp_merge.specs.Carried.{AreCarriedBy}
 use Rattle.alp_merge.specs.Closed.{AreServed, HasGoneOn}
 use Rattle.alp_merge.specs.Served.{Ranked, IsServed, AreTurnsOf}
-use Rattle.alp_merge.specs.Storms.{is_worker, is_carrier, deeds_at, pair_seed, entries_at}
+use Rattle.alp_merge.specs.Storms.{is_worker, is_carrier, deeds_at, items_of, pair_seed, entries_at, first_place}
 use Rattle.alp_merge.specs.Threads.{HasOwnPass, HasCarrierPass, AreByThreads, IsStormy}
 use Rattle.alp_merge.specs.Turns.{Who}
 use Rattle.alp_merge.proofs.StormLemmas.{storm_of}
+use Rattle.alp_storm.specs.Errands.{DidTask}
 use Rattle.alp_storm.specs.Logs.{Log}
-use Rattle.alp_storm.specs.Storms.{IsStorm as IsStormOfThreads, IsDownFault, is_down, task_of, end_of, first_fault, work, carriers_from}
+use Rattle.alp_storm.specs.Storms.{IsStorm as IsStormOfThreads, IsDownFault, is_down, task_of, end_of, first_fault, work, jobs_in, carriers_from}
+use Rattle.alp_storm.specs.declared.errand.Errand.{Errand}
 use Rattle.alp_storm.specs.declared.errand.Task.{Task}
 use Rattle.alp_storm.specs.declared.errand.Task.TheVariants.{Work, Carry}
 use Rattle.alp_storm.specs.declared.fault.StormFault.{StormFault}
 use Rattle.alp_storm.specs.declared.fault.StormFault.TheVariants as fault
-use Rattle.alp_storm_course.specs.Joins.{IsRead, AreHosts, AreNewJobs, is_job_of, starved_at, IsOfThreads, ThreadsDidAStorm}
-use Rattle.alp_storm_course.proofs.TaskLemmas.{same_some, none_some, get_within, get_first, get_second, get_map, get_mapped, index_of, job_at, pair_index, pair_found, IsOfPair, AreApart, tasks_apart, from_has, job_task, only_worker, only_carrier}
-use Rattle.alp_storm_course.proofs.PartLemmas.{read_of, entries_read, turns_read, or_second, IsHistory, hist, history, last, IsPlace, place, its_history, IsPart, part}
+use Rattle.alp_storm_course.specs.Joins.{IsRead, AreHosts, AreNewJobs, number_of, is_job_of, starved_at, IsOfThreads, ThreadsDidAStorm}
+use Rattle.alp_storm_course.proofs.TaskLemmas.{same_some, none_some, get_within, get_first, get_second, get_map, get_mapped, index_of, job_at, pair_index, pair_found, IsOfPair, AreApart, tasks_apart, from_has, job_task, is_job, only_worker, only_carrier}
+use Rattle.alp_storm_course.proofs.ListLemmas.{at_none, AreAlike, HasNoWork, AreAllAlike, job_back, numbers_back}
+use Rattle.alp_storm_course.proofs.PartLemmas.{read_of, entries_read, turns_read, or_second, IsHistory, hist, history, last, IsPlace, place, its_history, IsKept, IsPart, part}
 
 all_calm : {E : Type 0} (entry : E → Entry) (es : List E) → list_any (λ (x : E). stops (entry x)) es ≡ false → AllByRecursion (λ (x : E). stops (entry x) ≡ false) es
 all_calm {E} entry [] calm = tt
@@ -54,6 +59,13 @@ module _ {S B E : Type 0} (base_of : S → B) (entries_of : S → List E) (log :
   none_down (y ∷ zs) i z (inl down) at = absurd (none_some (fault.DiskFault (log.server (base_of y))) None refl down.1)
   none_down (y ∷ zs) zero z (inr up) at = subst (λ (x : S). is_down base_of entries_of log sight x ≡ false) (same_some y z at) up.0
   none_down (y ∷ zs) (suc i) z (inr up) at = none_down zs i z up.1 at
+
+module _ {S B E : Type 0} (base_of : S → B) (log : Log B E) (sight : Sight B E) (seed : ℕ) (ms : List (Monitor S B E)) where
+  did_alike : (k : ℕ) (t u : Task) (ps qs : List (Pass S B E)) → DidTask base_of log sight seed ms k t ps u qs → AreAlike t u
+  did_alike k (Work j f) (Work now g) ps qs did = tt
+  did_alike k (Carry pair n l) (Carry to m i) ps qs did = tt
+  did_alike k (Work j f) (Carry to m i) ps qs did = absurd did
+  did_alike k (Carry pair n l) (Work now g) ps qs did = absurd did
 
 module _ {S B E : Type 0} (base_of : S → B) (entries_of : S → List E) (log : Log B E) (sight : Sight B E) (base : B → List Ranked) (read : E → Ranked) (r : Course) (c : Crowd) (lines : ℕ → List (List Line)) (seed : ℕ) (ys : List S) (jobs : List JobState) (zs : List S) (jobs_now : List JobState) (midway : IsMidway r)
     (hosts : AreHosts base_of entries_of log sight base read r ys zs) (new_jobs : AreNewJobs c lines jobs) (st : IsStormOfThreads base_of entries_of log sight seed ys jobs zs jobs_now None) where
@@ -202,7 +214,7 @@ module _ {S B E : Type 0} (base_of : S → B) (entries_of : S → List E) (log :
       }
     where
       Carries : ℕ → ℕ → Type 0
-      Carries f t = AreCarriedBy (Starved f t) (pair_seed seed f t) (length (sent_in (entries_at r f))) f t (entries_at r f) (entries_at r t) (entries_in (read_past f)) (entries_in (read_past t)) (took from to) (done t (pair_index its_tasks from to))
+      Carries f t = AreCarriedBy (Starved f t) (pair_seed seed f t) (first_place r f) f t (entries_at r f) (entries_at r t) (entries_in (read_past f)) (entries_in (read_past t)) (took from to) (done t (pair_index its_tasks from to))
 
       did_it : (u : Task) → slice_get its_tasks (pair_index its_tasks from to) ≡ Some u → IsOfPair from to u → Carries from to
       did_it (Work j f) found of = absurd of
@@ -211,10 +223,45 @@ module _ {S B E : Type 0} (base_of : S → B) (entries_of : S → List E) (log :
   threads : AreByThreads seed (is_job_of jobs) Starved r passes who read_past done deeds took
   threads = record { among = λ k is. (the_part (index_of jobs k)).among; workers = own_pass; carriers = carrier_pass; others = λ n j s less. (the_part j).by_whom n }
 
-  joined : IsOfThreads base_of entries_of log sight base read seed c lines r jobs zs
+  -- ---- the jobs that came back
+
+  no_work : HasNoWork (carriers_from (length ys) 0 firsts)
+  no_work k j f at = none_some j None refl (job_task [] (length ys) firsts k j f at)
+
+  alike : AreAllAlike (list_map work jobs ++ carriers_from (length ys) 0 firsts) (list_map task_of st.ran.done)
+  alike k u t begun done_so =
+      let (d, d_at, d_is) = get_mapped task_of st.begun k u (ap (λ (ts : List Task). slice_get ts k) tasks_is ∙ begun) in
+      let (e, e_at, e_is) = get_mapped task_of st.ran.done k t done_so in
+      subst (λ (x : Task × Task). AreAlike x.0 x.1) (λ i. (d_is i, e_is i)) (did_alike base_of log sight seed st.monitors k d.task e.task d.ring.items e.ring.items (st.ran.did.each k d e d_at e_at).did)
+
+  long_done : length (list_map task_of st.ran.done) ≡ length (list_map work jobs ++ carriers_from (length ys) 0 firsts)
+  long_done = length-map st.ran.done task_of ∙ (st.ran.did.long ∙ (sym (length-map st.begun task_of) ∙ ap (λ (ts : List Task). length ts) tasks_is))
+
+  -- one of them
+  kept_at : (k : ℕ) (x : JobState) → (g : Option StormFault) × (slice_get (list_map task_of st.ran.done) k ≡ Some (Work x g)) → IsKept base_of entries_of log sight base read r c lines seed ys jobs zs jobs_now hosts new_jobs st k x (the_part k).deeds (the_part k).knows
+  kept_at k x (g, at) = (let (e, e_at, e_is) = get_mapped task_of st.ran.done k (Work x g) at in (the_part k).kept e x g e_at e_is)
+
+  numbers : list_map number_of jobs_now ≡ list_map number_of jobs
+  numbers = ap (list_map number_of) st.ran.jobs_are ∙ numbers_back jobs (carriers_from (length ys) 0 firsts) (list_map task_of st.ran.done) no_work long_done alike same
+    where
+      same : (k : ℕ) (j : JobState) (x : JobState) (g : Option StormFault) → slice_get jobs k ≡ Some j → slice_get (list_map task_of st.ran.done) k ≡ Some (Work x g) → x.number ≡ j.number
+      same k j x g was at = (let kept = kept_at k x (g, at) in kept.number_is ∙ ap number_of (same_some kept.job j (sym kept.was ∙ was)))
+
+  lists : (k : ℕ) (x : JobState) → slice_get jobs_now k ≡ Some x → (x.items ≡ items_of (deeds x.number)) × (x.crowd ≡ knows x.number)
+  lists k x at =
+      let kept = kept_at k x (job_back jobs (carriers_from (length ys) 0 firsts) (list_map task_of st.ran.done) no_work long_done alike k x (ap (λ (l : List JobState). slice_get l k) (sym st.ran.jobs_are) ∙ at)) in
+      let has : IsTrue (is_job_of jobs x.number) = subst (λ (n : ℕ). IsTrue (is_job_of jobs n)) (sym kept.number_is) (is_job jobs k kept.job kept.was) in
+      let (j, there, number) = job_at jobs x.number has in
+      let same : k ≡ index_of jobs x.number = new_jobs.apart k (index_of jobs x.number) kept.job j kept.was there (sym kept.number_is ∙ sym number) in
+      subst (λ (i : ℕ). (x.items ≡ items_of (the_part i).deeds) × (x.crowd ≡ (the_part i).knows)) same (kept.items_are, kept.crowd_is)
+
+  idle : (k : ℕ) → (IsTrue (is_job_of jobs k) → ⊥) → deeds k ≡ []
+  idle k no = (the_part (index_of jobs k)).idle (λ j f at. at_none jobs k j no (job_task jobs (length ys) firsts (index_of jobs k) j f (ap (λ (ts : List Task). slice_get ts (index_of jobs k)) (sym tasks_is) ∙ at)))
+
+  joined : IsOfThreads base_of entries_of log sight base read seed c lines r jobs zs jobs_now
   joined =
       let (after, storm, stormy) = storm_of seed (is_job_of jobs) lines Starved c r passes who read_past done deeds took knows midway served threads works in
-      record { after = after; deeds = deeds; knows = knows; storm = storm; midway = stormy.midway; many = stormy.many; stands = stands after stormy }
+      record { after = after; deeds = deeds; knows = knows; storm = storm; midway = stormy.midway; many = stormy.many; stands = stands after stormy; numbers = numbers; lists = lists; idle = idle }
     where
       stands : (after : Course) → IsStormy r after read_past → (i : ℕ) (z : S) → slice_get zs i ≡ Some z → HasGoneOn (seat_at r (i + 1)) (seat_at after (i + 1)) (list_map read (entries_of z))
       stands after stormy i z at =

@@ -1,4 +1,5 @@
 mod TaskLemmas
 mod WorkerLemmas
+mod ListLemmas
 mod PartLemmas
 mod JoinLemmas

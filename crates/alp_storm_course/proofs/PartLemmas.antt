@@ -26,21 +26,21 @@ use Rattle.alp_course.specs.Courses.{Course, Seat, seat_at, IsOneOf, IsSeat, IsS
 use Rattle.alp_merge.specs.Carried.{sent_in, IsReadAs, IsBased, IsKeptOff, shut, starved, ranks_end_here, ranks_end_there, AreBroughtTo, nothing, one_came, one_missed, AreCarriedBy, base_there, base_here, was_starved, WasSentThere, IsCarrying}
 use Rattle.alp_merge.specs.Closed.{WasSentTo}
 use Rattle.alp_merge.specs.Served.{Ranked, entries_of as entries_of_ranked, ranks_of, seat_behind, AreTurnsOf}
-use Rattle.alp_merge.specs.Storms.{place_of, happening_of, deeds_at, pair_seed, ranked_with, entries_at, IsBy}
+use Rattle.alp_merge.specs.Storms.{place_of, happening_of, deeds_at, items_of, pair_seed, ranked_with, entries_at, first_place, IsBy}
 use Rattle.alp_merge.specs.Turns.{Who, worker, carrier}
 use Rattle.alp_merge.proofs.CarriedLemmas.{carriers}
 use Rattle.alp_storm.specs.Errands.{HasGone, DidTask}
 use Rattle.alp_storm.specs.Logs.{Log}
 use Rattle.alp_storm.specs.Rings.{IsRing}
 use Rattle.alp_storm.specs.Storms.{IsStorm as IsStormOfThreads, IsClosed, AreFirst, task_of, tasks_for, end_of, fault_in, first_fault, or_else}
-use Rattle.alp_storm.specs.Works.{server_of, HasWorked, Takes, deeds_at as deeds_there, AreTurnsOf as AreTurnsThere}
+use Rattle.alp_storm.specs.Works.{server_of, HasWorked, Takes, deeds_at as deeds_there, items_of as items_there, AreTurnsOf as AreTurnsThere}
 use Rattle.alp_storm.specs.declared.errand.Errand.{Errand}
 use Rattle.alp_storm.specs.declared.errand.Task.{Task}
 use Rattle.alp_storm.specs.declared.errand.Task.TheVariants.{Work, Carry}
 use Rattle.alp_storm.specs.declared.fault.StormFault.{StormFault}
 use Rattle.alp_storm_course.specs.Joins.{IsRead, IsSeatOf, AreHosts, AreNewJobs, is_job_of, starved_at}
 use Rattle.alp_storm_course.proofs.TaskLemmas.{same_some, none_some, get_at, get_within, get_map, get_mapped, IsKnown, job_task, carry_task, is_job, who_of}
-use Rattle.alp_storm_course.proofs.WorkerLemmas.{same_place, worker_turns}
+use Rattle.alp_storm_course.proofs.WorkerLemmas.{same_place, same_items, worker_turns}
 
 -- ---- lists
 
@@ -221,6 +221,14 @@ module _ {S B E : Type 0} (base_of : S → B) (entries_of : S → List E) (log :
   pub tasks_are : tasks ≡ tasks_for base_of sight ys jobs
   tasks_are = st.tasks
 
+  -- a job that came back is that of these deeds
+  pub record IsKept (k : ℕ) (now : JobState) (deeds : List Deed) (knows : Crowd) : Type 0 where
+    pub job : JobState
+    pub was : slice_get jobs k ≡ Some job
+    pub number_is : now.number ≡ job.number
+    pub items_are : now.items ≡ items_of deeds
+    pub crowd_is : now.crowd ≡ knows
+
   -- what one errand did
   pub record IsPart (k : ℕ) : Type 0 where
     pub who_is : Who
@@ -233,9 +241,11 @@ module _ {S B E : Type 0} (base_of : S → B) (entries_of : S → List E) (log :
     pub sent : (n : ℕ) → AllByRecursion (WasSentTo (length r.seats) last) (did n)
     pub by_whom : (n : ℕ) → AllByRecursion (IsBy (is_job_of jobs) who_is) (did n)
     pub among : AllByRecursion (λ (x : Deed). IsSeat r (place_of x)) deeds
+    pub idle : ((j : JobState) (f : Option StormFault) → slice_get tasks k ≡ Some (Work j f) → ⊥) → deeds ≡ []
+    pub kept : (e : Errand S B E) (now : JobState) (f : Option StormFault) → slice_get st.ran.done k ≡ Some e → e.task ≡ Work now f → IsKept k now deeds knows
     pub works : (j : JobState) (f : Option StormFault) → slice_get tasks k ≡ Some (Work j f) → ((n : ℕ) → did n ≡ deeds_at j.number n deeds) × DoesJob j.number (lines j.number) (lent_crowd c j.number) deeds knows
     pub carries : (pair : Pair) (x y : ℕ) → slice_get tasks k ≡ Some (Carry pair x y)
-        → AreCarriedBy (starved_at base_of entries_of log sight base read zs pair.from pair.to) (pair_seed seed pair.from pair.to) (length (sent_in (entries_at r pair.from))) pair.from pair.to (entries_at r pair.from) (entries_at r pair.to) (entries_in (history pair.from)) (entries_in (history pair.to)) took (did pair.to)
+        → AreCarriedBy (starved_at base_of entries_of log sight base read zs pair.from pair.to) (pair_seed seed pair.from pair.to) (first_place r pair.from) pair.from pair.to (entries_at r pair.from) (entries_at r pair.to) (entries_in (history pair.from)) (entries_in (history pair.to)) took (did pair.to)
 
   -- at a server where its pass took no turn
   no_turns : (k : ℕ) (d e : Errand S B E) → slice_get st.ran.done k ≡ Some e → (n : ℕ) (p : IsPlace n) (q : Pass S B E) → slice_get e.ring.items (n - 1) ≡ Some q → turns q ≡ []
@@ -256,6 +266,8 @@ module _ {S B E : Type 0} (base_of : S → B) (entries_of : S → List E) (log :
     sent = λ n. tt;
     by_whom = λ n. tt;
     among = tt;
+    idle = λ no. refl;
+    kept = λ e now f at is. absurd (let low : k < length st.ran.done = get_within st.ran.done k e at in let same : length st.ran.done ≡ length st.begun = st.ran.did.long in let (d, there) = get_at st.begun k (omega (arith, low, same)) in none_some d (slice_get st.begun k) none there);
     works = λ j f is. absurd (none_some (Work j f) (slice_get tasks k) (no_task st.begun k none) is);
     carries = λ pair x y is. absurd (none_some (Carry pair x y) (slice_get tasks k) (no_task st.begun k none) is);
   }
@@ -287,7 +299,7 @@ module _ {S B E : Type 0} (base_of : S → B) (entries_of : S → List E) (log :
         let less : n - 1 < length st.monitors = get_within st.monitors (n - 1) p.monitor p.monitor_is in
         get_at ps (n - 1) (omega (arith, long, less))
 
-    module _ (j now : JobState) (f : Option StormFault) (its : d.task ≡ Work j f) (h : HasWorked base_of log st.monitors k j d.ring.items now e.ring.items) (ended : DoesRest now [] now.crowd) where
+    module _ (j now : JobState) (f : Option StormFault) (its : d.task ≡ Work j f) (came : e.task ≡ Work now None) (h : HasWorked base_of log st.monitors k j d.ring.items now e.ring.items) (ended : DoesRest now [] now.crowd) where
       abbrev worker_did : ℕ → List Occurrence
       worker_did n = deeds_at j.number n h.deeds
 
@@ -323,6 +335,14 @@ module _ {S B E : Type 0} (base_of : S → B) (entries_of : S → List E) (log :
         turns_are = λ less n s. worked_turns n s;
         sent = λ n. all_mapped (WasSentTo (length r.seats) last) (λ (x : Deed). happens_at n (happening_of j.number x)) (filter (λ (x : Deed). place_of x == n) h.deeds) (λ x. tt);
         by_whom = λ n. all_mapped (IsBy (is_job_of jobs) (worker j.number)) (λ (x : Deed). happens_at n (happening_of j.number x)) (filter (λ (x : Deed). place_of x == n) h.deeds) (λ x. is_job jobs k j in_jobs);
+        idle = λ no. absurd (no j f (task_is ∙ ap (λ (t : Task). Some t) its));
+        kept = λ x back g at is. subst (λ (y : JobState). IsKept k y h.deeds now.crowd) (now_same (sym came ∙ (ap (λ (y : Errand S B E). y.task) (same_some e x (sym done_is ∙ at)) ∙ is))) (record {
+          job = j;
+          was = in_jobs;
+          number_is = h.number_is;
+          items_are = h.items_are ∙ (ap (λ (y : JobState). y.items ++ items_there h.deeds) (new_jobs.new k j in_jobs) ∙ same_items h.deeds);
+          crowd_is = refl;
+        });
         among = all_turned (λ (x : Deed). (1 ≤ server_of x) × (server_of x ≤ length st.monitors)) (λ (x : Deed). IsSeat r (place_of x)) h.deeds (λ x known. its_seat x known) h.within;
         works = λ x g is. (let same : j ≡ x = job_same (sym (task_is ∙ ap (λ (t : Task). Some t) its) ∙ is) in subst (λ (y : JobState). ((n : ℕ) → worker_did n ≡ deeds_at y.number n h.deeds) × DoesJob y.number (lines y.number) (lent_crowd c y.number) h.deeds now.crowd) same (λ n. refl, does_job));
         carries = λ pair x y is. absurd (let wrong : Some (Work j f) ≡ Some (Carry pair x y) = sym (task_is ∙ ap (λ (t : Task). Some t) its) ∙ is in cc);
@@ -340,9 +360,12 @@ module _ {S B E : Type 0} (base_of : S → B) (entries_of : S → List E) (log :
           job_same : {x : JobState} {g : Option StormFault} → Some (Work j f) ≡ Some (Work x g) → j ≡ x
           job_same e = cc
 
+          now_same : {x : JobState} {g : Option StormFault} → Work now None ≡ Work x g → now ≡ x
+          now_same e = cc
+
     -- ---- a carrier's
 
-    module _ (pair : Pair) (next lost next_now lost_now : ℕ) (its : d.task ≡ Carry pair next lost) (g : HasGone base_of sight seed st.monitors pair d.ring.items e.ring.items next_now lost_now) where
+    module _ (pair : Pair) (next lost next_now lost_now : ℕ) (its : d.task ≡ Carry pair next lost) (no_work : (now : JobState) (f : Option StormFault) → e.task ≡ Work now f → ⊥) (g : HasGone base_of sight seed st.monitors pair d.ring.items e.ring.items next_now lost_now) where
       known : IsKnown (length ys) 0 (list_map (end_of base_of sight) ys) (Carry pair next lost)
       known = carry_task jobs (length ys) (list_map (end_of base_of sight) ys) k pair next lost (ap (λ (ts : List Task). slice_get ts k) (sym tasks_are) ∙ (task_is ∙ ap (λ (t : Task). Some t) its))
 
@@ -478,17 +501,15 @@ module _ {S B E : Type 0} (base_of : S → B) (entries_of : S → List E) (log :
           with_self [] = refl
           with_self (x ∷ xs) = ap (λ (l : List Ranked). x ∷ l) (with_self xs)
 
-      first_is : pair.first ≡ length (sent_in (entries_at r pair.from))
+      first_is : pair.first ≡ first_place r pair.from
       first_is =
           let (y, there, same) = get_mapped (end_of base_of sight) ys (pair.from - 1) pair.first (ap (slice_get (list_map (end_of base_of sight) ys)) (let less : pair.from - (0 + 1) ≡ pair.from - 1 = omega arith in sym less) ∙ known.4) in
           let its : from_place.begun ≡ y = begun_same y there in
           let reads_y : IsRead log sight base read (base_of y) = subst (λ (x : S). IsRead log sight base read (base_of x)) its from_place.host.reads in
           let sent : length (sight.sent (base_of y) []) ≡ length (sent_in (base (base_of y))) = ap (λ (l : List (ℕ × Envelope)). length l) (reads_y.seen.sent_is [] ∙ ap sent_in (append-nil (base (base_of y)))) in
-          let few : length (sent_in (base (base_of y))) ≤ 4294967295 = subst (λ (x : S). length (sent_in (base (base_of x))) ≤ 4294967295) its from_place.host.few in
           let stands : base (base_of y) ≡ entries_at r pair.from = ap (λ (x : S). base (base_of x)) (sym its) ∙ (ap base (sym from_place.base_is) ∙ stood pair.from from_place from_place.monitor refl from_seat) in
           let long : length (sent_in (base (base_of y))) ≡ length (sent_in (entries_at r pair.from)) = ap (λ (l : List Ranked). length (sent_in l)) stands in
-          let is : min (length (sight.sent (base_of y) [])) 4294967295 ≡ pair.first = same in
-          omega (arith, sent, few, long, is)
+          sym same ∙ ap (λ (n : ℕ). min n 4294967295) (sent ∙ long)
         where
           begun_same : (y : S) → slice_get ys (pair.from - 1) ≡ Some y → from_place.begun ≡ y
           begun_same y there = same_some from_place.begun y (sym from_place.begun_is ∙ there)
@@ -505,11 +526,11 @@ module _ {S B E : Type 0} (base_of : S → B) (entries_of : S → List E) (log :
           )
 
       -- as the course says it
-      carried_by : AreCarriedBy (starved_at base_of entries_of log sight base read zs pair.from pair.to) (pair_seed seed pair.from pair.to) (length (sent_in (entries_at r pair.from))) pair.from pair.to (entries_at r pair.from) (entries_at r pair.to) (entries_in (history pair.from)) (entries_in (history pair.to)) brings.taken (carrier_did pair.to)
+      carried_by : AreCarriedBy (starved_at base_of entries_of log sight base read zs pair.from pair.to) (pair_seed seed pair.from pair.to) (first_place r pair.from) pair.from pair.to (entries_at r pair.from) (entries_at r pair.to) (entries_in (history pair.from)) (entries_in (history pair.to)) brings.taken (carrier_did pair.to)
       carried_by =
           let a = brings.carried in
           let said : AreCarriedBy (starved_at base_of entries_of log sight base read zs pair.from pair.to) (pair_seed seed pair.from pair.to) g.did.route.pair.first g.did.route.pair.from g.did.route.pair.to (base_there base_of sight base read g.did.route) (base_here base_of sight base read g.did.route) (all_of pair.from) (all_of pair.to) brings.taken brings.done =
-          record { next = a.next; from_first = a.from_first; within = a.within; are = a.are; brought = brought_with (was_starved base_of sight base read g.did.route (hist pair.to)) (starved_at base_of entries_of log sight base read zs pair.from pair.to) g.did.route.pair.from g.did.route.pair.to (base_here base_of sight base read g.did.route) (all_of pair.to) was 0 _ brings.done a.brought } in
+          record { next = a.next; from_first = a.from_first; within = a.within; are = a.are; seen = a.seen; brought = brought_with (was_starved base_of sight base read g.did.route (hist pair.to)) (starved_at base_of entries_of log sight base read zs pair.from pair.to) g.did.route.pair.from g.did.route.pair.to (base_here base_of sight base read g.did.route) (all_of pair.to) was 0 _ brings.done a.brought } in
           let on_pair = subst (λ (p : Pair). AreCarriedBy (starved_at base_of entries_of log sight base read zs pair.from pair.to) (pair_seed seed pair.from pair.to) p.first p.from p.to (base_there base_of sight base read g.did.route) (base_here base_of sight base read g.did.route) (all_of pair.from) (all_of pair.to) brings.taken brings.done) g.did.pair_is said in
           let there : base_there base_of sight base read g.did.route ≡ entries_at r pair.from = stood pair.from from_place g.did.route.from.now from_monitor from_seat in
           let here : base_here base_of sight base read g.did.route ≡ entries_at r pair.to = stood pair.to to_place g.did.route.to.now to_monitor to_seat in
@@ -528,10 +549,12 @@ module _ {S B E : Type 0} (base_of : S → B) (entries_of : S → List E) (log :
         turns_are = λ less n s. carried_turns n s;
         sent = either_did (WasSentTo (length r.seats) last) (all_sent brings.done brings.sent).0;
         among = tt;
+        idle = λ no. refl;
+        kept = λ x now f at is. absurd (no_work now f (ap (λ (y : Errand S B E). y.task) (same_some e x (sym done_is ∙ at)) ∙ is));
         by_whom = either_did (IsBy (is_job_of jobs) (carrier pair.from pair.to)) (all_sent brings.done brings.sent).1;
         works = λ j f is. absurd (let wrong : Some (Carry pair next lost) ≡ Some (Work j f) = sym (task_is ∙ ap (λ (t : Task). Some t) its) ∙ is in cc);
         carries = λ p x y is. (let same : pair ≡ p = pair_same (sym (task_is ∙ ap (λ (t : Task). Some t) its) ∙ is) in
-            subst (λ (q : Pair). AreCarriedBy (starved_at base_of entries_of log sight base read zs q.from q.to) (pair_seed seed q.from q.to) (length (sent_in (entries_at r q.from))) q.from q.to (entries_at r q.from) (entries_at r q.to) (entries_in (history q.from)) (entries_in (history q.to)) brings.taken (carrier_did q.to)) same carried_by);
+            subst (λ (q : Pair). AreCarriedBy (starved_at base_of entries_of log sight base read zs q.from q.to) (pair_seed seed q.from q.to) (first_place r q.from) q.from q.to (entries_at r q.from) (entries_at r q.to) (entries_in (history q.from)) (entries_in (history q.to)) brings.taken (carrier_did q.to)) same carried_by);
       }
         where
           pair_same : {p : Pair} {x y : ℕ} → Some (Carry pair next lost) ≡ Some (Carry p x y) → pair ≡ p
@@ -540,12 +563,12 @@ module _ {S B E : Type 0} (base_of : S → B) (entries_of : S → List E) (log :
     -- ---- whichever it is
 
     by_task : (t u : Task) → d.task ≡ t → e.task ≡ u → DidTask base_of log sight seed st.monitors k t d.ring.items u e.ring.items → IsPart k
-    by_task (Work j f) (Work now None) its then_is did = workers j now f its did.0 did.1
+    by_task (Work j f) (Work now None) its then_is did = workers j now f its then_is did.0 did.1
     by_task (Work j f) (Work now (Some fault)) its then_is did =
         absurd
         (let none : fault_in (Work now (Some fault)) ≡ None = subst (λ (t : Task). fault_in t ≡ None) then_is (no_fault (list_map task_of st.ran.done) k e.task (or_first (first_fault (list_map task_of st.ran.done)) st.ran.later st.ran.fault_is) (get_map task_of st.ran.done k e done_is)) in
         let wrong : Some fault ≡ None = none in cc)
-    by_task (Carry pair next lost) (Carry to next_now lost_now) its then_is did = carries_it pair next lost next_now lost_now its did.1
+    by_task (Carry pair next lost) (Carry to next_now lost_now) its then_is did = carries_it pair next lost next_now lost_now its (λ now f is. let wrong : Carry to next_now lost_now ≡ Work now f = sym then_is ∙ is in cc) did.1
     by_task (Work j f) (Carry to next_now lost_now) its then_is did = absurd did
     by_task (Carry pair next lost) (Work now f) its then_is did = absurd did
 

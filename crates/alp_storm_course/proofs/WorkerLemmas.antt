@@ -19,10 +19,10 @@ use Rattle.alp_course.specs.Courses.{Seat, last_rank, at}
 use Rattle.alp_course.specs.Happens.{handed_for}
 use Rattle.alp_merge.specs.Carried.{IsBased}
 use Rattle.alp_merge.specs.Served.{Ranked, rank_of, ranks_of, IsCallOf, IsTurnOf, AreTurnsOf}
-use Rattle.alp_merge.specs.Storms.{place_of, happening_of, deeds_at}
+use Rattle.alp_merge.specs.Storms.{place_of, happening_of, deeds_at, items_by, items_of}
 use Rattle.alp_storm.specs.Logs.{Log}
 use Rattle.alp_storm.specs.Turns.{WasMade}
-use Rattle.alp_storm.specs.Works.{server_of, deeds_at as deeds_there, IsCallOf as IsCallThere, IsTurnOf as IsTurnThere, AreTurnsOf as AreTurnsThere}
+use Rattle.alp_storm.specs.Works.{server_of, deeds_at as deeds_there, item_of, items_of as items_there, IsCallOf as IsCallThere, IsTurnOf as IsTurnThere, AreTurnsOf as AreTurnsThere}
 use Rattle.alp_storm_course.specs.Joins.{IsRead}
 
 -- ---- deeds at a server
@@ -38,6 +38,16 @@ same_deeds n [] = refl
 same_deeds n (d ∷ ds) =
     ap (λ (m : ℕ). if m == n then d ∷ filter (λ (e : Deed). place_of e == n) ds else filter (λ (e : Deed). place_of e == n) ds) (same_place d)
     ∙ ap (λ (l : List Deed). if server_of d == n then d ∷ l else l) (same_deeds n ds)
+
+-- and both have the same items
+same_item : (d : Deed) → item_of d ≡ items_by d
+same_item (sends x) = refl
+same_item (gives_tick server) = refl
+same_item (gives_timeout server t) = refl
+
+pub same_items : (ds : List Deed) → items_there ds ≡ items_of ds
+same_items [] = refl
+same_items (d ∷ ds) = λ i. same_item d i ++ same_items ds i
 
 all_there : (n : ℕ) (ds : List Deed) → AllByRecursion (λ (d : Deed). server_of d ≡ n) (deeds_there n ds)
 all_there n [] = tt

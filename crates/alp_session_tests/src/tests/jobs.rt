@@ -1,11 +1,13 @@
 //! Tests of alp_jobs: two jobs of a storm, played against answers that are written down.
-ghost use Rattle.std.specs.Prelude.{◌≡◌, ◌≤◌, Some, IfOk, IsTrue};
+ghost use Rattle.std.specs.Prelude.{◌≡◌, ◌≤◌, Some, IfOk, IfSome, IsTrue};
 ghost use Rattle.std.specs.List.{AllByRecursion};
 ghost use Rattle.alp_rpc.specs.Calls.{is_run_mode as is_run_mode_said};
+ghost use Rattle.alp_rpc.specs.Frames.{request};
 ghost use Rattle.alp_rpc.specs.Replies.{IsSendable};
 ghost use Rattle.alp_session.specs.Calls.{IsAskable};
-ghost use Rattle.alp_session.specs.Crowds.{client_at};
+ghost use Rattle.alp_session.specs.Crowds.{client_at, request_next};
 ghost use Rattle.alp_session.specs.Frames.{IsReady, mark_of as mark_said, sent_by, told_by as told_said};
+ghost use Rattle.alp_jobs.specs.Does.{asked_at};
 ghost use Rattle.alp_jobs.specs.Jobs.{frame_due};
 
 use alp_base::{Bytes, OutOfMemory, Stamp, TransId};
@@ -163,8 +165,10 @@ fn handed_by(alloc: Global, letter: u8) -> Result<Option<Bytes>, Fail> {
 
 // The frame is answered so. Gives the letter of its call.
 fn answered(alloc: Global, job: &mut Job, frame: Addressed, answer: u8) -> Result<u8, Fail>
-    requires { frame_due job.old ≡ Some frame }
+    requires asked { frame_due job.old ≡ Some frame }
+    requires fits { IfSome (request_next job.old.crowd job.old.number job.old.line (asked_at job.old.stage)) request.Fits }
 {
+    job.make_room()?;
     let handed = handed_by(alloc, answer)?;
     let (sent, letter) = read_sent(alloc, &frame.bytes)?;
     let item = Item {

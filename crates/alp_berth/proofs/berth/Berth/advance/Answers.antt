@@ -22,9 +22,9 @@ invariant_of-self-2 g c =
     let sent_is = c.count_last-sent.ensures n.journal (record { event = c.args.event; reply = c.in_ok-reply.reply; acts = a.acts }) (c.entries.ensures ∙ (c.journal.ensures ∙ a.entry)) in
     record {
       berth = subst (λ (l : List ℕ). IsBerth g.V.Vault c.self.inside.made m l) (sym ranks_is)
-          (berth_stepped g.V.Vault c.self.inside.made n m rs c.args.seen c.args.event c.in_ok-reply.reply c.self.invariant.berth c.knows.ensures c.requires.served up c.requires.early a h.opening h.seat (h.turned room) c.knows-2.ensures);
+          (berth_stepped g.V.Vault c.self.inside.made n m rs c.args.seen c.args.event c.in_ok-reply.reply c.self.invariant.berth c.knows.ensures c.requires.served up room c.requires.early a h.opening h.seat (h.turned room) c.knows-2.ensures);
       counted = subst (λ (l : List ℕ). AreCounted c.self.inside.since l c.saturating_add-self-inside.result (length c.self.inside.made.node.value.journal) m.journal) (sym counts_is)
-          (counted_stepped g.V.Vault c.self.inside.made n m rs c.args.seen c.args.event c.in_ok-reply.reply c.self.invariant.berth c.knows.ensures c.requires.served up c.requires.early a h.opening h.seat (h.turned room) c.knows-2.ensures
+          (counted_stepped g.V.Vault c.self.inside.made n m rs c.args.seen c.args.event c.in_ok-reply.reply c.self.invariant.berth c.knows.ensures c.requires.served up room c.requires.early a h.opening h.seat (h.turned room) c.knows-2.ensures
           c.self.inside.since c.self.inside.counts.items c.self.inside.all (length c.self.inside.made.node.value.journal) c.count_last-sent.result c.saturating_add-self-inside.result c.self.invariant.counted sent_is c.saturating_add-self-inside.ensures);
     }
 
@@ -46,5 +46,5 @@ returns-clause-ok g c =
       reply_is = refl;
       journal = a.entry;
       ranks = c.push_reserved.ensures.items ∙ (λ i. c.reserve.ensures.items i ++ rank_is i ∷ []);
-      sendable = reply_sendable g.V.Vault c.self.inside.made n m rs c.args.seen c.args.event c.in_ok-reply.reply c.self.invariant.berth c.knows.ensures c.requires.served up c.requires.early a h.opening h.seat (h.turned room) c.knows-2.ensures;
+      sendable = reply_sendable g.V.Vault c.self.inside.made n m rs c.args.seen c.args.event c.in_ok-reply.reply c.self.invariant.berth c.knows.ensures c.requires.served up room c.requires.early a h.opening h.seat (h.turned room) c.knows-2.ensures;
     })

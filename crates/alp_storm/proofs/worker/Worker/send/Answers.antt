@@ -1,29 +1,26 @@
-use Rattle.std.proofs.Common.{refl, sym, ap, ◌∙◌, subst, List}
-use Rattle.alp_journal.specs.declared.event.Event.TheVariants as event
-use Rattle.alp_journal.specs.declared.log.Sent.{Sent}
+use Rattle.std.specs.Prelude.{IfSome}
+use Rattle.std.proofs.Common.{◌≡◌, refl, sym, ap, ◌∙◌, subst}
+use Rattle.alp_jobs.specs.Jobs.{with_room}
 use Rattle.alp_jobs.specs.States.{JobState}
-use Rattle.alp_monitor.specs.declared.monitor.Pass.{Pass}
-use Rattle.alp_storm.specs.Works.{Hears, item_for, WorksOn, StopsIn}
-use Rattle.alp_storm.specs.declared.fault.StormFault.TheVariants as fault
-use Rattle.alp_storm.proofs.DeedLemmas.{heard, unheard}
+use Rattle.alp_storm.proofs.DeedLemmas.{roomed, wanting, first_ok, first_err}
 use Rattle.alp_storm.proofs.worker.Worker.send.Goals as goal
 
-pub returns-in-Ok-hear-clause-ok : goal.returns-in-Ok-hear-clause-ok
-returns-in-Ok-hear-clause-ok g c =
-    let r = c.in-Ok.request in
-    let a = c.in-Ok-turn.answer in
-    let t = c.in-Ok-turn.ensures.ok in (
-      refl,
-      subst (λ (l : List (Pass g.row.S.Denot g.row.S-Base.Denot g.row.S-Entry.Denot)). WorksOn g.S.Story.base g.S.Host.log c.args.monitors.now c.args.self.now.number c.args.self.now.job c.args.self.now.ring.items c.hear.new.self.job l)
-          (sym (ap (λ v. v.items) c.hear.ensures.still.1))
-          (heard g.S.Story.base g.S.Host.log c.args.monitors.now c.args.self.now.number c.args.self.now.job c.args.self.now.ring.items c.turn.new.self.ring.items c.hear.new.self.job c.args.frame r.client r.epoch r.number r.call a t t.turned.went.was.sendable
-          (subst (λ (x : JobState × Sent). Hears x.0 c.args.frame (item_for x.0.line c.args.frame x.1 a) r.client r.number a c.hear.new.self.job) (λ i. (c.turn.ensures.still.1 i, c.in-Ok-sent_of.ensures i)) c.in-Ok-hear.ensures.ok)),
-    )
+pub ask-requires-clause-room : goal.ask-requires-clause-room
+ask-requires-clause-room g c = ap (λ (j : JobState). j.room) c.in-Ok.ensures.now
 
-pub returns-in-Err-hear-clause-err : goal.returns-in-Err-hear-clause-err
-returns-in-Err-hear-clause-err g c =
-    let r = c.in-Ok.request in
-    subst (λ (l : List (Pass g.row.S.Denot g.row.S-Base.Denot g.row.S-Entry.Denot)). StopsIn g.S.Story.base g.S.Host.log c.args.monitors.now c.args.self.now.number fault.OutOfMemory c.args.self.now.job c.args.self.now.ring.items c.hear.new.self.job l)
-    (sym (ap (λ v. v.items) c.hear.ensures.still.1))
-    (unheard g.S.Story.base g.S.Host.log c.args.monitors.now c.args.self.now.number c.turn.new.self.number c.args.frame.server (event.Call r.client r.epoch r.number r.call) c.in-Ok-turn.answer c.args.self.now.job c.hear.new.self.job c.args.self.now.ring.items c.turn.new.self.ring.items
-    c.turn.ensures.still.0 (c.in-Err-hear.ensures.err ∙ c.turn.ensures.still.1) c.turn.ensures.ring c.in-Ok-turn.ensures.ok)
+pub ask-requires-clause-asked : goal.ask-requires-clause-asked
+ask-requires-clause-asked g c = c.in-Ok.ensures.due ∙ c.requires.asked
+
+pub returns-in-Ok-clause-ok : goal.returns-in-Ok-clause-ok
+returns-in-Ok-clause-ok g c =
+    first_ok g.S.Story.base g.S.Host.log c.args.monitors.now c.args.self.now.number c.args.self.now.job c.make_room.new.self _ c.args.self.now.ring.items _ c.ask.result
+    (roomed g.S.Story.base g.S.Host.log c.args.monitors.now c.args.self.now.number c.args.self.now.job c.args.self.now.ring.items c.args.self.now.ring.items c.make_room.new.self c.in-Ok.ensures.now c.in-Ok.ensures.goes) c.ask.ensures.ok
+
+pub returns-in-Ok-clause-err : goal.returns-in-Ok-clause-err
+returns-in-Ok-clause-err g c =
+    first_err g.S.Story.base g.S.Host.log c.args.monitors.now c.args.self.now.number c.args.self.now.job c.make_room.new.self _ c.args.self.now.ring.items _ c.ask.result
+    (roomed g.S.Story.base g.S.Host.log c.args.monitors.now c.args.self.now.number c.args.self.now.job c.args.self.now.ring.items c.args.self.now.ring.items c.make_room.new.self c.in-Ok.ensures.now c.in-Ok.ensures.goes) c.ask.ensures.err
+
+pub returns-in-Err-clause-err : goal.returns-in-Err-clause-err
+returns-in-Err-clause-err g c =
+    wanting g.S.Story.base g.S.Host.log c.args.monitors.now c.args.self.now.number c.args.self.now.job c.make_room.new.self c.args.self.now.ring.items c.in-Err.ensures.err c.requires.ring
