@@ -256,7 +256,7 @@ module _ {S B E : Type 0} (base_of : S → B) (entries_of : S → List E) (log :
       subst (λ (i : ℕ). (x.items ≡ items_of (the_part i).deeds) × (x.crowd ≡ (the_part i).knows)) same (kept.items_are, kept.crowd_is)
 
   idle : (k : ℕ) → (IsTrue (is_job_of jobs k) → ⊥) → deeds k ≡ []
-  idle k no = (the_part (index_of jobs k)).idle (λ j f at. at_none jobs k j no (job_task jobs (length ys) firsts (index_of jobs k) j f (ap (λ (ts : List Task). slice_get ts (index_of jobs k)) (sym tasks_is) ∙ at)))
+  idle k jobless = (the_part (index_of jobs k)).idle (λ j f at. at_none jobs k j jobless (job_task jobs (length ys) firsts (index_of jobs k) j f (ap (λ (ts : List Task). slice_get ts (index_of jobs k)) (sym tasks_is) ∙ at)))
 
   joined : IsOfThreads base_of entries_of log sight base read seed c lines r jobs zs jobs_now
   joined =

@@ -266,7 +266,7 @@ module _ {S B E : Type 0} (base_of : S → B) (entries_of : S → List E) (log :
     sent = λ n. tt;
     by_whom = λ n. tt;
     among = tt;
-    idle = λ no. refl;
+    idle = λ workless. refl;
     kept = λ e now f at is. absurd (let low : k < length st.ran.done = get_within st.ran.done k e at in let same : length st.ran.done ≡ length st.begun = st.ran.did.long in let (d, there) = get_at st.begun k (omega (arith, low, same)) in none_some d (slice_get st.begun k) none there);
     works = λ j f is. absurd (none_some (Work j f) (slice_get tasks k) (no_task st.begun k none) is);
     carries = λ pair x y is. absurd (none_some (Carry pair x y) (slice_get tasks k) (no_task st.begun k none) is);
@@ -335,7 +335,7 @@ module _ {S B E : Type 0} (base_of : S → B) (entries_of : S → List E) (log :
         turns_are = λ less n s. worked_turns n s;
         sent = λ n. all_mapped (WasSentTo (length r.seats) last) (λ (x : Deed). happens_at n (happening_of j.number x)) (filter (λ (x : Deed). place_of x == n) h.deeds) (λ x. tt);
         by_whom = λ n. all_mapped (IsBy (is_job_of jobs) (worker j.number)) (λ (x : Deed). happens_at n (happening_of j.number x)) (filter (λ (x : Deed). place_of x == n) h.deeds) (λ x. is_job jobs k j in_jobs);
-        idle = λ no. absurd (no j f (task_is ∙ ap (λ (t : Task). Some t) its));
+        idle = λ workless. absurd (workless j f (task_is ∙ ap (λ (t : Task). Some t) its));
         kept = λ x back g at is. subst (λ (y : JobState). IsKept k y h.deeds now.crowd) (now_same (sym came ∙ (ap (λ (y : Errand S B E). y.task) (same_some e x (sym done_is ∙ at)) ∙ is))) (record {
           job = j;
           was = in_jobs;
@@ -549,7 +549,7 @@ module _ {S B E : Type 0} (base_of : S → B) (entries_of : S → List E) (log :
         turns_are = λ less n s. carried_turns n s;
         sent = either_did (WasSentTo (length r.seats) last) (all_sent brings.done brings.sent).0;
         among = tt;
-        idle = λ no. refl;
+        idle = λ workless. refl;
         kept = λ x now f at is. absurd (no_work now f (ap (λ (y : Errand S B E). y.task) (same_some e x (sym done_is ∙ at)) ∙ is));
         by_whom = either_did (IsBy (is_job_of jobs) (carrier pair.from pair.to)) (all_sent brings.done brings.sent).1;
         works = λ j f is. absurd (let wrong : Some (Carry pair next lost) ≡ Some (Work j f) = sym (task_is ∙ ap (λ (t : Task). Some t) its) ∙ is in cc);
