@@ -25,8 +25,9 @@ RUNS = {
 def run(words, script, library, number):
     """The status of a run whose call with this number is refused, what it said and wrote, and how many calls it made."""
     told, tell = os.pipe()
-    command = ["sh", "-c", f'exec 9>&{tell}; exec env LD_PRELOAD="$0" REFUSE={number} "$@"', library, PROGRAM, *words]
-    done = subprocess.run(command, input=script, stdout=subprocess.PIPE, stderr=subprocess.PIPE, pass_fds=[tell], timeout=60, check=False)
+    preloaded = os.environ | {"LD_PRELOAD": library, "REFUSE": str(number), "TELL": str(tell)}
+    pipe = subprocess.PIPE
+    done = subprocess.run([PROGRAM, *words], input=script, stdout=pipe, stderr=pipe, env=preloaded, pass_fds=[tell], timeout=60, check=False)
     os.close(tell)
     with os.fdopen(told) as counted:
         calls = counted.read().split()

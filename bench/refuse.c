@@ -1,7 +1,6 @@
 /* Preloaded into a program (bench/growths.py): the call of malloc, calloc or realloc with the number REFUSE is refused, and the number of
-   all calls is written to descriptor 9 in the end. A process that lacks the variable has all its calls. */
+   all calls is written to the descriptor TELL in the end. With REFUSE=0 no call is refused. */
 #define _GNU_SOURCE
-#include <dlfcn.h>
 #include <errno.h>
 #include <stdatomic.h>
 #include <stdio.h>
@@ -14,17 +13,19 @@ extern void *__libc_realloc(void *, size_t);
 
 static atomic_ulong calls;
 static unsigned long refused;
+static int tell;
 
 __attribute__((constructor)) static void begin(void)
 {
-    const char *number = getenv("REFUSE");
+    const char *number = getenv("REFUSE"), *descriptor = getenv("TELL");
     atomic_store(&calls, 0);
     refused = number ? strtoul(number, NULL, 10) : 0;
+    tell = descriptor ? atoi(descriptor) : 2;
 }
 
 __attribute__((destructor)) static void finish(void)
 {
-    dprintf(9, "%lu\n", atomic_load(&calls));
+    dprintf(tell, "%lu\n", atomic_load(&calls));
 }
 
 static int is_refused(void)
