@@ -9,7 +9,7 @@ use alp_lines::{Line, text_in};
 use alp_node::Node;
 use alp_session::Clients;
 use alp_storm::{Stormed, storm};
-use alp_vault::{MemVault, Vault};
+use alp_vault::MemVault;
 use std::alloc::Global;
 use std::sync::Wait;
 use std::test::*;
@@ -47,6 +47,9 @@ impl Gate for SlowGate {
 }
 
 fn new_berth(alloc: Global, server: u8) -> Result<Berth<MemVault>, Fail> {
+    if server < 1 || 2 < server {
+        return Err("one of two servers".into());
+    }
     let Ok(node) = Node::start(alloc, server, 2, MemVault::new(alloc, SIZES, server, 2)) else {
         return Err("a server".into());
     };
@@ -63,6 +66,9 @@ fn new_job(alloc: Global, number: u8, texts: &[&[u8]]) -> Result<Job, Fail> {
             return Err("a line".into());
         };
         lines.push(line)?;
+    }
+    if number < 1 || 16 < number {
+        return Err("one of sixteen clients".into());
     }
     let mut clients = Clients::new(alloc)?;
     clients.declares(&Line::Patience { count: 5_000 });
@@ -165,16 +171,4 @@ fn messages_come_in_a_storm(rt: HostRuntime) -> Result<(), Fail> {
     let alloc = rt.alloc();
     assert!(rt; is_stormy(&rt, alloc)?);
     Ok(())
-}
-
-fn crosses<T: Send>() {}
-
-// A berth crosses threads over any vault that does.
-fn berths_cross<V: Vault + Send>() {
-    crosses::<Berth<V>>();
-}
-
-#[test]
-fn berths_cross_threads(_rt: HostRuntime) {
-    berths_cross::<MemVault>();
 }
