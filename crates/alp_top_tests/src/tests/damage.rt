@@ -68,11 +68,20 @@ static SPOILED: [Spoiled; 5] = [
     },
 ];
 
+// How many pages there are, at most 255.
+fn count(pages: &[Begun]) -> u8 {
+    let mut count = 0u8;
+    for _ in pages {
+        count = count.saturating_add(1);
+    }
+    count
+}
+
 impl Spoiled {
     // The bytes of the batch.
     fn spelled(&self, alloc: Global) -> Result<Vec<u8>, OutOfMemory> {
         let mut bytes = Vec::new(alloc);
-        bytes.extend_from_slice(&(self.pages.len() as u16).to_be_bytes())?;
+        bytes.extend_from_slice(&[0, count(self.pages)])?;
         for (at, begins) in self.pages {
             let mut page = [0; 512];
             for (to, from) in page.iter_mut().zip(begins.iter()) {
