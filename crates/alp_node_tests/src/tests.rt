@@ -2,12 +2,9 @@
 mod several;
 
 use alp_base::{OutOfMemory, Sizes};
-use alp_coord::Coordinator;
-use alp_journal::{Item, Journal};
-use alp_node::{Down, Node, Opened};
-use alp_trans::Part;
-use alp_vault::{MemVault, Vault};
-use alp_worker::Joins;
+use alp_journal::Journal;
+use alp_node::{Down, Node};
+use alp_vault::MemVault;
 use std::alloc::Global;
 use std::test::*;
 
@@ -31,21 +28,11 @@ fn in_memory(alloc: Global, server: u8) -> Result<Node<MemVault>, OutOfMemory> {
 /// What threads may share and hand over.
 fn crosses<T: Send + Sync>() {}
 
-/// A server that fell crosses threads as its vault does, and so does what a server was started on.
-fn servers_cross<V: Vault + Send + Sync>() {
-    crosses::<Down<V>>();
-    crosses::<Opened<V>>();
-}
-
-/// What a server keeps crosses threads, with its vault and its journal, and so does what a client was handed.
+/// A server that fell crosses threads, with its vault and its journal.
 #[test]
 fn servers_cross_threads(rt: HostRuntime) -> Result<(), Fail> {
-    servers_cross::<MemVault>();
     crosses::<Journal>();
-    crosses::<Item>();
-    crosses::<Coordinator>();
-    crosses::<Joins>();
-    crosses::<Part>();
+    crosses::<Down<MemVault>>();
     let node = in_memory(rt.alloc(), 1)?;
     assert!(rt; node.epoch() == 1 && !node.is_down());
     let (_, _, journal) = node.fall(0).into_parts();
