@@ -1,5 +1,0 @@
-//! Storms in threads, at servers on vaults in memory.
-#![tactic(auto)]
-
-#[cfg(test)]
-mod tests;
