@@ -316,36 +316,27 @@ fn writes_a_prefix_before_a_failing_write(rt: HostRuntime) -> Result<(), Fail> {
     Ok(())
 }
 
-// Scripts of two clients, one of whom reads what she wrote: on a small volume, and on one of the sizes that stand where a script names none.
-const ON_A_SMALL_VOLUME: &[u8] =
+// A script of two clients, one of whom reads what she wrote.
+const TWO_CLIENTS: &[u8] =
     b"servers 1\nvolume 1 512 64\nclient 1 Admin\nclient 2 ann\n1 begin 1\n1 mkowner 1 ann 10 Owner\n1 commit\n2 begin 1\n2 create 1 A ann 4\n2 write A 0 1 hello\n2 read A 0 2\n2 commit\n2 begin 1\n2 open A read r\n2 read A 0 1\n2 commit\n";
 
-const ON_A_USUAL_VOLUME: &[u8] =
-    b"servers 1\nclient 1 Admin\nclient 2 ann\n1 begin 1\n1 mkowner 1 ann 10 Owner\n1 commit\n2 begin 1\n2 create 1 A ann 4\n2 write A 0 1 hello\n2 read A 0 2\n2 commit\n2 begin 1\n2 open A read r\n2 read A 0 1\n2 commit\n";
-
-// So many pages have their disks: two anchors, two areas of the log, and the home pages.
-const SMALL: u32 = 642;
-
-const USUAL: u32 = 20_482;
+// So many pages has the disk of its server: two anchors, two areas of the log, and the home pages.
+const PAGES: u32 = 642;
 
 // How the script ends on a new disk whose call with this number fails.
-fn with_failing_call(alloc: Global, pages: u32, script: &[u8], number: u64) -> Result<Told, Fail>
-    requires pages { 2 ≤ pages }
-{
+fn with_failing_call(alloc: Global, number: u64) -> Result<Told, Fail> {
     let mut failing = Vec::new(alloc);
     failing.push(number)?;
-    let mut disk = MemDisk::new(alloc, pages, failing)?;
+    let mut disk = MemDisk::new(alloc, PAGES, failing)?;
     disk.stop_after(None);
-    run_on(alloc, disk, script)
+    run_on(alloc, disk, TWO_CLIENTS)
 }
 
 // The last call of the disk that fails, where each from the first on is told and nothing is written then.
-fn last_failing_call(alloc: Global, pages: u32, script: &[u8]) -> Result<u64, Fail>
-    requires pages { 2 ≤ pages }
-{
+fn last_failing_call(alloc: Global) -> Result<u64, Fail> {
     let mut met = 0u64;
     for number in 1..2000u64 {
-        let told = with_failing_call(alloc, pages, script, number)?;
+        let told = with_failing_call(alloc, number)?;
         if told.code == 0 {
             return Ok(met);
         }
@@ -359,14 +350,7 @@ fn last_failing_call(alloc: Global, pages: u32, script: &[u8]) -> Result<u64, Fa
 
 #[test]
 fn tells_each_failing_call_of_a_disk(rt: HostRuntime) -> Result<(), Fail> {
-    let met = last_failing_call(rt.alloc(), SMALL, ON_A_SMALL_VOLUME)?;
-    assert!(rt; met > 10 && met < 1999);
-    Ok(())
-}
-
-#[test]
-fn tells_each_failing_call_of_a_disk_of_the_usual_sizes(rt: HostRuntime) -> Result<(), Fail> {
-    let met = last_failing_call(rt.alloc(), USUAL, ON_A_USUAL_VOLUME)?;
+    let met = last_failing_call(rt.alloc())?;
     assert!(rt; met > 10 && met < 1999);
     Ok(())
 }
