@@ -1,21 +1,17 @@
 #!/usr/bin/env python3
-"""Flips bits of a volume, one at a time: bench/flips.py CHECKER [STEP]
+"""Flips bits of a volume, one at a time: bench/flips.py CHECKER [--step N] [--jobs N]
 
-CHECKER is the folder of another reader of volumes, volcheck.py (docs/TESTING.md, "Flipped bits"). The built program makes a small volume in
-a folder. Then each bit of each page that is not all zeros is flipped, and one bit of each other page, and a run is begun on the volume.
-It has to end with the status and the place that the checker names, or with the report of the volume as the checker reads it. With
-STEP only each so many-th bit is tried.
+CHECKER is the folder of another reader of volumes, volcheck.py (docs/TESTING.md, "Hostile use, by hand"). The built program makes a small
+volume in a folder. Then each bit of each page that is not all zeros is flipped, and one bit of each other page, and a run is begun on the
+volume. It has to end with the status and the place that the checker names, or with the report of the volume as the checker reads it.
+With a step only each so many-th bit is tried.
 """
-import multiprocessing
-import os
-import pathlib
-import shutil
-import subprocess
+import argparse
 import sys
-import tempfile
+import time
 
-TOP = pathlib.Path(__file__).resolve().parent.parent
-PROGRAM = os.environ.get("ALPINE", str(TOP / "crates" / "alpine" / "out" / "alpine"))
+from runs import Room, folder_in_memory, processors, side_by_side
+
 PAGE = 512
 MADE = b"""servers 1
 volume 1 512 64
@@ -38,20 +34,18 @@ client 2 ann
 CHANGES = b"servers 1\nclient 1 Admin\nclient 2 ann\n1 begin 1\n1 quota 1 ann 300\n1 commit\n" + b"2 begin 1\n2 open 1.1.1 change w\n2 write 1.1.1 0 4 more\n2 commit\n" * 12
 
 
-def play(folder, script):
-    return subprocess.run([PROGRAM, "play", "--folder", folder], input=script, stdout=subprocess.PIPE, stderr=subprocess.PIPE, timeout=60, check=False)
+BEGUN = b"servers 1\nvolume 1 512 64\n"
 
 
-def make():
-    folder = tempfile.mkdtemp(prefix="alpine-flips-")
-    for script in (MADE.replace(b"ann 40", b"ann 300"), CHANGES):
-        done = play(folder, script)
-        if done.returncode:
-            sys.exit(f"the volume was not made: {done.stderr!r}")
-    volume = next(pathlib.Path(folder).glob("*.vol"))
-    data = volume.read_bytes()
-    shutil.rmtree(folder)
-    return volume.name, data
+def make(below):
+    """The name and the bytes of a small volume."""
+    room = Room(below)
+    for script in (MADE, CHANGES):
+        status, said, _ = room.run(["play", f"--folder={room.path}"], script)
+        if status:
+            sys.exit(f"the volume was not made: {said!r}")
+    volume = next(room.path.glob("*.vol"))
+    return volume.name, volume.read_bytes()
 
 
 def summary_of(report):
@@ -75,19 +69,27 @@ def wanted(data):
     return 0, b"", summary_of(report)
 
 
-def begin(checker, name, data):
+def is_any(values):
+    """What `any` gives, of bytes at a tenth of its time."""
+    return bool(values.strip(b"\0")) if isinstance(values, bytes) else any(values)
+
+
+def begin(below, checker, name, data):
     sys.path.insert(0, checker)
-    begin.volume, begin.data = name, data
-    begin.folder = tempfile.mkdtemp(prefix="alpine-flips-")
+    import volcheck
+
+    volcheck.any = is_any
+    begin.room, begin.data = Room(below), data
+    begin.volume = begin.room.path / name
 
 
 def flip(bit):
-    at = bit // 8
-    data = begin.data[:at] + bytes([begin.data[at] ^ 1 << bit % 8]) + begin.data[at + 1 :]
-    (pathlib.Path(begin.folder) / begin.volume).write_bytes(data)
-    done = play(begin.folder, b"servers 1\nvolume 1 512 64\n")
-    found, right = (done.returncode, done.stderr, done.stdout), wanted(data)
-    return bit, right[0], found == right, found, right
+    """Whether the run on the volume with this bit flipped ends as the other reader has it, and both ends."""
+    data = bytearray(begin.data)
+    data[bit // 8] ^= 1 << bit % 8
+    begin.volume.write_bytes(data)
+    found, right = begin.room.run(["play", f"--folder={begin.room.path}"], BEGUN), wanted(bytes(data))
+    return bit, found, right
 
 
 def bits_of(data, step):
@@ -97,22 +99,32 @@ def bits_of(data, step):
         yield from [bits[page // PAGE * 37 % len(bits)]] if is_zero else bits[page // PAGE % step :: step]
 
 
-def main(checker, step=1):
-    name, data = make()
+def try_all(below, checker, step, jobs):
+    """Says which flips end otherwise, and gives how many, and what is told of all."""
+    name, data = make(below)
     bits = list(bits_of(data, step))
     ended, wrong = {}, 0
-    with multiprocessing.Pool(len(os.sched_getaffinity(0)), begin, (checker, name, data)) as pool:
-        for bit, status, holds, found, right in pool.imap_unordered(flip, bits, 64):
-            ended[status] = ended.get(status, 0) + 1
-            if not holds:
-                wrong += 1
-                print(f"page {bit // 8 // PAGE} byte {bit // 8 % PAGE} bit {bit % 8}: {found}, wanted {right}", flush=True)
+    for bit, found, right in side_by_side(jobs, flip, bits, begin, (below, checker, name, data)):
+        ended[right[0]] = ended.get(right[0], 0) + 1
+        if found != right:
+            wrong += 1
+            print(f"page {bit // 8 // PAGE} byte {bit // 8 % PAGE} bit {bit % 8}: {found}, wanted {right}", flush=True)
+    pages = sum(any(data[at : at + PAGE]) for at in range(0, len(data), PAGE))
     of = ", ".join(f"{count} status {status}" for status, count in sorted(ended.items()))
-    print(f"{len(bits)} bits flipped: {of}; {wrong} that ended otherwise")
+    return wrong, f"{len(bits)} bits of {len(data) // PAGE} pages, {pages} of them not zeros: {of}; {wrong} that ended otherwise"
+
+
+def main(checker, step, jobs):
+    start = time.time()
+    with folder_in_memory() as below:
+        wrong, told = try_all(below, checker, step, jobs)
+    print(f"{told}; {time.time() - start:.0f} s")
     return 1 if wrong else 0
 
 
 if __name__ == "__main__":
-    if len(sys.argv) < 2:
-        sys.exit(__doc__)
-    sys.exit(main(sys.argv[1], *map(int, sys.argv[2:])))
+    words = argparse.ArgumentParser(description=__doc__, formatter_class=argparse.RawDescriptionHelpFormatter)
+    words.add_argument("checker")
+    words.add_argument("--step", type=int, default=1)
+    words.add_argument("--jobs", type=int, default=processors())
+    sys.exit(main(**vars(words.parse_args())))

@@ -1,52 +1,58 @@
 #!/usr/bin/env python3
-"""Kills storms over a folder: bench/storm_kills.py CHECKER [ROUNDS [SEED]]
+"""Kills storms over a folder: bench/storm_kills.py CHECKER ROUNDS [--seed N] [--jobs N]
 
-CHECKER is the folder of another reader of volumes, volcheck.py (docs/TESTING.md, "Killed processes"). In each round a storm of three
+CHECKER is the folder of another reader of volumes, volcheck.py (docs/TESTING.md, "Hostile use, by hand"). In each round a storm of three
 servers and six clients is killed at a random moment. Then a script of `servers 3` and `settle` is played over the folder. It has to
 end with status 0, each volume has to be one of its server with charges that equal sizes, and neither a vote nor a decision may wait
 on it any more. A folder serves ten rounds. A storm tells nothing before its end, so what was told is bench/kill.sh's to show.
 """
+import argparse
 import os
-import pathlib
 import random
 import shutil
-import subprocess
+import signal
 import sys
 import tempfile
 import time
 
-TOP = pathlib.Path(__file__).resolve().parent.parent
-PROGRAM = os.environ.get("ALPINE", str(TOP / "crates" / "alpine" / "out" / "alpine"))
+from runs import Room, folder_in_memory, processors, side_by_side
+
 SERVERS = 3
 ROUNDS_OF_A_FOLDER = 10
+SETTLES = f"servers {SERVERS}\nsettle\n".encode()
 
 
-def words(folder, seed):
-    return [PROGRAM, "storm", f"--servers={SERVERS}", "--clients=6", "--size=20", f"--seed={seed}", "--patience=20", f"--folder={folder}"]
+def storm(folder, seed):
+    return ["storm", f"--servers={SERVERS}", "--clients=6", "--size=20", f"--seed={seed}", "--patience=20", f"--folder={folder}"]
 
 
-def killed(folder, seed, seconds):
+def seconds_of_a_storm(room, folder, seed):
+    start = time.time()
+    status, said, _ = room.run(storm(folder, seed))
+    if status:
+        sys.exit(f"a storm that nobody kills ended with {status}: {said!r}")
+    return time.time() - start
+
+
+def is_killed(room, folder, seed, seconds):
     """Whether the storm still ran when it was killed."""
-    running = subprocess.Popen(words(folder, seed), stdout=subprocess.DEVNULL, stderr=subprocess.DEVNULL)
-    try:
-        return running.wait(seconds) is None
-    except subprocess.TimeoutExpired:
-        running.kill()
-        running.wait()
-        return True
+    process = room.start(storm(folder, seed))
+    time.sleep(seconds)
+    os.kill(process, signal.SIGKILL)
+    _, status = os.waitpid(process, 0)
+    return os.WIFSIGNALED(status)
 
 
-def faults_of(folder):
+def faults_of(room, folder):
     """What is wrong with the folder after a settling."""
     import volcheck
 
-    script = f"servers {SERVERS}\nsettle\n".encode()
-    done = subprocess.run([PROGRAM, "play", f"--folder={folder}"], input=script, stdout=subprocess.PIPE, stderr=subprocess.PIPE, timeout=120, check=False)
-    if done.returncode:
-        return [f"status {done.returncode}: {done.stderr!r}"]
+    status, said, _ = room.run(["play", f"--folder={folder}"], SETTLES)
+    if status:
+        return [f"status {status}: {said!r}"]
     found = []
     for server in range(1, SERVERS + 1):
-        report = volcheck.check((pathlib.Path(folder) / f"server{server}.vol").read_bytes(), server=server, servers=SERVERS, allow_2=False)
+        report = volcheck.check((folder / f"server{server}.vol").read_bytes(), server=server, servers=SERVERS, allow_2=False)
         if report.verdict != "in the grammar":
             found.append(f"server {server}: {report.verdict}")
         elif report.notes.ready or report.notes.decisions:
@@ -54,29 +60,48 @@ def faults_of(folder):
     return found
 
 
-def main(checker, rounds=1000, seed=1):
+def begin(below, checker):
     sys.path.insert(0, checker)
-    rolls, wrong, ended = random.Random(seed), 0, 0
-    folder = tempfile.mkdtemp(prefix="alpine-storm-")
-    start = time.time()
-    subprocess.run(words(folder, 0), stdout=subprocess.DEVNULL, check=True)
-    longest = time.time() - start
-    for number in range(rounds):
-        if number % ROUNDS_OF_A_FOLDER == 0:
-            shutil.rmtree(folder)
-            folder = tempfile.mkdtemp(prefix="alpine-storm-")
-        ended += not killed(folder, seed + number, rolls.random() * longest)
-        found = faults_of(folder)
-        if found:
-            wrong += 1
-            print(f"round {number}, {folder}: {'; '.join(found)}", flush=True)
-            folder = tempfile.mkdtemp(prefix="alpine-storm-")
+    begin.room = Room(below)
+    folder = begin.room.path / "first"
+    folder.mkdir()
+    begin.seconds = seconds_of_a_storm(begin.room, folder, 0)
     shutil.rmtree(folder)
-    print(f"{rounds} storms killed, {ended} of them ended before that; {wrong} folders with a fault")
+
+
+def try_folder(asked):
+    """Kills storms over one folder, until a round finds a fault: how many rounds, how many storms still ran, and the fault."""
+    seed, rounds = asked
+    rolls, killed = random.Random(seed), 0
+    folder = begin.room.path / f"folder-{seed}"
+    folder.mkdir()
+    for number in range(rounds):
+        killed += is_killed(begin.room, folder, seed + number, rolls.random() * begin.seconds)
+        found = faults_of(begin.room, folder)
+        if found:
+            kept = shutil.move(folder, tempfile.mkdtemp(prefix="alpine-storm-"))
+            return number + 1, killed, f"a storm of seed {seed + number}, {kept}: {'; '.join(found)}"
+    shutil.rmtree(folder)
+    return rounds, killed, None
+
+
+def main(checker, rounds, seed, jobs):
+    start, tried, killed, wrong = time.time(), 0, 0, 0
+    folders = [(at, min(ROUNDS_OF_A_FOLDER, seed + rounds - at)) for at in range(seed, seed + rounds, ROUNDS_OF_A_FOLDER)]
+    with folder_in_memory() as below:
+        for made, running, fault in side_by_side(jobs, try_folder, folders, begin, (below, checker), 1):
+            tried, killed = tried + made, killed + running
+            if fault:
+                wrong += 1
+                print(fault, flush=True)
+    print(f"{tried} storms, {killed} of them killed while they ran; {wrong} folders with a fault; {time.time() - start:.0f} s")
     return 1 if wrong else 0
 
 
 if __name__ == "__main__":
-    if len(sys.argv) < 2:
-        sys.exit(__doc__)
-    sys.exit(main(sys.argv[1], *map(int, sys.argv[2:])))
+    words = argparse.ArgumentParser(description=__doc__, formatter_class=argparse.RawDescriptionHelpFormatter)
+    words.add_argument("checker")
+    words.add_argument("rounds", type=int)
+    words.add_argument("--seed", type=int, default=1)
+    words.add_argument("--jobs", type=int, default=processors())
+    sys.exit(main(**vars(words.parse_args())))
