@@ -13,39 +13,46 @@ import time
 from runs import Room, folder_in_memory, processors, side_by_side
 
 PAGE = 512
+AREA = 64
 MADE = b"""servers 1
 volume 1 512 64
 client 1 Admin
 client 2 ann
 1 begin 1
-1 mkowner 1 ann 40 World
+1 mkowner 1 ann 300 World
 1 mkowner 1 bob 5 ann,Owner
 1 commit
 2 begin 1
 2 create 1 A ann 4 World Owner,bob
 2 write A 0 3 hello
+2 commit
+2 begin 1
 2 create 1 B ann 130
 2 write B 129 1 end
+2 commit
+2 begin 1
 2 create 1 C bob 2
-2 write C 1 1 %
 2 commit
 """
-# With more quota the second file fits, and the log is gone round once, so that pages stand at home too.
-CHANGES = b"servers 1\nclient 1 Admin\nclient 2 ann\n1 begin 1\n1 quota 1 ann 300\n1 commit\n" + b"2 begin 1\n2 open 1.1.1 change w\n2 write 1.1.1 0 4 more\n2 commit\n" * 12
-
-
+# So many that the log goes on in its other area, and pages stand at home too.
+CHANGES = b"servers 1\nclient 1 Admin\nclient 2 ann\n1 begin 1\n1 quota 1 ann 310\n1 commit\n" + b"2 begin 1\n2 open 1.1.1 change w\n2 write 1.1.1 0 4 more\n2 commit\n" * 5
 BEGUN = b"servers 1\nvolume 1 512 64\n"
 
 
 def make(below):
-    """The name and the bytes of a small volume."""
+    """The name and the bytes of a small volume, in which the area of the log that is not in use is cleared, as it is in a new one."""
+    import volcheck
+
     room = Room(below)
     for script in (MADE, CHANGES):
         status, said, _ = room.run(["play", f"--folder={room.path}"], script)
         if status:
             sys.exit(f"the volume was not made: {said!r}")
     volume = next(room.path.glob("*.vol"))
-    return volume.name, volume.read_bytes()
+    data = bytearray(volume.read_bytes())
+    unused = 2 + AREA * (1 - volcheck.check(bytes(data)).anchor.area_in_use)
+    data[PAGE * unused : PAGE * (unused + AREA)] = bytes(PAGE * AREA)
+    return volume.name, bytes(data)
 
 
 def summary_of(report):
@@ -69,16 +76,8 @@ def wanted(data):
     return 0, b"", summary_of(report)
 
 
-def is_any(values):
-    """What `any` gives, of bytes at a tenth of its time."""
-    return bool(values.strip(b"\0")) if isinstance(values, bytes) else any(values)
-
-
 def begin(below, checker, name, data):
     sys.path.insert(0, checker)
-    import volcheck
-
-    volcheck.any = is_any
     begin.room, begin.data = Room(below), data
     begin.volume = begin.room.path / name
 
@@ -101,6 +100,7 @@ def bits_of(data, step):
 
 def try_all(below, checker, step, jobs):
     """Says which flips end otherwise, and gives how many, and what is told of all."""
+    sys.path.insert(0, checker)
     name, data = make(below)
     bits = list(bits_of(data, step))
     ended, wrong = {}, 0

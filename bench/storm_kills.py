@@ -23,10 +23,11 @@ SETTLES = f"servers {SERVERS}\nsettle\n".encode()
 
 
 def storm(folder, seed):
-    return ["storm", f"--servers={SERVERS}", "--clients=6", "--size=20", f"--seed={seed}", "--patience=20", f"--folder={folder}"]
+    return ["storm", f"--servers={SERVERS}", "--clients=6", "--size=40", f"--seed={seed}", "--patience=20", f"--folder={folder}"]
 
 
 def seconds_of_a_storm(room, folder, seed):
+    """How long a storm takes that nobody kills."""
     start = time.time()
     status, said, _ = room.run(storm(folder, seed))
     if status:
@@ -65,7 +66,7 @@ def begin(below, checker):
     begin.room = Room(below)
     folder = begin.room.path / "first"
     folder.mkdir()
-    begin.seconds = seconds_of_a_storm(begin.room, folder, 0)
+    begin.seconds = min(seconds_of_a_storm(begin.room, folder, seed) for seed in range(3))
     shutil.rmtree(folder)
 
 
